@@ -1,0 +1,62 @@
+-- The first fault among tokens.
+use Rattle.std.specs.Prelude.{◌≡◌, ◌⊎◌, ℕ, List, [], ◌∷◌, ◌++◌, length}
+use Rattle.click_text.specs.declared.syntax.Span.{Span}
+use Rattle.click_text.specs.declared.syntax.Token.{Token}
+use Rattle.click_text.specs.declared.syntax.Token.TheVariants as token
+use Rattle.click_text.specs.declared.syntax.FaultKind.{FaultKind}
+use Rattle.click_text.specs.declared.syntax.FaultKind.TheVariants as kind
+use Rattle.click_text.specs.declared.syntax.TextFault.{TextFault}
+use Rattle.click_text.specs.declared.syntax.Ending.{Ending}
+use Rattle.click_text.specs.declared.syntax.Ending.TheVariants as ending
+use Rattle.click_text.specs.Grammar.{IsText, BeginsText, NestsWithin}
+
+abbrev pub fault : FaultKind → ℕ → ℕ → TextFault
+fault k a b = record { kind = k; span = record { start = a; end = b } }
+
+abbrev pub fault_at : FaultKind → Span → TextFault
+fault_at k s = record { kind = k; span = s }
+
+-- where a token stands
+abbrev pub span_of : Token → Span
+span_of (token.Word s) = s
+span_of (token.Number n s) = s
+span_of (token.Formal s) = s
+span_of (token.String s) = s
+span_of (token.DoubleColon s) = s
+span_of (token.Arrow s) = s
+span_of (token.Semicolon s) = s
+span_of (token.Comma s) = s
+span_of (token.OpenBracket s) = s
+span_of (token.CloseBracket s) = s
+span_of (token.Open s) = s
+span_of (token.Close s) = s
+span_of (token.Bar s) = s
+span_of (token.Elementclass s) = s
+span_of (token.Require s) = s
+
+-- The first fault of these tokens, which a text of that many bytes ends so. `front` are the tokens before it, in which nothing is wrong.
+pub data IsFaultAmong : ℕ → List Token → Ending → TextFault → Type 0 where
+  -- a token that, with those before it, begins no text of the grammar
+  unexpected : (n : ℕ) (front more : List Token) (tok : Token) (e : Ending) → BeginsText front → NestsWithin 0 front →
+      (BeginsText (front ++ tok ∷ []) → ⊥) → IsFaultAmong n (front ++ tok ∷ more) e (fault_at kind.Unexpected (span_of tok))
+  -- the 33rd open brace
+  too_deep : (n : ℕ) (front more : List Token) (tok : Token) (e : Ending) → BeginsText (front ++ tok ∷ []) → NestsWithin 0 front →
+      (NestsWithin 0 (front ++ tok ∷ []) → ⊥) → IsFaultAmong n (front ++ tok ∷ more) e (fault_at kind.TooDeep (span_of tok))
+  -- the end, where the tokens are no text
+  unfinished : (n : ℕ) (ts : List Token) → BeginsText ts → NestsWithin 0 ts →
+      ((t : _) → IsText ts t → ⊥) → IsFaultAmong n ts ending.Whole (fault kind.Unexpected n n)
+  -- the place where no piece begins
+  no_piece : (n : ℕ) (ts : List Token) (f : TextFault) → BeginsText ts → NestsWithin 0 ts → IsFaultAmong n ts (ending.Stuck f) f
+
+-- the fault of want of memory, which stands nowhere
+abbrev pub no_memory : TextFault
+no_memory = fault kind.NoMemory 0 0
+
+-- memory aside
+abbrev pub IsMemoryOr : TextFault → Type 0 → Type 0
+IsMemoryOr f P = (f ≡ no_memory) ⊎ P
+
+-- the fault of the end
+abbrev pub end_fault : ℕ → Ending → TextFault
+end_fault n ending.Whole = fault kind.Unexpected n n
+end_fault n (ending.Stuck f) = f

@@ -1,0 +1,128 @@
+-- The grammar of configurations (Click manual, "The Click language"), by cases over the list of tokens.
+-- `IsX ts bs x ts' bs'`: from the tokens ts on an X stands, with the tree x, and ts' follows it.
+-- bs are the bodies that are closed before it, bs' those after it: a body is named by its place among them.
+use Rattle.std.specs.Prelude.{◌≡◌, ℕ, ◌+◌, ◌-◌, ◌<◌, List, [], ◌∷◌, ◌++◌, Option, Some, None}
+use Rattle.click_text.specs.declared.syntax.Span.{Span}
+use Rattle.click_text.specs.declared.syntax.Token.{Token}
+use Rattle.click_text.specs.declared.syntax.Token.TheVariants as token
+use Rattle.click_text.specs.declared.syntax.Port.{Port}
+use Rattle.click_text.specs.declared.syntax.Class.{Class}
+use Rattle.click_text.specs.declared.syntax.Class.TheVariants as class
+use Rattle.click_text.specs.declared.syntax.Head.{Head}
+use Rattle.click_text.specs.declared.syntax.Head.TheVariants as head
+use Rattle.click_text.specs.declared.syntax.Element.{Element}
+use Rattle.click_text.specs.declared.syntax.Link.{Link}
+use Rattle.click_text.specs.declared.syntax.Statement.{Statement}
+use Rattle.click_text.specs.declared.syntax.Statement.TheVariants as statement
+use Rattle.click_text.specs.declared.syntax.Body.{Body}
+use Rattle.click_text.specs.declared.syntax.Config.{Config}
+
+-- from the beginning of one span to the end of another
+abbrev pub from_to : Span → Span → Span
+from_to a b = record { start = a.start; end = b.end }
+
+abbrev pub port : ℕ → Span → Span → Port
+port n a b = record { number = n; span = from_to a b }
+
+abbrev pub element : Head → Option Span → Element
+element h text = record { head = h; text = text }
+
+abbrev pub link : Option Port → Option Port → Element → Link
+link p q e = record { from = p; to = q; element = e }
+
+abbrev pub chain : Element → List Link → Statement
+chain e ls = statement.Chain (record { first = e; links = ls })
+
+-- a port in brackets, or none
+pub data IsPort : List Token → Option Port → List Token → Type 0 where
+  no_port : {ts : List Token} → IsPort ts None ts
+  bracketed : {a b s : Span} {n : ℕ} {ts : List Token} →
+      IsPort (token.OpenBracket a ∷ token.Number (Some n) s ∷ token.CloseBracket b ∷ ts) (Some (port n a b)) ts
+
+-- a configuration string, or none
+pub data IsString : List Token → Option Span → List Token → Type 0 where
+  no_string : {ts : List Token} → IsString ts None ts
+  string : {s : Span} {ts : List Token} → IsString (token.String s ∷ ts) (Some s) ts
+
+-- the end of a chain: a semicolon, or nothing before a closing brace or at the end of the text
+pub data IsEnd : List Token → List Token → Type 0 where
+  semicolon : {s : Span} {ts : List Token} → IsEnd (token.Semicolon s ∷ ts) ts
+  before_close : {s : Span} {ts : List Token} → IsEnd (token.Close s ∷ ts) (token.Close s ∷ ts)
+  at_end : IsEnd [] []
+
+-- a class
+pub data IsClass : List Token → List Body → Class → List Token → List Body → Type 0 where
+  by_name : {s : Span} {ts : List Token} {bs : List Body} → IsClass (token.Word s ∷ ts) bs (class.Named s) ts bs
+
+-- what an element begins with
+pub data IsHead : List Token → List Body → Head → List Token → List Body → Type 0 where
+  word : {s : Span} {ts : List Token} {bs : List Body} → IsHead (token.Word s ∷ ts) bs (head.Word s) ts bs
+  declared : {s d : Span} {ts rest : List Token} {bs bs' : List Body} {c : Class} →
+      IsClass ts bs c rest bs' → IsHead (token.Word s ∷ token.DoubleColon d ∷ ts) bs (head.Declared s c) rest bs'
+
+pub data IsElement : List Token → List Body → Element → List Token → List Body → Type 0 where
+  an_element : {ts ts1 rest : List Token} {bs bs' : List Body} {h : Head} {text : Option Span} →
+      IsHead ts bs h ts1 bs' → IsString ts1 text rest → IsElement ts bs (element h text) rest bs'
+
+pub data IsLinks : List Token → List Body → List Link → List Token → List Body → Type 0 where
+  no_links : {ts : List Token} {bs : List Body} → IsLinks ts bs [] ts bs
+  more_links : {s : Span} {ts ts1 ts2 ts3 rest : List Token} {bs bs1 bs2 : List Body} {p q : Option Port} {e : Element} {ls : List Link} →
+      IsPort ts p (token.Arrow s ∷ ts1) → IsPort ts1 q ts2 → IsElement ts2 bs e ts3 bs1 → IsLinks ts3 bs1 ls rest bs2 →
+      IsLinks ts bs (link p q e ∷ ls) rest bs2
+
+pub data IsStatements : List Token → List Body → List Statement → List Token → List Body → Type 0 where
+  no_more : {ts : List Token} {bs : List Body} → IsStatements ts bs [] ts bs
+  empty : {s : Span} {ts rest : List Token} {bs bs' : List Body} {ss : List Statement} →
+      IsStatements ts bs ss rest bs' → IsStatements (token.Semicolon s ∷ ts) bs ss rest bs'
+  chained : {ts ts1 ts2 ts3 rest : List Token} {bs bs1 bs2 bs3 : List Body} {e : Element} {ls : List Link} {ss : List Statement} →
+      IsElement ts bs e ts1 bs1 → IsLinks ts1 bs1 ls ts2 bs2 → IsEnd ts2 ts3 → IsStatements ts3 bs2 ss rest bs3 →
+      IsStatements ts bs (chain e ls ∷ ss) rest bs3
+
+-- what a text spells: its statements, and its bodies
+pub record Tree : Type 0 where
+  pub statements : List Statement
+  pub bodies : List Body
+
+-- the tokens are a text of the grammar, with this tree
+abbrev pub IsText : List Token → Tree → Type 0
+IsText ts t = IsStatements ts [] t.statements [] t.bodies
+
+-- the tokens begin a text of the grammar
+abbrev pub BeginsText : List Token → Type 0
+BeginsText ts = (more : List Token) × (t : Tree) × IsText (ts ++ more) t
+
+-- how many braces may be open
+abbrev pub most_open : ℕ
+most_open = 32
+
+-- what a token does to the number of open braces
+pub data Brace : Type 0 where
+  Opens : Brace
+  Closes : Brace
+  Neither : Brace
+
+abbrev pub brace : Token → Brace
+brace (token.Open s) = Opens
+brace (token.Close s) = Closes
+brace _ = Neither
+
+-- one more brace may be open
+abbrev pub HasRoom : Brace → ℕ → Type 0
+HasRoom Opens depth = depth < most_open
+HasRoom Closes depth = Unit {0}
+HasRoom Neither depth = Unit {0}
+
+-- how many braces are open behind one
+abbrev pub depth_behind : Brace → ℕ → ℕ
+depth_behind Opens depth = depth + 1
+depth_behind Closes depth = depth - 1
+depth_behind Neither depth = depth
+
+-- with so many open before them, at most 32 are open at once
+abbrev pub NestsWithin : ℕ → List Token → Type 0
+NestsWithin depth [] = Unit {0}
+NestsWithin depth (t ∷ ts) = HasRoom (brace t) depth × NestsWithin (depth_behind (brace t) depth) ts
+
+-- the tree that a configuration holds
+abbrev pub tree_of : Config → Tree
+tree_of c = record { statements = c.statements; bodies = c.bodies }

@@ -1,0 +1,36 @@
+//! The configuration language: tokens, grammar and parser.
+#![tactic(auto)]
+
+ghost use Rattle.std.specs.Prelude.{◌≡◌, ◌<◌, ◌≤◌, length, IfOk, IfErr, OnOk};
+ghost use Rattle.click_text.specs.declared.syntax.Config.{Config};
+ghost use Rattle.click_text.specs.Faults.{IsMemoryOr};
+ghost use Rattle.click_text.specs.Spelling.{longest_text, too_large, Spells, IsAnswered, IsGiven};
+
+pub mod lexer;
+pub mod parser;
+pub mod sequence;
+pub mod strings;
+pub mod syntax;
+
+use std::alloc::Global;
+use syntax::{Config, TextFault};
+
+/// How many bytes a text may have.
+pub const LONGEST_TEXT: usize = 1_048_576;
+
+/// The configuration that a text spells, or its first fault.
+pub fn parse(alloc: Global, text: &[u8]) -> Result<Config, TextFault>
+    // What is read is spelled so.
+    ensures found { IfOk result (λ config. Spells text.now config) }
+    ensures within { OnOk result (length text.now ≤ longest_text) }
+    // What is spelled so is read, unless memory runs out.
+    ensures only { (config : Config) → length text.now ≤ longest_text → Spells text.now config → IsGiven result config }
+    // Which fault it is.
+    ensures err { IfErr result (λ f. IsMemoryOr f (IsAnswered text.now f)) }
+    ensures large { longest_text < length text.now → result ≡ Err too_large }
+{
+    if text.len() > LONGEST_TEXT {
+        return Err(TextFault::too_large());
+    }
+    Err(TextFault::no_memory())
+}

@@ -1,0 +1,205 @@
+//! Tokens and the tree of a configuration.
+
+ghost use Rattle.std.specs.Prelude.{◌≡◌};
+ghost use Rattle.click_text.specs.Faults.{span_of, end_fault, no_memory};
+ghost use Rattle.click_text.specs.Spelling.{too_large};
+
+use crate::sequence::Sequence;
+use std::alloc::AllocError;
+
+/// The bytes of a text from `start` on, up to but without `end`. Bytes are counted from 0.
+#[derive(Clone, Copy, Debug, PartialEq, Eq)]
+pub struct Span {
+    pub start: usize,
+    pub end: usize,
+}
+
+/// A token and where it stands.
+#[derive(Clone, Copy, Debug, PartialEq, Eq)]
+pub enum Token {
+    /// A word that is no number and no keyword.
+    Word(Span),
+    /// Digits alone: the port of that number, or none where it is above 255.
+    Number(Option<u8>, Span),
+    /// `$` and a name.
+    Formal(Span),
+    /// A configuration string with its parentheses.
+    String(Span),
+    DoubleColon(Span),
+    Arrow(Span),
+    Semicolon(Span),
+    Comma(Span),
+    OpenBracket(Span),
+    CloseBracket(Span),
+    Open(Span),
+    Close(Span),
+    Bar(Span),
+    Elementclass(Span),
+    Require(Span),
+}
+
+/// A port as written: its number, and where it stands with its brackets.
+#[derive(Clone, Copy, Debug, PartialEq, Eq)]
+pub struct Port {
+    pub number: u8,
+    pub span: Span,
+}
+
+/// A class.
+#[derive(Clone, Copy, Debug, PartialEq, Eq)]
+pub enum Class {
+    /// A word.
+    Named(Span),
+}
+
+/// What an element of a chain begins with.
+#[derive(Clone, Copy, Debug, PartialEq, Eq)]
+pub enum Head {
+    /// A word: an element's name, or a class.
+    Word(Span),
+    /// A name with its class.
+    Declared(Span, Class),
+}
+
+/// An element of a chain.
+#[derive(Clone, Copy, Debug, PartialEq, Eq)]
+pub struct Element {
+    pub head: Head,
+    /// Its configuration string with the parentheses, where it has one.
+    pub text: Option<Span>,
+}
+
+/// A further element of a chain, with the ports that it is joined by. A port that is not written is 0.
+#[derive(Clone, Copy, Debug, PartialEq, Eq)]
+pub struct Link {
+    pub from: Option<Port>,
+    pub to: Option<Port>,
+    pub element: Element,
+}
+
+/// Elements, each joined to the next.
+#[derive(Drop)]
+pub struct Chain {
+    pub first: Element,
+    pub links: Sequence<Link>,
+}
+
+/// A statement. Empty statements are not kept.
+#[derive(Drop)]
+pub enum Statement {
+    Chain(Chain),
+}
+
+/// What stands between two braces, with them.
+#[derive(Drop)]
+pub struct Body {
+    pub span: Span,
+    pub statements: Sequence<Statement>,
+}
+
+/// A whole configuration, with its text. A body stands behind all bodies inside it, and is named by its place.
+#[derive(Drop)]
+pub struct Config {
+    pub text: Sequence<u8>,
+    pub statements: Sequence<Statement>,
+    pub bodies: Sequence<Body>,
+}
+
+/// What is wrong with a text. The numbers are those that operators see.
+#[derive(Clone, Copy, Debug, PartialEq, Eq)]
+pub enum FaultKind {
+    BadByte = 1,
+    UnclosedComment = 2,
+    UnclosedString = 3,
+    Unexpected = 4,
+    TooDeep = 5,
+    TooLarge = 6,
+    NoMemory = 7,
+}
+
+/// A fault of a text, and where it stands.
+#[derive(Clone, Copy, Debug, PartialEq, Eq)]
+pub struct TextFault {
+    pub kind: FaultKind,
+    pub span: Span,
+}
+
+/// How the reading of tokens ends: behind the whole text, or where no piece begins.
+#[derive(Clone, Copy, Debug, PartialEq, Eq)]
+pub enum Ending {
+    Whole,
+    Stuck(TextFault),
+}
+
+impl Token {
+    /// Where it stands.
+    pub fn span(&self) -> Span
+        ensures { result ≡ span_of self.now }
+    {
+        match *self {
+            Token::Word(span) => span,
+            Token::Number(_, span) => span,
+            Token::Formal(span) => span,
+            Token::String(span) => span,
+            Token::DoubleColon(span) => span,
+            Token::Arrow(span) => span,
+            Token::Semicolon(span) => span,
+            Token::Comma(span) => span,
+            Token::OpenBracket(span) => span,
+            Token::CloseBracket(span) => span,
+            Token::Open(span) => span,
+            Token::Close(span) => span,
+            Token::Bar(span) => span,
+            Token::Elementclass(span) => span,
+            Token::Require(span) => span,
+        }
+    }
+}
+
+impl Ending {
+    /// The fault at the end of a text of that many bytes.
+    pub fn fault(&self, size: usize) -> TextFault
+        ensures { result ≡ end_fault size self.now }
+    {
+        match *self {
+            Ending::Whole => TextFault {
+                kind: FaultKind::Unexpected,
+                span: Span {
+                    start: size,
+                    end: size,
+                },
+            },
+            Ending::Stuck(fault) => fault,
+        }
+    }
+}
+
+impl TextFault {
+    /// Want of memory.
+    pub fn no_memory() -> TextFault
+        ensures { result ≡ no_memory }
+    {
+        TextFault {
+            kind: FaultKind::NoMemory,
+            span: Span { start: 0, end: 0 },
+        }
+    }
+
+    /// More bytes than a text may have.
+    pub fn too_large() -> TextFault
+        ensures { result ≡ too_large }
+    {
+        TextFault {
+            kind: FaultKind::TooLarge,
+            span: Span { start: 0, end: 0 },
+        }
+    }
+}
+
+impl From<AllocError> for TextFault {
+    ghost from_gives = { λ _ f. f ≡ no_memory };
+
+    fn from(_error: AllocError) -> TextFault {
+        TextFault::no_memory()
+    }
+}
