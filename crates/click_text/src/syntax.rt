@@ -2,6 +2,7 @@
 
 ghost use Rattle.std.specs.Prelude.{◌≡◌};
 ghost use Rattle.click_text.specs.Faults.{span_of, end_fault, no_memory};
+ghost use Rattle.click_text.specs.Spans.{bytes_at, string_text};
 ghost use Rattle.click_text.specs.Spelling.{too_large};
 
 use crate::sequence::Sequence;
@@ -12,6 +13,26 @@ use std::alloc::AllocError;
 pub struct Span {
     pub start: usize,
     pub end: usize,
+}
+
+impl Span {
+    /// The bytes of the text that stand there: as many of them as the text has.
+    pub fn of<'a>(&self, text: &'a [u8]) -> &'a [u8]
+        ensures { result.now ≡ bytes_at text.now self.now }
+    {
+        let rest = &text[self.start.min(text.len())..];
+        &rest[..self.end.saturating_sub(self.start).min(rest.len())]
+    }
+
+    /// The text of a configuration string that stands there: what is between its parentheses.
+    pub fn text_of<'a>(&self, text: &'a [u8]) -> &'a [u8]
+        ensures { result.now ≡ string_text text.now self.now }
+    {
+        match self.of(text) {
+            [_, inside @ .., _] => inside,
+            _ => &[],
+        }
+    }
 }
 
 /// A token and where it stands.
