@@ -1,0 +1,198 @@
+-- The elements and connections of a configuration with one scope (Click manual, "Elements", "Connections").
+use Rattle.std.specs.Prelude.{◌≡◌, ◌⊎◌, ◌<◌, ℕ, ◌+◌, List, [], ◌∷◌, ◌++◌, map, flat_map, filter_map, Contains, slice_get, Bool, true, false, not, ◌||◌, is_some, Option, Some, None, Result, Ok, Err, codes, decimal, if◌then◌else◌}
+use Rattle.std.specs.List.{list_any}
+use Rattle.std.specs.Str.{bytes_eq}
+use Rattle.click_text.specs.declared.syntax.Span.{Span}
+use Rattle.click_text.specs.declared.syntax.Port.{Port}
+use Rattle.click_text.specs.declared.syntax.Class.TheVariants as class
+use Rattle.click_text.specs.declared.syntax.Head.{Head}
+use Rattle.click_text.specs.declared.syntax.Head.TheVariants as head
+use Rattle.click_text.specs.declared.syntax.Element.{Element}
+use Rattle.click_text.specs.declared.syntax.Link.{Link}
+use Rattle.click_text.specs.declared.syntax.Chain.{Chain}
+use Rattle.click_text.specs.declared.syntax.Statement.{Statement}
+use Rattle.click_text.specs.declared.syntax.Statement.TheVariants as statement
+use Rattle.click_text.specs.declared.syntax.Config.{Config}
+use Rattle.click_text.specs.Spans.{bytes_at, string_text}
+use Rattle.click_router.specs.Classes.{class_of}
+use Rattle.click_router.specs.declared.expand.FlatElement.{FlatElement}
+use Rattle.click_router.specs.declared.expand.Connection.{Connection}
+use Rattle.click_router.specs.declared.expand.Flat.{Flat}
+use Rattle.click_router.specs.declared.expand.NameFault.{NameFault}
+use Rattle.click_router.specs.declared.expand.NameFault.TheVariants as names
+use Rattle.click_router.specs.declared.expand.ExpandFault.{ExpandFault}
+use Rattle.click_router.specs.declared.expand.ExpandFault.TheVariants as fault
+
+-- the elements of a chain as they are written
+abbrev pub chain_elements : Statement → List Element
+chain_elements (statement.Chain c) = c.first ∷ map (λ l. l.element) c.links
+
+-- all elements of a configuration as they are written, in the order of the text
+abbrev pub written_elements : Config → List Element
+written_elements c = flat_map chain_elements c.statements
+
+-- the name that an element is declared under
+abbrev pub declared_head : List ℕ → Head → Option (List ℕ)
+declared_head text (head.Declared s c) = Some (bytes_at text s)
+declared_head text (head.Word s) = None
+
+abbrev pub declared_name : List ℕ → Element → Option (List ℕ)
+declared_name text e = declared_head text e.head
+
+-- the names that are declared anywhere among these elements
+abbrev pub declared_names : List ℕ → List Element → List (List ℕ)
+declared_names text es = filter_map (declared_name text) es
+
+abbrev pub has_name : List ℕ → List (List ℕ) → Bool
+has_name name known = list_any (bytes_eq name) known
+
+-- a class used as an element makes one called after its class and its number, which counts from 1
+abbrev pub numbered : List ℕ → ℕ → List ℕ
+numbered class before = class ++ codes "@" ++ decimal (before + 1)
+
+-- A bare word that is declared somewhere means that element. Every other way to write an element makes one.
+abbrev pub makes_by : List ℕ → List (List ℕ) → Head → Option Span → Bool
+makes_by text declared (head.Word s) None = not (has_name (bytes_at text s) declared)
+makes_by text declared (head.Word s) (Some string) = true
+makes_by text declared (head.Declared s c) string = true
+
+abbrev pub makes : List ℕ → List (List ℕ) → Element → Bool
+makes text declared e = makes_by text declared e.head e.text
+
+-- how many elements there are behind one, of which so many stand before it
+abbrev pub number_behind : List ℕ → List (List ℕ) → ℕ → Element → ℕ
+number_behind text declared n e = if makes text declared e then n + 1 else n
+
+-- the name of an element before which so many stand
+abbrev pub name_by : List ℕ → List (List ℕ) → ℕ → Head → Option Span → List ℕ
+name_by text declared n (head.Declared s c) string = bytes_at text s
+name_by text declared n (head.Word s) string =
+    if makes_by text declared (head.Word s) string then numbered (bytes_at text s) n else bytes_at text s
+
+abbrev pub name_of : List ℕ → List (List ℕ) → ℕ → Element → List ℕ
+name_of text declared n e = name_by text declared n e.head e.text
+
+-- the word for its class
+abbrev pub class_span : Head → Span
+class_span (head.Word s) = s
+class_span (head.Declared s (class.Named c)) = c
+
+-- the text between its parentheses
+abbrev pub text_by : List ℕ → Option Span → List ℕ
+text_by text None = []
+text_by text (Some string) = string_text text string
+
+abbrev pub flat_element : List ℕ → List (List ℕ) → ℕ → Element → FlatElement
+flat_element text declared n e = record {
+  name = name_of text declared n e;
+  class = bytes_at text (class_span e.head);
+  text = text_by text e.text;
+}
+
+-- the fault of an unknown class: a bare word may also have been meant for an element
+abbrev pub unknown : Head → Option Span → NameFault
+unknown (head.Word s) None = names.UnknownName
+unknown (head.Word s) (Some string) = names.UnknownClass
+unknown (head.Declared s c) string = names.UnknownClass
+
+-- A name that an earlier element has is a fault at the element's first word, an unknown class at the class.
+-- Of a declared element the name stands first; a class that is unknown gives no name to compare.
+abbrev pub fault_by : Head → Option Span → Bool → Bool → Option ExpandFault
+fault_by (head.Declared s (class.Named c)) string taken known =
+    if taken then Some (fault.Name names.DeclaredTwice s) else if known then None else Some (fault.Name names.UnknownClass c)
+fault_by (head.Word s) string taken known =
+    if known then (if taken then Some (fault.Name names.DeclaredTwice s) else None) else Some (fault.Name (unknown (head.Word s) string) s)
+
+-- what is wrong with an element behind those of these names
+abbrev pub element_fault : List ℕ → List (List ℕ) → List (List ℕ) → ℕ → Element → Option ExpandFault
+element_fault text declared before n e =
+    if makes text declared e
+    then fault_by e.head e.text (has_name (name_of text declared n e) before) (is_some (class_of (bytes_at text (class_span e.head))))
+    else None
+
+abbrev pub onto : FlatElement → Result (List FlatElement) ExpandFault → Result (List FlatElement) ExpandFault
+onto f (Ok fs) = Ok (f ∷ fs)
+onto f (Err e) = Err e
+
+abbrev pub unless_fault : Option ExpandFault → Result (List FlatElement) ExpandFault → Result (List FlatElement) ExpandFault
+unless_fault (Some f) r = Err f
+unless_fault None r = r
+
+-- the elements that these make behind those of the names before, of which there are n, or the first fault
+unfoldable pub expand_from : List ℕ → List (List ℕ) → List (List ℕ) → ℕ → List Element → Result (List FlatElement) ExpandFault
+expand_from text declared before n [] = Ok []
+expand_from text declared before n (e ∷ es) =
+    unless_fault (element_fault text declared before n e)
+    (if makes text declared e
+     then onto (flat_element text declared n e) (expand_from text declared (before ++ name_of text declared n e ∷ []) (n + 1) es)
+     else expand_from text declared before n es)
+
+-- the elements of a configuration, or its first fault
+abbrev pub expanded : Config → Result (List FlatElement) ExpandFault
+expanded c = expand_from c.text (declared_names c.text (written_elements c)) [] 0 (written_elements c)
+
+-- what a link joins: two elements by their names, and the ports
+pub record Wire : Type 0 where
+  pub from : List ℕ
+  pub out_port : ℕ
+  pub to : List ℕ
+  pub in_port : ℕ
+
+-- a port that is not written is 0
+abbrev pub port_number : Option Port → ℕ
+port_number None = 0
+port_number (Some p) = p.number
+
+abbrev pub wire : List ℕ → Link → List ℕ → Wire
+wire a l b = record { from = a; out_port = port_number l.from; to = b; in_port = port_number l.to }
+
+-- the wires of the links behind the element of that name, up to which there are n elements
+unfoldable pub wires_behind : List ℕ → List (List ℕ) → ℕ → List ℕ → List Link → List Wire
+wires_behind text declared n name [] = []
+wires_behind text declared n name (l ∷ ls) =
+    wire name l (name_of text declared n l.element) ∷ wires_behind text declared (number_behind text declared n l.element) (name_of text declared n l.element) ls
+
+-- how many elements there are behind these
+unfoldable pub number_after : List ℕ → List (List ℕ) → ℕ → List Element → ℕ
+number_after text declared n [] = n
+number_after text declared n (e ∷ es) = number_after text declared (number_behind text declared n e) es
+
+-- the wires of statements before which n elements stand
+unfoldable pub wires_from : List ℕ → List (List ℕ) → ℕ → List Statement → List Wire
+wires_from text declared n [] = []
+wires_from text declared n (statement.Chain c ∷ ss) =
+    wires_behind text declared (number_behind text declared n c.first) (name_of text declared n c.first) c.links
+    ++ wires_from text declared (number_after text declared n (chain_elements (statement.Chain c))) ss
+
+abbrev pub wires : Config → List Wire
+wires c = wires_from c.text (declared_names c.text (written_elements c)) 0 c.statements
+
+-- a connection joins the elements of these names as one of the wires does
+abbrev pub Joins : List (List ℕ) → List Wire → Connection → Type 0
+Joins names ws c =
+    (a b : List ℕ) × (slice_get names c.from ≡ Some a) × (slice_get names c.to ≡ Some b)
+    × Contains ws (record { from = a; out_port = c.out_port; to = b; in_port = c.in_port })
+
+-- one connection stands before another: by from-element, from-port, to-element, to-port
+abbrev pub Before : Connection → Connection → Type 0
+Before c d =
+    (c.from < d.from) ⊎ ((c.from ≡ d.from) × ((c.out_port < d.out_port) ⊎ ((c.out_port ≡ d.out_port) ×
+    ((c.to < d.to) ⊎ ((c.to ≡ d.to) × (c.in_port < d.in_port))))))
+
+abbrev pub AllBehind : Connection → List Connection → Type 0
+AllBehind c [] = Unit {0}
+AllBehind c (d ∷ ds) = Before c d × AllBehind c ds
+
+abbrev pub InOrder : List Connection → Type 0
+InOrder [] = Unit {0}
+InOrder (c ∷ cs) = AllBehind c cs × InOrder cs
+
+abbrev pub flat_names : List FlatElement → List (List ℕ)
+flat_names fs = map (λ f. f.name) fs
+
+-- The flat form of a configuration: its elements, and each connection that a link joins, once and in order.
+pub record IsFlat (config : Config) (flat : Flat) : Type 0 where
+  pub elements : expanded config ≡ Ok flat.elements
+  pub sound : (c : Connection) → Contains flat.connections c → Joins (flat_names flat.elements) (wires config) c
+  pub complete : (c : Connection) → Joins (flat_names flat.elements) (wires config) c → Contains flat.connections c
+  pub in_order : InOrder flat.connections

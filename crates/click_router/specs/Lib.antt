@@ -1,0 +1,7 @@
+pub mod Classes
+pub mod Expand
+pub mod FaultText
+pub mod One
+pub mod Opened
+pub mod Ports
+pub mod State

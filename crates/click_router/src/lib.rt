@@ -1,0 +1,15 @@
+//! The router: a configuration is prepared, opened, and answers one call after another.
+#![tactic(auto)]
+
+pub mod call;
+mod classes;
+mod expand;
+pub mod fault;
+mod ports;
+pub mod opening;
+pub mod router;
+
+pub use call::{Call, Refusal, Reply, StepFault};
+pub use fault::{ConfigFault, FaultKind, FaultPlace, Side};
+pub use opening::{Prepared, prepare};
+pub use router::Router;
