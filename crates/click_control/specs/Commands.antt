@@ -1,0 +1,111 @@
+-- The commands of a stream of bytes (Click manual, "ControlSocket").
+use Rattle.std.specs.Prelude.{◌≡◌, ℕ, ◌+◌, ◌≤◌, List, [], ◌∷◌, ◌++◌, length, take_while, reverse, Bool, true, false, not, ◌||◌, nat_eq, nat_le, Option, Some, None, codes, if◌then◌else◌}
+use Rattle.std.specs.Str.{str_eq_ignore_ascii_case}
+use Rattle.click_control.specs.declared.command.Command.{Command}
+use Rattle.click_control.specs.declared.command.Command.TheVariants as command
+
+-- a space or a tab
+abbrev pub is_blank : ℕ → Bool
+is_blank b = nat_eq b 32 || nat_eq b 9
+
+-- the bytes from the first that is no blank on
+abbrev pub without_front : List ℕ → List ℕ
+without_front [] = []
+without_front (b ∷ bs) = if is_blank b then without_front bs else b ∷ bs
+
+-- the bytes without blanks at their ends
+abbrev pub trimmed : List ℕ → List ℕ
+trimmed bs = reverse (without_front (reverse (without_front bs)))
+
+-- the bytes from the first blank on
+abbrev pub from_blank : List ℕ → List ℕ
+from_blank [] = []
+from_blank (b ∷ bs) = if is_blank b then b ∷ bs else from_blank bs
+
+-- the first word of a line, and what follows it
+abbrev pub first_word : List ℕ → List ℕ
+first_word line = take_while (λ b. not (is_blank b)) (without_front line)
+
+abbrev pub behind_word : List ℕ → List ℕ
+behind_word line = from_blank (without_front line)
+
+-- `READ` with what follows it: a handler, and the rest of the line without blanks at its ends
+abbrev pub read_command : List ℕ → List ℕ → Command
+read_command [] rest = command.Syntax
+read_command (b ∷ handler) rest = command.Read (b ∷ handler) (trimmed rest)
+
+-- the command of a line, whose first word is this; case does not matter in it
+abbrev pub command_by : List ℕ → List ℕ → Option Command
+command_by [] rest = None
+command_by (b ∷ word) rest =
+    if str_eq_ignore_ascii_case (b ∷ word) (codes "READ") then Some (read_command (first_word rest) (behind_word rest))
+    else if str_eq_ignore_ascii_case (b ∷ word) (codes "QUIT") then Some command.Quit
+    else Some (command.Unknown (b ∷ word))
+
+-- the command of a line; a blank line is none
+abbrev pub command_of : List ℕ → Option Command
+command_of line = command_by (first_word line) (behind_word line)
+
+-- how many bytes a line may have before its end
+abbrev pub longest_line : ℕ
+longest_line = 65536
+
+-- where the reading of a stream stands: in a line that begins so, behind a CR that ended one, or behind the last command
+pub data Reading : Type 0 where
+  in_line : List ℕ → Reading
+  after_return : Reading
+  over : Reading
+
+-- LF and CR end a line
+abbrev pub is_end : ℕ → Bool
+is_end b = nat_eq b 10 || nat_eq b 13
+
+abbrev pub listed : Option Command → List Command
+listed None = []
+listed (Some c) = c ∷ []
+
+-- nothing follows QUIT
+abbrev pub behind_line : Option Command → ℕ → Reading
+behind_line (Some command.Quit) b = over
+behind_line _ b = if nat_eq b 13 then after_return else in_line []
+
+-- the command that is whole with the next byte of a line that begins so: at its end, or where it becomes too long
+abbrev pub told_in : List ℕ → ℕ → List Command
+told_in line b =
+    if is_end b then listed (command_of line) else if nat_le longest_line (length line) then command.LineTooLong ∷ [] else []
+
+abbrev pub told : Reading → ℕ → List Command
+told (in_line line) b = told_in line b
+told after_return b = if nat_eq b 10 then [] else told_in [] b
+told over b = []
+
+-- where the reading stands behind the next byte
+abbrev pub behind_in : List ℕ → ℕ → Reading
+behind_in line b =
+    if is_end b then behind_line (command_of line) b else if nat_le longest_line (length line) then over else in_line (line ++ b ∷ [])
+
+abbrev pub behind : Reading → ℕ → Reading
+behind (in_line line) b = behind_in line b
+behind after_return b = if nat_eq b 10 then in_line [] else behind_in [] b
+behind over b = over
+
+-- the whole commands of the bytes that follow
+unfoldable pub commands_from : Reading → List ℕ → List Command
+commands_from r [] = []
+commands_from r (b ∷ bs) = told r b ++ commands_from (behind r b) bs
+
+-- the whole commands of a stream
+abbrev pub commands : List ℕ → List Command
+commands bytes = commands_from (in_line []) bytes
+
+-- a session between two commands: where its reading stands, and the bytes behind that place
+pub record Pending : Type 0 where
+  pub from : Reading
+  pub bytes : List ℕ
+
+abbrev pub fresh : Pending
+fresh = record { from = in_line []; bytes = [] }
+
+-- the commands still to come, once these bytes have come too
+abbrev pub to_come : Pending → List ℕ → List Command
+to_come s more = commands_from s.from (s.bytes ++ more)

@@ -1,0 +1,16 @@
+//! Control sessions (Click::ControlSocket/1.3): bytes to commands, commands to calls, answers to bytes.
+#![tactic(auto)]
+
+pub mod command;
+pub mod laws;
+pub mod peer;
+pub mod port;
+pub mod reply;
+pub mod serving;
+mod session;
+
+pub use command::{Answer, Command};
+pub use peer::{Failed, Reading, Sink, Source, Writing};
+pub use port::{AskFault, Port};
+pub use reply::reply_text;
+pub use serving::{Ended, ServeFault, serve};

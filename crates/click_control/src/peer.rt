@@ -1,0 +1,61 @@
+//! The two ends of a session's peer: where its bytes come from and where they go. Unlike std's reader and writer
+//! they tell a contract whether a call of theirs has failed.
+
+ghost use Rattle.std.specs.Prelude.{◌≡◌, ◌≤◌, ◌<◌, ◌||◌, length, is_err, IfOk, false};
+ghost use Rattle.std.specs.Io.KnownBytes.{ReadConsumes, WriteAppends};
+
+use std::io::{Read, Write};
+
+/// A read or a write failed.
+#[derive(Clone, Copy, Debug, PartialEq, Eq)]
+pub struct Failed;
+
+/// Where bytes come from.
+pub trait Source {
+    ghost use Rattle.std.specs.Prelude.{ℕ, List, Option, Bool};
+
+    /// The bytes still to come, where they are known.
+    ghost remaining: { Self → Option (List ℕ) };
+
+    /// A read has failed.
+    ghost failed: { Self → Bool };
+
+    /// Puts the next bytes into the piece, and answers how many: 0 at the end alone. Any error is a failure.
+    fn read(&mut self, piece: &mut [u8]) -> Result<usize, Failed>
+        ensures bound { IfOk result (λ n. n ≤ length piece.new) }
+        ensures bytes { ReadConsumes (remaining self.old) (remaining self.new) result piece.new }
+        ensures failed { failed self.new ≡ (failed self.old || is_err result) };
+}
+
+/// Where bytes go.
+pub trait Sink {
+    ghost use Rattle.std.specs.Prelude.{ℕ, List, Option, Bool};
+
+    /// The bytes that were taken, where they are known.
+    ghost contents: { Self → Option (List ℕ) };
+
+    /// A write has failed.
+    ghost failed: { Self → Bool };
+
+    /// Takes some of the bytes, at least one where there is one, and answers how many. Any error is a failure,
+    /// and so is a write that takes none of some bytes.
+    fn write(&mut self, bytes: &[u8]) -> Result<usize, Failed>
+        ensures bound { IfOk result (λ n. n ≤ length bytes.now) }
+        ensures some { 0 < length bytes.now → IfOk result (λ n. 0 < n) }
+        ensures bytes { WriteAppends (contents self.old) (contents self.new) result bytes.now }
+        ensures failed { failed self.new ≡ (failed self.old || is_err result) };
+}
+
+/// A reader of std as a source.
+#[derive(Drop)]
+pub struct Reading<R> {
+    inner: R,
+    failed: bool,
+}
+
+/// A writer of std as a sink.
+#[derive(Drop)]
+pub struct Writing<W> {
+    inner: W,
+    failed: bool,
+}

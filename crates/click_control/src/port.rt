@@ -1,0 +1,27 @@
+//! Where a session's calls go.
+
+use click_router::{Call, Reply};
+use std::alloc::Global;
+
+/// Why a call was not answered.
+#[derive(Clone, Copy, Debug, PartialEq, Eq)]
+pub enum AskFault {
+    NoMemory,
+    /// The history has no room for another entry.
+    HistoryFull,
+}
+
+/// Where a session's calls go.
+pub trait Port {
+    ghost use Rattle.std.specs.Prelude.{Result};
+    ghost use Rattle.click_router.specs.declared.call.Call.{Call};
+    ghost use Rattle.click_router.specs.declared.call.Reply.{Reply};
+    ghost use Rattle.click_control.specs.declared.port.AskFault.{AskFault};
+
+    /// What an ask does: the port before it, the call, the answer, and the port after it.
+    ghost asks: { Self → Call → Result Reply AskFault → Self → Type 0 };
+
+    /// Answers one call.
+    fn ask(&mut self, alloc: Global, call: Call) -> Result<Reply, AskFault>
+        ensures { asks self.old call result self.new };
+}
