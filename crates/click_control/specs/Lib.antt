@@ -1,3 +1,4 @@
+pub mod Alone
 pub mod Commands
 pub mod ReplyText
 pub mod Serving

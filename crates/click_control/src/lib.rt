@@ -1,6 +1,7 @@
 //! Control sessions (Click::ControlSocket/1.3): bytes to commands, commands to calls, answers to bytes.
 #![tactic(auto)]
 
+pub mod alone;
 pub mod command;
 pub mod laws;
 pub mod peer;

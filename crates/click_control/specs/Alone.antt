@@ -1,0 +1,13 @@
+-- What a session's ask does to a router that it has to itself.
+use Rattle.std.specs.Prelude.{◌≡◌, Result, Ok, Err}
+use Rattle.click_router.specs.State.{RouterState}
+use Rattle.click_router.specs.One.{one}
+use Rattle.click_router.specs.declared.call.Call.{Call}
+use Rattle.click_router.specs.declared.call.Reply.{Reply}
+use Rattle.click_control.specs.declared.port.AskFault.{AskFault}
+use Rattle.click_control.specs.declared.port.AskFault.TheVariants as ask
+
+-- one call of the router, or want of memory, which changes nothing
+abbrev pub Steps : RouterState → Call → Result Reply AskFault → RouterState → Type 0
+Steps old c (Ok reply) new = one old c ≡ (new, reply)
+Steps old c (Err f) new = (f ≡ ask.NoMemory) × (new ≡ old)

@@ -1,0 +1,20 @@
+//! A router of one thread as a session's port.
+
+ghost use Rattle.std.specs.Prelude.{◌≡◌, MatchResult};
+
+use crate::port::{AskFault, Port};
+use click_router::{Call, Reply, Router, StepFault};
+use std::alloc::Global;
+
+impl Port for Router {
+    ghost use Rattle.click_control.specs.Alone.{Steps};
+
+    ghost asks = { Steps };
+
+    fn ask(&mut self, alloc: Global, call: Call) -> Result<Reply, AskFault> {
+        match self.step(alloc, &call) {
+            Ok(reply) => Ok(reply),
+            Err(StepFault::NoMemory) => Err(AskFault::NoMemory),
+        }
+    }
+}
