@@ -51,11 +51,11 @@ unfolding run
 word_runs [] bs cx s h = refl
 word_runs (tok ∷ ts) bs cx s h = elim (worded_by bs cx s tok) [ inl w ↦ absurd (h w.0 ts (rw (w.1) refl)) | inr e ↦ rw e refl ]
 
-step_grown : (bs : List Body) (cx : Context) (e : Element) (tok : Token) → step (grown bs cx e) tok ≡ beyond_grown bs cx e tok
+pub step_grown : (bs : List Body) (cx : Context) (e : Element) (tok : Token) → step (grown bs cx e) tok ≡ beyond_grown bs cx e tok
 step_grown bs (start p ss) e tok = refl
 step_grown bs (linked p ss f ls from to) e tok = refl
 
-finish_grown : (bs : List Body) (cx : Context) (e : Element) → finish (grown bs cx e) ≡ ended_grown bs cx e
+pub finish_grown : (bs : List Body) (cx : Context) (e : Element) → finish (grown bs cx e) ≡ ended_grown bs cx e
 finish_grown bs (start p ss) e = refl
 finish_grown bs (linked p ss f ls from to) e = refl
 

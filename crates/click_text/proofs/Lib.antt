@@ -1,2 +1,4 @@
 pub mod Takes
 pub mod Equal
+pub mod Outcomes
+pub mod Steps
