@@ -59,6 +59,15 @@ pub finish_grown : (bs : List Body) (cx : Context) (e : Element) → finish (gro
 finish_grown bs (start p ss) e = refl
 finish_grown bs (linked p ss f ls from to) e = refl
 
+-- where no port comes
+pub step_ported : (bs : List Body) (p : Place) (ss : List Statement) (f : Element) (ls : List Link) (side : Side) (q : Option Port) (tok : Token) → step (ported bs p ss f ls side q) tok ≡ past_port bs p ss f ls side q tok
+step_ported bs p ss f ls out q tok = refl
+step_ported bs p ss f ls (into from) q tok = refl
+
+pub finish_ported : (bs : List Body) (p : Place) (ss : List Statement) (f : Element) (ls : List Link) (side : Side) (q : Option Port) → finish (ported bs p ss f ls side q) ≡ None
+finish_ported bs p ss f ls out q = refl
+finish_ported bs p ss f ls (into from) q = refl
+
 -- a head with no string
 bare_runs : (ts : List Token) (bs : List Body) (cx : Context) (h : Head) → NoString ts → run (head_read bs cx h) ts ≡ run (grown bs cx (element h None)) ts
 unfolding run
