@@ -1,5 +1,5 @@
 -- The machine accepts the texts of the grammar, with their trees, and no others.
-use Rattle.std.proofs.Common.{◌⊎◌, inl, inr, ◌≡◌, ℕ, List, [], ◌∷◌, ◌++◌, Option, Some, None, refl, sym, ◌∙◌, ap, subst, append_assoc}
+use Rattle.std.proofs.Common.{inl, inr, ◌≡◌, ℕ, List, [], ◌∷◌, ◌++◌, Option, Some, None, refl, sym, ◌∙◌, ap, subst, append_assoc}
 use Rattle.std.proofs.lemmas.List.{append-nil}
 use Rattle.click_text.specs.declared.syntax.Span.{Span}
 use Rattle.click_text.specs.declared.syntax.Token.{Token}
@@ -227,9 +227,10 @@ stated_empty bs p ss s ts t (more, rest, bs', r, k) = (more, rest, bs', empty r,
 
 stated_completes : (bs : List Body) (p : Place) (ss : List Statement) (tok : Token) (ts : List Token) (t : Tree) → Leads (stated bs p ss tok) ts t → Completes (between bs p ss) (tok ∷ ts) t
 stated_completes bs p ss tok ts t l = elim (stated_by bs p ss tok) [
-    inl w ↦ rw (w.1) (stated_empty bs p ss w.0 ts t (rw (w.1) at l))
+  | inl w ↦ rw (w.1) (stated_empty bs p ss w.0 ts t (rw (w.1) at l))
   | inr (inl w) ↦ rw (w.1) (closed_completes bs p ss w.0 ts t (rw (w.1) at l))
-  | inr (inr e) ↦ element_first bs p ss _ t (begun_completes bs (start p ss) tok ts t (rw e at l)) ]
+  | inr (inr e) ↦ element_first bs p ss _ t (begun_completes bs (start p ss) tok ts t (rw e at l))
+]
 
 arrowed_into : (bs : List Body) (p : Place) (ss : List Statement) (f : Element) (ls : List Link) (q : Option Port) (s : Span) (ts : List Token) (t : Tree) → Completes (port_wanted bs p ss f ls (into q)) ts t → Arrowed p bs ss f ls q (token.Arrow s ∷ ts) t
 arrowed_into bs p ss f ls q s ts t (to, rest, k, g) = (s, ts, rest, to, refl, k, g)
@@ -243,21 +244,24 @@ past_port_completes bs p ss f ls (into from) q tok ts t l = begun_completes bs (
 
 joined_completes : (bs : List Body) (p : Place) (ss : List Statement) (f : Element) (ls : List Link) (side : Side) (tok : Token) (ts : List Token) (t : Tree) → Leads (joined bs p ss f ls side tok) ts t → Completes (port_wanted bs p ss f ls side) (tok ∷ ts) t
 joined_completes bs p ss f ls side tok ts t l = elim (joined_by bs p ss f ls side tok) [
-    inl w ↦ rw (w.1) (rw (w.1) at l)
-  | inr e ↦ (None, tok ∷ ts, no_port, past_port_completes bs p ss f ls side None tok ts t (rw e at l)) ]
+  | inl w ↦ rw (w.1) (rw (w.1) at l)
+  | inr e ↦ (None, tok ∷ ts, no_port, past_port_completes bs p ss f ls side None tok ts t (rw e at l))
+]
 
 numbered_into : (bs : List Body) (p : Place) (ss : List Statement) (f : Element) (ls : List Link) (side : Side) (a : Span) (n : ℕ) (s : Span) (ts : List Token) (t : Tree) → Completes (close_wanted bs p ss f ls side a n) ts t → Completes (number_wanted bs p ss f ls side a) (token.Number (Some n) s ∷ ts) t
 numbered_into bs p ss f ls side a n s ts t (b, rest, e, g) = (Some (port n a b), rest, rw e bracketed, g)
 
 numbered_completes : (bs : List Body) (p : Place) (ss : List Statement) (f : Element) (ls : List Link) (side : Side) (a : Span) (tok : Token) (ts : List Token) (t : Tree) → Leads (numbered bs p ss f ls side a tok) ts t → Completes (number_wanted bs p ss f ls side a) (tok ∷ ts) t
 numbered_completes bs p ss f ls side a tok ts t l = elim (numbered_by bs p ss f ls side a tok) [
-    inl w ↦ rw (w.2) (numbered_into bs p ss f ls side a w.0 w.1 ts t (rw (w.2) at l))
-  | inr e ↦ absurd (rw e at l) ]
+  | inl w ↦ rw (w.2) (numbered_into bs p ss f ls side a w.0 w.1 ts t (rw (w.2) at l))
+  | inr e ↦ absurd (rw e at l)
+]
 
 bracketed_completes : (bs : List Body) (p : Place) (ss : List Statement) (f : Element) (ls : List Link) (side : Side) (a : Span) (n : ℕ) (tok : Token) (ts : List Token) (t : Tree) → Leads (bracketed_off bs p ss f ls side a n tok) ts t → Completes (close_wanted bs p ss f ls side a n) (tok ∷ ts) t
 bracketed_completes bs p ss f ls side a n tok ts t l = elim (bracketed_by bs p ss f ls side a n tok) [
-    inl w ↦ rw (w.1) (w.0, ts, refl, from_ported bs p ss f ls side _ ts t (rw (w.1) at l))
-  | inr e ↦ absurd (rw e at l) ]
+  | inl w ↦ rw (w.1) (w.0, ts, refl, from_ported bs p ss f ls side _ ts t (rw (w.1) at l))
+  | inr e ↦ absurd (rw e at l)
+]
 
 -- behind an element comes an arrow
 joined_after : (bs : List Body) (p : Place) (ss : List Statement) (f : Element) (ls : List Link) (ts : List Token) (t : Tree) → Completes (port_wanted bs p ss f ls out) ts t → After (Ends p) bs ss f ls ts t
@@ -272,9 +276,10 @@ beyond_closed bs p ss f ls b ts t l = ([], token.Close b ∷ ts, token.Close b �
 
 beyond_completes : (bs : List Body) (p : Place) (ss : List Statement) (f : Element) (ls : List Link) (tok : Token) (ts : List Token) (t : Tree) → Leads (beyond bs p ss f ls tok) ts t → After (Ends p) bs ss f ls (tok ∷ ts) t
 beyond_completes bs p ss f ls tok ts t l = elim (beyond_by bs p ss f ls tok) [
-    inl w ↦ rw (w.1) (beyond_ends bs p ss f ls w.0 ts t (rw (w.1) at l))
+  | inl w ↦ rw (w.1) (beyond_ends bs p ss f ls w.0 ts t (rw (w.1) at l))
   | inr (inl w) ↦ rw (w.1) (beyond_closed bs p ss f ls w.0 ts t (closed_completes bs p _ w.0 ts t (rw (w.1) at l)))
-  | inr (inr e) ↦ joined_after bs p ss f ls _ t (joined_completes bs p ss f ls out tok ts t (rw e at l)) ]
+  | inr (inr e) ↦ joined_after bs p ss f ls _ t (joined_completes bs p ss f ls out tok ts t (rw e at l))
+]
 
 grown_completes : (bs : List Body) (cx : Context) (e : Element) (tok : Token) (ts : List Token) (t : Tree) → Leads (beyond_grown bs cx e tok) ts t → Grown cx bs e (tok ∷ ts) t
 grown_completes bs (start p ss) e tok ts t l = beyond_completes bs p ss e [] tok ts t l
@@ -282,8 +287,9 @@ grown_completes bs (linked p ss f ls from to) e tok ts t l = beyond_completes bs
 
 headed_completes : (bs : List Body) (cx : Context) (h : Head) (tok : Token) (ts : List Token) (t : Tree) → Leads (headed bs cx h tok) ts t → Headed cx bs h (tok ∷ ts) t
 headed_completes bs cx h tok ts t l = elim (headed_by bs cx h tok) [
-    inl w ↦ rw (w.1) (Some w.0, ts, string, from_grown bs cx _ ts t (rw (w.1) at l))
-  | inr e ↦ (None, tok ∷ ts, no_string, grown_completes bs cx _ tok ts t (rw e at l)) ]
+  | inl w ↦ rw (w.1) (Some w.0, ts, string, from_grown bs cx _ ts t (rw (w.1) at l))
+  | inr e ↦ (None, tok ∷ ts, no_string, grown_completes bs cx _ tok ts t (rw e at l))
+]
 
 -- a name is declared
 worded_declared : (bs : List Body) (cx : Context) (s d : Span) (ts : List Token) (t : Tree) → Classed cx bs s ts t → Completes (word_read bs cx s) (token.DoubleColon d ∷ ts) t
@@ -291,8 +297,9 @@ worded_declared bs cx s d ts t (c, rest, bs', r, k) = (head.Declared s c, rest, 
 
 worded_completes : (bs : List Body) (cx : Context) (s : Span) (tok : Token) (ts : List Token) (t : Tree) → Leads (worded bs cx s tok) ts t → Completes (word_read bs cx s) (tok ∷ ts) t
 worded_completes bs cx s tok ts t l = elim (worded_by bs cx s tok) [
-    inl w ↦ rw (w.1) (worded_declared bs cx s w.0 ts t (rw (w.1) at l))
-  | inr e ↦ (head.Word s, tok ∷ ts, bs, word, headed_completes bs cx _ tok ts t (rw e at l)) ]
+  | inl w ↦ rw (w.1) (worded_declared bs cx s w.0 ts t (rw (w.1) at l))
+  | inr e ↦ (head.Word s, tok ∷ ts, bs, word, headed_completes bs cx _ tok ts t (rw e at l))
+]
 
 pub step_completes : (s : State) (tok : Token) (ts : List Token) (t : Tree) → Leads (step s tok) ts t → Completes s (tok ∷ ts) t
 step_completes (between bs p ss) tok ts t l = stated_completes bs p ss tok ts t l

@@ -1,5 +1,5 @@
 -- A list of tokens that ends so has one first fault at most.
-use Rattle.std.proofs.Common.{◌≡◌, ℕ, ◌+◌, ◌-◌, ◌<◌, List, [], ◌∷◌, ◌++◌, Option, Some, None, refl, sym, ◌∙◌, ap, arith, nat_lt, append_assoc}
+use Rattle.std.proofs.Common.{◌≡◌, ℕ, List, [], ◌∷◌, ◌++◌, Option, Some, None, refl, sym, ◌∙◌, arith, append_assoc}
 use Rattle.std.proofs.lemmas.List.{append-nil}
 use Rattle.std.proofs.lemmas.Bool.Decides.{nat_tests}
 use Rattle.click_text.specs.declared.syntax.Token.{Token}
@@ -7,8 +7,8 @@ use Rattle.click_text.specs.declared.syntax.FaultKind.TheVariants as kind
 use Rattle.click_text.specs.declared.syntax.TextFault.{TextFault}
 use Rattle.click_text.specs.declared.syntax.Ending.{Ending}
 use Rattle.click_text.specs.declared.syntax.Ending.TheVariants as ending
-use Rattle.click_text.specs.Grammar.{Tree, IsText, BeginsText, NestsWithin, most_open, Brace, Opens, Closes, Neither, brace, HasRoom, depth_behind}
-use Rattle.click_text.specs.Faults.{IsFaultAmong, unexpected, too_deep, unfinished, no_piece, fault, fault_at, span_of, end_fault}
+use Rattle.click_text.specs.Grammar.{Tree, IsText, BeginsText, NestsWithin, Brace, Opens, Closes, Neither, brace, HasRoom, depth_behind}
+use Rattle.click_text.specs.Faults.{IsFaultAmong, unexpected, too_deep, unfinished, no_piece, fault_at, span_of, end_fault}
 use Rattle.click_text.specs.Machine.{State, step, finish, bind, run, advance, open_behind, open_after, Outcome, Accepted, Refused, Deep, accepted, outcome}
 use Rattle.click_text.proofs.Equal.{initial, runs_to, begins_text, ends_text, begins_none}
 

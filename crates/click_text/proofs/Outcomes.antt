@@ -1,17 +1,15 @@
 -- What the outcome of a run says of the grammar.
-use Rattle.std.proofs.Common.{◌≡◌, ℕ, ◌+◌, ◌-◌, ◌<◌, ◌≤◌, List, [], ◌∷◌, ◌++◌, length, Option, Some, None, Bool, true, false, refl, sym, ◌∙◌, ap, subst, arith, nat_lt, cond, append_assoc}
+use Rattle.std.proofs.Common.{◌≡◌, ℕ, ◌+◌, List, [], ◌∷◌, ◌++◌, Option, Some, None, Bool, true, false, refl, ◌∙◌, ap, arith, nat_lt, cond, append_assoc}
 use Rattle.std.proofs.lemmas.List.{append-nil}
 use borrow.Author.Tests.{ltb-true}
 use Rattle.std.proofs.lemmas.Bool.Decides.{nat_tests}
-use Rattle.click_text.specs.declared.syntax.Span.{Span}
 use Rattle.click_text.specs.declared.syntax.Token.{Token}
-use Rattle.click_text.specs.declared.syntax.Token.TheVariants as token
 use Rattle.click_text.specs.declared.syntax.FaultKind.TheVariants as kind
 use Rattle.click_text.specs.declared.syntax.Ending.{Ending}
 use Rattle.click_text.specs.declared.syntax.Ending.TheVariants as ending
 use Rattle.click_text.specs.Grammar.{Tree, IsText, BeginsText, NestsWithin, most_open, Brace, Opens, Closes, Neither, brace, HasRoom, depth_behind}
 use Rattle.click_text.specs.Faults.{IsFaultAmong, unexpected, too_deep, unfinished, no_piece, fault, fault_at, span_of, end_fault}
-use Rattle.click_text.specs.Machine.{State, step, finish, bind, run, advance, open_behind, open_after, Outcome, Accepted, Refused, Deep, or_refused, or_deep, accepted, outcome}
+use Rattle.click_text.specs.Machine.{State, step, finish, run, advance, open_behind, open_after, Outcome, Accepted, Refused, Deep, or_refused, or_deep, accepted, outcome}
 use Rattle.click_text.proofs.Equal.{initial, runs_to, begins_text, ends_text, begins_none, ends_none, run_append}
 
 -- where a state takes nothing more

@@ -1,4 +1,4 @@
-use Rattle.std.proofs.Common.{inr, ◌≡◌, ◌∙◌, [], refl}
+use Rattle.std.proofs.Common.{inr, ◌∙◌, [], refl}
 use Rattle.click_text.specs.Machine.{top}
 use Rattle.click_text.proofs.Steps.{at_end}
 use Rattle.click_text.proofs.Outcomes.{accepted_stuck, accepted_text}

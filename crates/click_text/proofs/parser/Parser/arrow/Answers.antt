@@ -1,4 +1,4 @@
-use Rattle.std.proofs.Common.{◌≡◌, refl}
+use Rattle.std.proofs.Common.{refl}
 use Rattle.click_text.proofs.Takes.{arrowed_by, otherwise}
 use Rattle.click_text.proofs.Steps.{taken, refused, refused_at_end}
 use Rattle.click_text.proofs.parser.Parser.arrow.Goals as goal

@@ -1,4 +1,4 @@
-use Rattle.std.proofs.Common.{◌≡◌, ◌∙◌, refl}
+use Rattle.std.proofs.Common.{◌∙◌, refl}
 use Rattle.std.proofs.lemmas.Result.{err_from_is_err_and}
 use Rattle.click_text.proofs.Takes.{begun_by, otherwise}
 use Rattle.click_text.proofs.Steps.{taken, refused, refused_at_end, stops_from}

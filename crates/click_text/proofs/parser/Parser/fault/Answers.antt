@@ -1,4 +1,4 @@
-use Rattle.std.proofs.Common.{inr, ◌≡◌}
+use Rattle.std.proofs.Common.{inr}
 use Rattle.click_text.proofs.Outcomes.{refused_end, refused_token}
 use Rattle.click_text.proofs.parser.Parser.fault.Goals as goal
 

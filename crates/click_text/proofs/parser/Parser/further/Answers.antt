@@ -1,4 +1,4 @@
-use Rattle.std.proofs.Common.{◌≡◌, ◌∙◌, refl, arith}
+use Rattle.std.proofs.Common.{◌∙◌, refl, arith}
 use Rattle.std.proofs.lemmas.Result.{err_from_is_err_and}
 use Rattle.click_text.specs.Machine.{out, into}
 use Rattle.click_text.proofs.Steps.{taken, same_step, same_end, continues, stops_from}
@@ -15,36 +15,36 @@ pub returns-in_err-from : goal.returns-in_err-from
 returns-in_err-from c =
     let r = err_from_is_err_and c.from_residual.result c.from_residual.ensures.1 in
     rw (r.1, r.2) (record {
-  goes_on = tt;
-  stops = λ n bs p ss f ls. stops_from _ _ _ _
-      (same_step n _ _ c.in-Some.token _ _ c.in-Some.ensures (continues bs p ss f ls c.in-Some.token (λ w. c.in_default-token.not-Semicolon w.0 w.1)))
-      (c.in_err-from.ensures.stops n bs p ss f ls out);
-  shorter = tt;
-})
+      goes_on = tt;
+      stops = λ n bs p ss f ls. stops_from _ _ _ _
+          (same_step n _ _ c.in-Some.token _ _ c.in-Some.ensures (continues bs p ss f ls c.in-Some.token (λ w. c.in_default-token.not-Semicolon w.0 w.1)))
+          (c.in_err-from.ensures.stops n bs p ss f ls out);
+      shorter = tt;
+    })
 
 pub returns-in_err-arrow : goal.returns-in_err-arrow
 returns-in_err-arrow c =
     let r = err_from_is_err_and c.from_residual-in_err-arrow.result c.from_residual-in_err-arrow.ensures.1 in
     rw (r.1, r.2) (record {
-  goes_on = tt;
-  stops = λ n bs p ss f ls. stops_from _ _ _ _
-      (same_step n _ _ c.in-Some.token _ _ c.in-Some.ensures (continues bs p ss f ls c.in-Some.token (λ w. c.in_default-token.not-Semicolon w.0 w.1))
-      ∙ c.in_ok-from.ensures.goes_on n bs p ss f ls out)
-      (c.in_err-arrow.ensures.stops n bs p ss f ls c.in_ok-from.from);
-  shorter = tt;
-})
+      goes_on = tt;
+      stops = λ n bs p ss f ls. stops_from _ _ _ _
+          (same_step n _ _ c.in-Some.token _ _ c.in-Some.ensures (continues bs p ss f ls c.in-Some.token (λ w. c.in_default-token.not-Semicolon w.0 w.1))
+          ∙ c.in_ok-from.ensures.goes_on n bs p ss f ls out)
+          (c.in_err-arrow.ensures.stops n bs p ss f ls c.in_ok-from.from);
+      shorter = tt;
+    })
 
 pub returns-in_err-to : goal.returns-in_err-to
 returns-in_err-to c =
     let r = err_from_is_err_and c.from_residual-in_err-to.result c.from_residual-in_err-to.ensures.1 in
     rw (r.1, r.2) (record {
-  goes_on = tt;
-  stops = λ n bs p ss f ls. stops_from _ _ _ _
-      (same_step n _ _ c.in-Some.token _ _ c.in-Some.ensures (continues bs p ss f ls c.in-Some.token (λ w. c.in_default-token.not-Semicolon w.0 w.1))
-      ∙ c.in_ok-from.ensures.goes_on n bs p ss f ls out ∙ c.in_ok-arrow.ensures.goes_on n bs p ss f ls c.in_ok-from.from)
-      (c.in_err-to.ensures.stops n bs p ss f ls (into c.in_ok-from.from));
-  shorter = tt;
-})
+      goes_on = tt;
+      stops = λ n bs p ss f ls. stops_from _ _ _ _
+          (same_step n _ _ c.in-Some.token _ _ c.in-Some.ensures (continues bs p ss f ls c.in-Some.token (λ w. c.in_default-token.not-Semicolon w.0 w.1))
+          ∙ c.in_ok-from.ensures.goes_on n bs p ss f ls out ∙ c.in_ok-arrow.ensures.goes_on n bs p ss f ls c.in_ok-from.from)
+          (c.in_err-to.ensures.stops n bs p ss f ls (into c.in_ok-from.from));
+      shorter = tt;
+    })
 
 pub returns : goal.returns
 returns c = record {

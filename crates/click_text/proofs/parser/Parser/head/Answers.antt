@@ -1,4 +1,4 @@
-use Rattle.std.proofs.Common.{◌≡◌, ◌∙◌, refl, arith}
+use Rattle.std.proofs.Common.{◌∙◌, refl, arith}
 use Rattle.std.proofs.lemmas.Result.{err_from_is_err_and}
 use Rattle.click_text.proofs.Takes.{worded_by, otherwise}
 use Rattle.click_text.proofs.Steps.{taken, same_step, same_end, stops_from}

@@ -1,4 +1,4 @@
-use Rattle.std.proofs.Common.{◌≡◌, Some, None, refl}
+use Rattle.std.proofs.Common.{Some, refl}
 use Rattle.click_text.proofs.Takes.{numbered_by, otherwise}
 use Rattle.click_text.proofs.Steps.{taken, refused, refused_at_end}
 use Rattle.click_text.proofs.parser.Parser.number.Goals as goal

@@ -1,4 +1,4 @@
-use Rattle.std.proofs.Common.{◌≡◌, ◌∙◌, None, refl, sym, arith}
+use Rattle.std.proofs.Common.{◌∙◌, None, refl, sym, arith}
 use Rattle.std.proofs.lemmas.Result.{err_from_is_err_and}
 use Rattle.click_text.proofs.Equal.{step_ported, finish_ported}
 use Rattle.click_text.proofs.Takes.{joined_by, bracketed_by, otherwise}
@@ -35,7 +35,7 @@ returns-in_default-token-2 c = record {
       (rw c.skip.ensures (taken n n _ _ c.in-Some.token _ _ c.in-Some.ensures (rw c.in-OpenBracket.is refl) (rw c.in-OpenBracket.is refl)))
       ∙ c.in_ok-number.ensures.goes_on n bs p ss f ls side c.in-OpenBracket.bracket
       ∙ refused n _ c.in-Some-peek.token _ _ c.in-Some-peek.ensures
-        (otherwise (bracketed_by bs p ss f ls side c.in-OpenBracket.bracket c.in_ok-number.number c.in-Some-peek.token) (λ w. c.in_default-token-2.not-CloseBracket w.0 w.1));
+      (otherwise (bracketed_by bs p ss f ls side c.in-OpenBracket.bracket c.in_ok-number.number c.in-Some-peek.token) (λ w. c.in_default-token-2.not-CloseBracket w.0 w.1));
   shorter = tt;
 }
 

@@ -1,4 +1,4 @@
-use Rattle.std.proofs.Common.{◌≡◌, ◌∙◌, refl}
+use Rattle.std.proofs.Common.{◌∙◌, refl}
 use Rattle.std.proofs.lemmas.Result.{err_from_is_err_and}
 use Rattle.click_text.specs.Machine.{between, element_wanted, start}
 use Rattle.click_text.proofs.Steps.{taken, same_step, begins, stops_from}
@@ -12,12 +12,12 @@ pub returns-in_err-chain-in_default-token : goal.returns-in_err-chain-in_default
 returns-in_err-chain-in_default-token c =
     let r = err_from_is_err_and c.from_residual.result c.from_residual.ensures.1 in
     rw (r.1, r.2) (record {
-  goes_on = tt;
-  stops = λ n bs p. stops_from _ _ _ _
-      (c.rows.invariant n bs p
-      ∙ same_step n (between bs p c.rows.statements) (element_wanted bs (start p c.rows.statements)) c.in-Some.token _ _ c.in-Some.ensures (begins bs p c.rows.statements c.in-Some.token (λ w. c.in_default-token.not-Semicolon w.0 w.1)))
-      (c.in_err-chain-in_default-token.ensures.stops n bs p c.rows.statements);
-})
+      goes_on = tt;
+      stops = λ n bs p. stops_from _ _ _ _
+          (c.rows.invariant n bs p
+          ∙ same_step n (between bs p c.rows.statements) (element_wanted bs (start p c.rows.statements)) c.in-Some.token _ _ c.in-Some.ensures (begins bs p c.rows.statements c.in-Some.token (λ w. c.in_default-token.not-Semicolon w.0 w.1)))
+          (c.in_err-chain-in_default-token.ensures.stops n bs p c.rows.statements);
+    })
 
 pub rows-preserved : goal.rows-preserved
 rows-preserved c = λ n bs p.

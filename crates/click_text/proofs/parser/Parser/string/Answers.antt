@@ -1,4 +1,4 @@
-use Rattle.std.proofs.Common.{◌≡◌, ◌∙◌, None, refl, sym, arith}
+use Rattle.std.proofs.Common.{◌∙◌, None, refl, sym, arith}
 use Rattle.click_text.specs.Grammar.{element}
 use Rattle.click_text.proofs.Equal.{step_grown, finish_grown}
 use Rattle.click_text.proofs.Takes.{headed_by, otherwise}
