@@ -1,5 +1,6 @@
 pub mod Faults
 pub mod Grammar
+pub mod Machine
 pub mod Pieces
 pub mod Spans
 pub mod Spelling

@@ -1,0 +1,5 @@
+pub mod Takes
+pub mod Equal
+pub mod Outcomes
+pub mod Steps
+pub mod OneFault

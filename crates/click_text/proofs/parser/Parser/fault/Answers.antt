@@ -1,0 +1,9 @@
+use Rattle.std.proofs.Common.{inr}
+use Rattle.click_text.proofs.Outcomes.{refused_end, refused_token}
+use Rattle.click_text.proofs.parser.Parser.fault.Goals as goal
+
+pub returns-in-None : goal.returns-in-None
+returns-in-None c = λ ts h. inr (rw c.fault.ensures (refused_end c.args.size ts c.args.ending (rw (c.in-Unexpected.is, c.in-None.ensures) at h)))
+
+pub returns-in-Some : goal.returns-in-Some
+returns-in-Some c = λ ts h. inr (rw c.span.ensures (refused_token c.args.size ts _ c.in-Some.token c.args.ending (rw (c.in-Unexpected.is, c.in-Some.ensures) at h)))
