@@ -6,12 +6,15 @@ ghost use Rattle.click_text.specs.declared.syntax.Config.{Config};
 ghost use Rattle.click_text.specs.Faults.{IsMemoryOr};
 ghost use Rattle.click_text.specs.Spelling.{longest_text, too_large, Spells, IsAnswered, IsGiven};
 
+pub mod laws;
 pub mod lexer;
 pub mod parser;
 pub mod sequence;
 pub mod strings;
 pub mod syntax;
 
+use lexer::scan;
+use parser::config_of;
 use std::alloc::Global;
 use syntax::{Config, TextFault};
 
@@ -32,5 +35,6 @@ pub fn parse(alloc: Global, text: &[u8]) -> Result<Config, TextFault>
     if text.len() > LONGEST_TEXT {
         return Err(TextFault::too_large());
     }
-    Err(TextFault::no_memory())
+    let (tokens, ending) = scan(alloc, text)?;
+    config_of(alloc, text, &tokens, ending)
 }
