@@ -1,9 +1,9 @@
 //! The pieces of a text: white space, comments and tokens.
 
-ghost use Rattle.std.specs.Prelude.{◌≡◌, ◌<◌, ◌≤◌, ◌+◌, ◌↔◌, ℕ, length, take, slice_index, IfOk, IfSome, IfNone, IsTrue, true, false};
+ghost use Rattle.std.specs.Prelude.{◌≡◌, ◌<◌, ◌≤◌, ◌+◌, ◌^◌, ◌↔◌, ℕ, List, eqb, if◌then◌else◌, length, take, slice_index, IfOk, IfSome, IfNone, None, IsTrue, true, false};
 ghost use Rattle.std.specs.List.{list_all};
 ghost use Rattle.click_text.specs.Marks.{mark_of};
-ghost use Rattle.click_text.specs.Pieces.{white, digit, name_byte, word_byte, line_byte, is_word, ends_comment, IsPiece, Longest, NoPiece, port_of, token_of, piece_fault, Reads, IsBlank};
+ghost use Rattle.click_text.specs.Pieces.{white, digit, name_byte, word_byte, is_word, ends_comment, IsPiece, Longest, NoPiece, port_of, token_of, piece_fault, Reads, IsBlank};
 
 use crate::strings::string_len;
 use crate::syntax::{Ending, FaultKind, Span, TextFault, Token};
@@ -59,7 +59,7 @@ impl Piece {
 
     /// The piece is white space or a comment, which has no token.
     fn is_blank(self) -> bool
-        ensures { result ≡ has_no_token self }
+        ensures { (bytes : List ℕ) (span : Span) → IsTrue result ↔ (token_of self bytes span ≡ None) }
     {
         match self {
             Piece::Blank | Piece::LineComment | Piece::BlockComment => true,
@@ -94,7 +94,8 @@ fn is_word_byte(byte: u8) -> bool
 
 /// A word byte stands there.
 fn is_word_at(text: &[u8], at: usize) -> bool
-    ensures { result ≡ word_byte (slice_index text.now at) }
+    ensures byte { result ≡ word_byte (slice_index text.now at) }
+    ensures within { IsTrue result → at < length text.now }
 {
     at < text.len() && is_word_byte(text[at])
 }
@@ -121,19 +122,25 @@ fn word_len(text: &[u8]) -> usize
     len
 }
 
+/// The bytes are all digits.
+fn are_digits(bytes: &[u8]) -> bool
+    ensures { result ≡ list_all digit bytes.now }
+{
+    bytes.iter().all(|byte| is_digit(*byte))
+}
+
 /// What a word is that ends where it must.
 fn word_kind(word: &[u8]) -> Piece
     requires { is_word word.now ≡ true }
     ensures { IsPiece result word.now }
-    ensures family { family result ≡ Piece.Word }
 {
-    if word.iter().all(|byte| is_digit(*byte)) {
+    if are_digits(word) {
         return Piece::Number;
     }
-    if word == b"elementclass" {
+    if word == b"elementclass".as_slice() {
         return Piece::Elementclass;
     }
-    if word == b"require" {
+    if word == b"require".as_slice() {
         return Piece::Require;
     }
     Piece::Word
@@ -156,8 +163,8 @@ fn name_len(text: &[u8]) -> usize
 /// How many bytes stand before the next LF, or before the end.
 fn line_len(text: &[u8]) -> usize
     ensures within { result ≤ length text.now }
-    ensures all { list_all in_line (take result text.now) ≡ true }
-    ensures most { result < length text.now → in_line (slice_index text.now result) ≡ false }
+    ensures all { list_all (λ b. if eqb b 10 then false else true) (take result text.now) ≡ true }
+    ensures most { result < length text.now → slice_index text.now result ≡ 10 }
 {
     for (i, byte) in text.iter().enumerate() {
         if *byte == b'\n' {
@@ -260,6 +267,34 @@ fn string(text: &[u8]) -> Option<(Piece, usize)>
     Some((Piece::String, 1 + len))
 }
 
+/// The `::` that begins a text, which begins with `:`.
+fn double_colon(text: &[u8]) -> Option<(Piece, usize)>
+    requires some { 0 < length text.now }
+    requires first { slice_index text.now 0 ≡ 58 }
+    ensures some { IfSome result (λ found. Longest text.now found.0 found.1) }
+    ensures none { IfNone result (NoPiece text.now) }
+    ensures progress { IfSome result (λ found. 0 < found.1) }
+{
+    if text.len() > 1 && text[1] == b':' {
+        return Some((Piece::DoubleColon, 2));
+    }
+    None
+}
+
+/// The `->` that begins a text, which begins with `-`.
+fn arrow(text: &[u8]) -> Option<(Piece, usize)>
+    requires some { 0 < length text.now }
+    requires first { slice_index text.now 0 ≡ 45 }
+    ensures some { IfSome result (λ found. Longest text.now found.0 found.1) }
+    ensures none { IfNone result (NoPiece text.now) }
+    ensures progress { IfSome result (λ found. 0 < found.1) }
+{
+    if text.len() > 1 && text[1] == b'>' {
+        return Some((Piece::Arrow, 2));
+    }
+    None
+}
+
 /// The longest piece that begins a text, and its length.
 fn first_piece(text: &[u8]) -> Option<(Piece, usize)>
     requires { 0 < length text.now }
@@ -278,34 +313,67 @@ fn first_piece(text: &[u8]) -> Option<(Piece, usize)>
     if let Some(piece) = mark(byte) {
         return Some((piece, 1));
     }
-    if byte == b'/' {
-        return comment(text);
+    match byte {
+        b'/' => comment(text),
+        b'$' => formal(text),
+        b'(' => string(text),
+        b':' => double_colon(text),
+        b'-' => arrow(text),
+        _ => None,
     }
-    if byte == b'$' {
-        return formal(text);
-    }
-    if byte == b'(' {
-        return string(text);
-    }
-    pair(text)
 }
 
-/// The `::` or the `->` that begins a text.
-fn pair(text: &[u8]) -> Option<(Piece, usize)>
+/// What is wrong at a place where these bytes follow, which no piece begins.
+fn fault_at(at: usize, text: &[u8]) -> Ending
     requires some { 0 < length text.now }
-    requires pair { begins text.now ≡ pair_of (slice_index text.now 0) (slice_index text.now 1) }
-    ensures some { IfSome result (λ found. Longest text.now found.0 found.1) }
-    ensures none { IfNone result (NoPiece text.now) }
-    ensures progress { IfSome result (λ found. 0 < found.1) }
+    requires fits { at + length text.now < 2 ^ 64 }
+    ensures { result ≡ piece_fault at text.now }
 {
-    if text.len() < 2 {
-        return None;
+    let end = at + text.len();
+    let (kind, end) = if text.len() > 1 && text[0] == b'/' && text[1] == b'*' {
+        (FaultKind::UnclosedComment, end)
+    } else if text[0] == b'(' {
+        (FaultKind::UnclosedString, end)
+    } else {
+        (FaultKind::BadByte, at + 1)
+    };
+    let span = Span { start: at, end };
+    Ending::Stuck(TextFault { kind, span })
+}
+
+/// The tokens of a text up to its end, or up to the first place where no piece begins.
+pub fn scan(alloc: Global, text: &[u8]) -> Result<(Vec<Token>, Ending), AllocError>
+    ensures { IfOk result (λ r. Reads 0 text.now r.0.items r.1) }
+{
+    let mut tokens = Vec::new(alloc);
+    let mut at = 0;
+    'pieces: while at < text.len() {
+        let rest = &text[at..];
+        let Some((piece, len)) = first_piece(rest) else {
+            return Ok((tokens, fault_at(at, rest)));
+        };
+        let end = at + len;
+        if let Some(token) = piece.token(&rest[..len], Span { start: at, end }) {
+            tokens.push(token)?;
+        }
+        at = end;
     }
-    if text[0] == b':' && text[1] == b':' {
-        return Some((Piece::DoubleColon, 2));
+    Ok((tokens, Ending::Whole))
+}
+
+/// White space and comments alone.
+pub fn is_blank(text: &[u8]) -> bool
+    ensures { IsTrue result ↔ IsBlank text.now }
+{
+    let mut at = 0;
+    'pieces: while at < text.len() {
+        let Some((piece, len)) = first_piece(&text[at..]) else {
+            return false;
+        };
+        if !piece.is_blank() {
+            return false;
+        }
+        at += len;
     }
-    if text[0] == b'-' && text[1] == b'>' {
-        return Some((Piece::Arrow, 2));
-    }
-    None
+    true
 }
