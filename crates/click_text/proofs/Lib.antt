@@ -1,5 +1,11 @@
-pub mod Takes
+pub mod Beginnings
+pub mod Closing
 pub mod Equal
-pub mod Outcomes
-pub mod Steps
+pub mod Given
+pub mod Longest
 pub mod OneFault
+pub mod Outcomes
+pub mod Reading
+pub mod Steps
+pub mod Takes
+pub mod Words

@@ -1,6 +1,7 @@
 pub mod Faults
 pub mod Grammar
 pub mod Machine
+pub mod Marks
 pub mod Pieces
 pub mod Spans
 pub mod Spelling
