@@ -1,16 +1,16 @@
 -- Which piece begins a text, and how long it is.
-use Rattle.std.proofs.Common.{◌≡◌, ◌≢◌, ℕ, zero, suc, ◌+◌, ◌-◌, ◌<◌, ◌≤◌, List, [], ◌∷◌, ◌++◌, length, get_or, take, drop, Bool, true, false, eqb, cond, Option, Some, None, refl, sym, ◌∙◌, ap, subst, arith, inl, inr, ◌⊎◌, length-take}
+use Rattle.std.proofs.Common.{◌≡◌, ◌≢◌, ℕ, zero, suc, ◌+◌, ◌<◌, ◌≤◌, List, [], ◌∷◌, length, get_or, take, drop, Bool, true, false, eqb, Option, Some, None, refl, sym, ◌∙◌, ap, subst, arith, inl, inr, ◌⊎◌, length-take}
 use Rattle.std.specs.Prelude.{if◌then◌else◌, IfNone}
 use Rattle.std.specs.List.{list_all}
 use Rattle.std.proofs.lemmas.Bool.{false≢true, cases_Bool, eqb-true, ne_eqb}
-use Rattle.std.proofs.lemmas.List.{take_all, get_or_past}
+use Rattle.std.proofs.lemmas.List.{get_or_past}
 use Rattle.click_text.specs.declared.lexer.Piece.{Piece}
 use Rattle.click_text.specs.declared.lexer.Piece.TheVariants as piece
 use Rattle.click_text.specs.declared.strings.Mode.TheVariants as mode
 use Rattle.click_text.specs.Strings.{closes}
 use Rattle.click_text.specs.Marks.{mark_of}
 use Rattle.click_text.specs.Pieces.{white, name_byte, word_byte, is_word, ends_comment, IsPiece, Longest, NoPiece}
-use Rattle.click_text.proofs.Beginnings.{family, begins, begin_of, pair_of, begins_as, alone, word_form, no_piece, kind_from}
+use Rattle.click_text.proofs.Beginnings.{family, begins, begins_as, word_form, no_piece, kind_from}
 use Rattle.click_text.proofs.Words.{front_splits, run_ends}
 use Rattle.click_text.proofs.Closing.{closes_once, ends_once}
 

@@ -329,11 +329,10 @@ fn fault_at(at: usize, text: &[u8]) -> Ending
     requires fits { at + length text.now < 2 ^ 64 }
     ensures { result ≡ piece_fault at text.now }
 {
-    let end = at + text.len();
     let (kind, end) = if text.len() > 1 && text[0] == b'/' && text[1] == b'*' {
-        (FaultKind::UnclosedComment, end)
+        (FaultKind::UnclosedComment, at + text.len())
     } else if text[0] == b'(' {
-        (FaultKind::UnclosedString, end)
+        (FaultKind::UnclosedString, at + text.len())
     } else {
         (FaultKind::BadByte, at + 1)
     };

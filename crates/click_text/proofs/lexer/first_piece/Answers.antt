@@ -1,4 +1,4 @@
-use Rattle.std.proofs.Common.{◌≡◌, sym, ◌∙◌, arith}
+use Rattle.std.proofs.Common.{sym, ◌∙◌, arith}
 use Rattle.click_text.proofs.Longest.{longest_blank, longest_word, longest_mark, no_beginning}
 use Rattle.click_text.proofs.lexer.first_piece.Goals as goal
 

@@ -1,6 +1,5 @@
-use Rattle.std.proofs.Common.{◌≡◌, ◌<◌, length, get_or, drop, false, sym, arith}
+use Rattle.std.proofs.Common.{arith}
 use Rattle.std.proofs.lemmas.List.{take_rest}
-use Rattle.click_text.specs.Pieces.{name_byte}
 use Rattle.click_text.proofs.Longest.{longest_formal, no_formal}
 use Rattle.click_text.proofs.lexer.formal.Goals as goal
 

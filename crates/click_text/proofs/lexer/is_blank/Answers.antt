@@ -1,8 +1,8 @@
-use Rattle.std.proofs.Common.{◌≡◌, ◌+◌, ◌-◌, ◌∙◌, sym, refl, arith, drop, take, length, None, [], length-drop, IsTrue, false}
+use Rattle.std.proofs.Common.{◌≡◌, ◌+◌, ◌∙◌, sym, refl, arith, drop, take, None, [], length-drop}
 use Rattle.std.proofs.lemmas.Bool.{false≢true}
 use Rattle.std.proofs.lemmas.List.{drop-drop, drop_all}
 use Rattle.click_text.specs.declared.syntax.Ending.TheVariants as ending
-use Rattle.click_text.specs.Pieces.{Reads, ends, passes, token_of, span}
+use Rattle.click_text.specs.Pieces.{ends, passes, token_of, span}
 use Rattle.click_text.proofs.Reading.{none_tail, longest_tail, reads_behind, takes_some, not_whole}
 use Rattle.click_text.proofs.lexer.is_blank.Goals as goal
 
