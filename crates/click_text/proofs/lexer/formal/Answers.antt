@@ -15,4 +15,4 @@ returns-clause-some c =
     let e = c.name_len-len.ensures in
     let n = c.if-len-eq0.false in
     longest_formal text c.name_len-len.result c.requires.some c.requires.first (omega arith)
-      (rw (take_rest text 1) at e.within) (rw (take_rest text 1) at e.all) (rw (take_rest text 1) at e.most)
+    (rw (take_rest text 1) at e.within) (rw (take_rest text 1) at e.all) (rw (take_rest text 1) at e.most)
