@@ -1,6 +1,6 @@
 -- The first two bytes of a piece say of what kind it is, but for the kinds that word bytes spell.
-use Rattle.std.proofs.Common.{◌≡◌, ◌≢◌, ℕ, zero, suc, ◌+◌, ◌<◌, ◌≤◌, List, [], ◌∷◌, ◌++◌, length, get_or, take, drop, Bool, true, false, ◌&&◌, eqb, Option, Some, None, refl, sym, ◌∙◌, ap, arith, length-take}
-use Rattle.std.specs.Prelude.{codes, if◌then◌else◌}
+use Rattle.std.proofs.Common.{◌≡◌, ◌≢◌, ℕ, ◌<◌, List, [], ◌∷◌, ◌++◌, length, get_or, take, drop, true, false, ◌&&◌, eqb, Option, Some, None, refl, sym, arith}
+use Rattle.std.specs.Prelude.{if◌then◌else◌}
 use Rattle.std.specs.List.{list_all}
 use Rattle.std.specs.Option.{option_or}
 use Rattle.std.proofs.lemmas.Bool.{false≢true, and_parts}
@@ -9,7 +9,7 @@ use Rattle.std.proofs.lemmas.List.{take-append-drop}
 use Rattle.click_text.specs.declared.lexer.Piece.{Piece}
 use Rattle.click_text.specs.declared.lexer.Piece.TheVariants as piece
 use Rattle.click_text.specs.Marks.{mark_of}
-use Rattle.click_text.specs.Pieces.{white, digit, name_byte, word_byte, is_word, IsPiece, NoPiece}
+use Rattle.click_text.specs.Pieces.{white, digit, word_byte, is_word, IsPiece, NoPiece}
 
 -- `Word` for each kind that word bytes spell
 abbrev pub family : Piece → Piece

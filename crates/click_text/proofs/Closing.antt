@@ -1,5 +1,5 @@
 -- What is closed closes nothing longer: configuration strings and comments.
-use Rattle.std.proofs.Common.{◌≡◌, ℕ, List, [], ◌∷◌, ◌++◌, Bool, true, false, ◌&&◌, eqb, refl, inl, inr}
+use Rattle.std.proofs.Common.{◌≡◌, ℕ, List, [], ◌∷◌, ◌++◌, true, false, ◌&&◌, eqb, refl, inl, inr}
 use Rattle.std.proofs.lemmas.Bool.{false≢true, cases_Bool}
 use Rattle.click_text.specs.declared.strings.Mode.{Mode}
 use Rattle.click_text.specs.Strings.{mode_after, depth_after, is_last, closes}

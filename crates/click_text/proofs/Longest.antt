@@ -1,16 +1,16 @@
 -- Which piece begins a text, and how long it is.
-use Rattle.std.proofs.Common.{◌≡◌, ◌≢◌, ℕ, zero, suc, ◌+◌, ◌-◌, ◌<◌, ◌≤◌, List, [], ◌∷◌, ◌++◌, length, get_or, take, drop, Bool, true, false, eqb, cond, Option, Some, None, refl, sym, ◌∙◌, ap, subst, arith, inl, inr, ◌⊎◌, length-take}
+use Rattle.std.proofs.Common.{◌≡◌, ◌≢◌, ℕ, zero, suc, ◌+◌, ◌<◌, ◌≤◌, List, [], ◌∷◌, length, get_or, take, drop, Bool, true, false, eqb, Option, Some, None, refl, sym, ◌∙◌, ap, subst, arith, inl, inr, ◌⊎◌, length-take}
 use Rattle.std.specs.Prelude.{if◌then◌else◌, IfNone}
 use Rattle.std.specs.List.{list_all}
 use Rattle.std.proofs.lemmas.Bool.{false≢true, cases_Bool, eqb-true, ne_eqb}
-use Rattle.std.proofs.lemmas.List.{take_all, get_or_past}
+use Rattle.std.proofs.lemmas.List.{get_or_past}
 use Rattle.click_text.specs.declared.lexer.Piece.{Piece}
 use Rattle.click_text.specs.declared.lexer.Piece.TheVariants as piece
 use Rattle.click_text.specs.declared.strings.Mode.TheVariants as mode
 use Rattle.click_text.specs.Strings.{closes}
 use Rattle.click_text.specs.Marks.{mark_of}
 use Rattle.click_text.specs.Pieces.{white, name_byte, word_byte, is_word, ends_comment, IsPiece, Longest, NoPiece}
-use Rattle.click_text.proofs.Beginnings.{family, begins, begin_of, pair_of, begins_as, alone, word_form, no_piece, kind_from}
+use Rattle.click_text.proofs.Beginnings.{family, begins, begins_as, word_form, no_piece, kind_from}
 use Rattle.click_text.proofs.Words.{front_splits, run_ends}
 use Rattle.click_text.proofs.Closing.{closes_once, ends_once}
 
@@ -100,18 +100,25 @@ mark_is : (b : ℕ) (k : Piece) → mark_of b ≡ Some k → IsMark b k
 mark_is b k h = elim (pick b 59 piece.Semicolon k _ h) [
   | inl e ↦ mark_at b 59 piece.Semicolon k (refl, refl) e
   | inr h ↦ elim (pick b 44 piece.Comma k _ h) [
-  | inl e ↦ mark_at b 44 piece.Comma k (refl, refl) e
-  | inr h ↦ elim (pick b 91 piece.OpenBracket k _ h) [
-  | inl e ↦ mark_at b 91 piece.OpenBracket k (refl, refl) e
-  | inr h ↦ elim (pick b 93 piece.CloseBracket k _ h) [
-  | inl e ↦ mark_at b 93 piece.CloseBracket k (refl, refl) e
-  | inr h ↦ elim (pick b 123 piece.Open k _ h) [
-  | inl e ↦ mark_at b 123 piece.Open k (refl, refl) e
-  | inr h ↦ elim (pick b 125 piece.Close k _ h) [
-  | inl e ↦ mark_at b 125 piece.Close k (refl, refl) e
-  | inr h ↦ elim (pick b 124 piece.Bar k _ h) [
-  | inl e ↦ mark_at b 124 piece.Bar k (refl, refl) e
-  | inr h ↦ cc ] ] ] ] ] ] ]
+    | inl e ↦ mark_at b 44 piece.Comma k (refl, refl) e
+    | inr h ↦ elim (pick b 91 piece.OpenBracket k _ h) [
+      | inl e ↦ mark_at b 91 piece.OpenBracket k (refl, refl) e
+      | inr h ↦ elim (pick b 93 piece.CloseBracket k _ h) [
+        | inl e ↦ mark_at b 93 piece.CloseBracket k (refl, refl) e
+        | inr h ↦ elim (pick b 123 piece.Open k _ h) [
+          | inl e ↦ mark_at b 123 piece.Open k (refl, refl) e
+          | inr h ↦ elim (pick b 125 piece.Close k _ h) [
+            | inl e ↦ mark_at b 125 piece.Close k (refl, refl) e
+            | inr h ↦ elim (pick b 124 piece.Bar k _ h) [
+              | inl e ↦ mark_at b 124 piece.Bar k (refl, refl) e
+              | inr h ↦ cc
+            ]
+          ]
+        ]
+      ]
+    ]
+  ]
+]
 
 pub longest_mark : (text : List ℕ) (k : Piece) → 0 < length text → white (get_or text 0 0) ≡ false → word_byte (get_or text 0 0) ≡ false → mark_of (get_or text 0 0) ≡ Some k → Longest text k 1
 longest_mark [] k z w v h = absurd (omega arith)
@@ -122,12 +129,12 @@ longest_mark (x ∷ r) k z w v h =
 pub longest_colons : (text : List ℕ) → 1 < length text → get_or text 0 0 ≡ 58 → get_or text 1 0 ≡ 58 → Longest text piece.DoubleColon 2
 longest_colons text z e f =
     subst (λ t. Longest t piece.DoubleColon 2) (sym (as_two text 58 58 z e f))
-      (longest_sized (58 ∷ 58 ∷ drop 2 text) piece.DoubleColon 2 refl (omega arith) refl (omega arith) refl)
+    (longest_sized (58 ∷ 58 ∷ drop 2 text) piece.DoubleColon 2 refl (omega arith) refl (omega arith) refl)
 
 pub longest_arrow : (text : List ℕ) → 1 < length text → get_or text 0 0 ≡ 45 → get_or text 1 0 ≡ 62 → Longest text piece.Arrow 2
 longest_arrow text z e f =
     subst (λ t. Longest t piece.Arrow 2) (sym (as_two text 45 62 z e f))
-      (longest_sized (45 ∷ 62 ∷ drop 2 text) piece.Arrow 2 refl (omega arith) refl (omega arith) refl)
+    (longest_sized (45 ∷ 62 ∷ drop 2 text) piece.Arrow 2 refl (omega arith) refl (omega arith) refl)
 
 -- words
 pub longest_word : (text : List ℕ) (k : Piece) (n : ℕ) → white (get_or text 0 0) ≡ false → word_byte (get_or text 0 0) ≡ true → n ≤ length text → IsPiece k (take n text) → ((m : ℕ) → n < m → m ≤ length text → is_word (take m text) ≡ false) → Longest text k n
@@ -135,10 +142,10 @@ longest_word text k n w v l f g = record {
   within = l;
   form = f;
   longest = λ j m h i p.
-    let b : begins text ≡ Some piece.Word = rw (w, v) refl in
-    let e = begins_as j text m p in
-    let d : family j ≡ piece.Word = cc in
-    false≢true (sym (g m h i) ∙ word_form j (take m text) d p);
+      let b : begins text ≡ Some piece.Word = rw (w, v) refl in
+      let e = begins_as j text m p in
+      let d : family j ≡ piece.Word = cc in
+      false≢true (sym (g m h i) ∙ word_form j (take m text) d p);
 }
 
 -- formals
@@ -157,8 +164,8 @@ longest_formal text n z e p l a g =
     let r = drop 1 text in
     let s : 1 + n ≡ suc n = omega arith in
     rw s (subst (λ t. Longest t piece.Formal (suc n)) (sym (as_one text 36 z e))
-      (longest_of (36 ∷ r) piece.Formal (suc n) refl (λ x. cc) (omega arith) (take n r, refl, (omega (arith, length-take n r), a))
-      (λ m h i. formal_longer r n m g h i)))
+    (longest_of (36 ∷ r) piece.Formal (suc n) refl (λ x. cc) (omega arith) (take n r, refl, (omega (arith, length-take n r), a))
+    (λ m h i. formal_longer r n m g h i)))
 
 no_name : (r : List ℕ) (m : ℕ) → (0 < length r → name_byte (get_or r 0 0) ≡ false) → m ≤ length (36 ∷ r) → IsPiece piece.Formal (take m (36 ∷ r)) → ⊥
 no_name r zero g l (q, e, (z, a)) = cc
@@ -168,7 +175,7 @@ no_name r (suc (suc m)) g l p = formal_more r 0 (suc m) g (omega arith) (omega a
 pub no_formal : (text : List ℕ) → 0 < length text → get_or text 0 0 ≡ 36 → (0 < length (drop 1 text) → name_byte (get_or (drop 1 text) 0 0) ≡ false) → NoPiece text
 no_formal text z e g =
     subst (λ t. NoPiece t) (sym (as_one text 36 z e))
-      (none_of (36 ∷ drop 1 text) piece.Formal refl (λ x. cc) (λ m l. no_name (drop 1 text) m g l))
+    (none_of (36 ∷ drop 1 text) piece.Formal refl (λ x. cc) (λ m l. no_name (drop 1 text) m g l))
 
 -- strings
 string_closes : (r q : List ℕ) → 40 ∷ r ≡ 40 ∷ q → closes mode.Plain 1 q ≡ true → closes mode.Plain 1 r ≡ true
@@ -187,8 +194,8 @@ longest_string text n z e l c =
     let r = drop 1 text in
     let s : 1 + n ≡ suc n = omega arith in
     rw s (subst (λ t. Longest t piece.String (suc n)) (sym (as_one text 40 z e))
-      (longest_of (40 ∷ r) piece.String (suc n) refl (λ x. cc) (omega arith) (take n r, refl, c)
-      (λ m h i. string_longer r n m c h i)))
+    (longest_of (40 ∷ r) piece.String (suc n) refl (λ x. cc) (omega arith) (take n r, refl, c)
+    (λ m h i. string_longer r n m c h i)))
 
 never_closed : (r : List ℕ) (m : ℕ) → ((n : ℕ) → n ≤ length r → closes mode.Plain 1 (take n r) ≡ false) → m ≤ length (40 ∷ r) → IsPiece piece.String (take m (40 ∷ r)) → ⊥
 never_closed r zero g l (q, e, c) = cc
@@ -197,7 +204,7 @@ never_closed r (suc m) g l (q, e, c) = false≢true (sym (g m (omega arith)) ∙
 pub no_string : (text : List ℕ) → 0 < length text → get_or text 0 0 ≡ 40 → ((n : ℕ) → n ≤ length (drop 1 text) → closes mode.Plain 1 (take n (drop 1 text)) ≡ false) → NoPiece text
 no_string text z e g =
     subst (λ t. NoPiece t) (sym (as_one text 40 z e))
-      (none_of (40 ∷ drop 1 text) piece.String refl (λ x. cc) (λ m l. never_closed (drop 1 text) m g l))
+    (none_of (40 ∷ drop 1 text) piece.String refl (λ x. cc) (λ m l. never_closed (drop 1 text) m g l))
 
 -- comments up to the end of the line
 abbrev in_line : ℕ → Bool
@@ -218,8 +225,8 @@ longest_line text n z e f l a g =
     let r = drop 2 text in
     let s : 2 + n ≡ suc (suc n) = omega arith in
     rw s (subst (λ t. Longest t piece.LineComment (suc (suc n))) (sym (as_two text 47 47 z e f))
-      (longest_of (47 ∷ 47 ∷ r) piece.LineComment (suc (suc n)) refl (λ x. cc) (omega arith) (take n r, refl, a)
-      (λ m h i. line_longer r n m g h i)))
+    (longest_of (47 ∷ 47 ∷ r) piece.LineComment (suc (suc n)) refl (λ x. cc) (omega arith) (take n r, refl, a)
+    (λ m h i. line_longer r n m g h i)))
 
 -- comments up to `*/`
 comment_ends : (r q : List ℕ) → 47 ∷ 42 ∷ r ≡ 47 ∷ 42 ∷ q → ends_comment q ≡ true → ends_comment r ≡ true
@@ -239,8 +246,8 @@ longest_comment text n z e f l c =
     let r = drop 2 text in
     let s : 2 + n ≡ suc (suc n) = omega arith in
     rw s (subst (λ t. Longest t piece.BlockComment (suc (suc n))) (sym (as_two text 47 42 z e f))
-      (longest_of (47 ∷ 42 ∷ r) piece.BlockComment (suc (suc n)) refl (λ x. cc) (omega arith) (take n r, refl, c)
-      (λ m h i. comment_longer r n m c h i)))
+    (longest_of (47 ∷ 42 ∷ r) piece.BlockComment (suc (suc n)) refl (λ x. cc) (omega arith) (take n r, refl, c)
+    (λ m h i. comment_longer r n m c h i)))
 
 never_ended : (r : List ℕ) (m : ℕ) → ((n : ℕ) → n ≤ length r → ends_comment (take n r) ≡ false) → m ≤ length (47 ∷ 42 ∷ r) → IsPiece piece.BlockComment (take m (47 ∷ 42 ∷ r)) → ⊥
 never_ended r zero g l (q, e, c) = cc
@@ -250,7 +257,7 @@ never_ended r (suc (suc m)) g l (q, e, c) = false≢true (sym (g m (omega arith)
 pub no_comment : (text : List ℕ) → 1 < length text → get_or text 0 0 ≡ 47 → get_or text 1 0 ≡ 42 → ((n : ℕ) → n ≤ length (drop 2 text) → ends_comment (take n (drop 2 text)) ≡ false) → NoPiece text
 no_comment text z e f g =
     subst (λ t. NoPiece t) (sym (as_two text 47 42 z e f))
-      (none_of (47 ∷ 42 ∷ drop 2 text) piece.BlockComment refl (λ x. cc) (λ m l. never_ended (drop 2 text) m g l))
+    (none_of (47 ∷ 42 ∷ drop 2 text) piece.BlockComment refl (λ x. cc) (λ m l. never_ended (drop 2 text) m g l))
 
 -- bytes that begin no piece
 pub no_slash : (text : List ℕ) → get_or text 0 0 ≡ 47 → get_or text 1 0 ≢ 47 → get_or text 1 0 ≢ 42 → NoPiece text

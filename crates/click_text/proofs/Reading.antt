@@ -1,5 +1,5 @@
 -- The pieces of a text are determined by it.
-use Rattle.std.proofs.Common.{◌≡◌, ◌≢◌, ℕ, zero, suc, ◌+◌, ◌-◌, ◌<◌, ◌≤◌, List, [], ◌∷◌, length, take, drop, Bool, true, false, eqb, cond, Option, Some, None, refl, sym, ◌∙◌, ap, arith, inl, inr, ◌⊎◌}
+use Rattle.std.proofs.Common.{◌≡◌, ◌≢◌, ℕ, zero, suc, ◌+◌, ◌-◌, ◌<◌, List, [], ◌∷◌, length, take, drop, None, refl, sym, ◌∙◌, arith, inl, inr, ◌⊎◌}
 use Rattle.std.proofs.lemmas.List.{take_rest}
 use Rattle.std.proofs.lemmas.Bool.{cases_Bool}
 use Rattle.click_text.specs.declared.lexer.Piece.{Piece}
@@ -8,7 +8,7 @@ use Rattle.click_text.specs.declared.syntax.Token.{Token}
 use Rattle.click_text.specs.declared.syntax.Ending.{Ending}
 use Rattle.click_text.specs.declared.syntax.Ending.TheVariants as ending
 use Rattle.click_text.specs.Pieces.{IsPiece, Longest, NoPiece, token_of, span, piece_fault, begins_comment, begins_string, Reads, ends, passes, takes, stuck}
-use Rattle.click_text.proofs.Beginnings.{family, begins, begins_as, alone}
+use Rattle.click_text.proofs.Beginnings.{family, begins_as, alone}
 
 pub none_tail : (text : List ℕ) (at : ℕ) → NoPiece (take (length text - at) (drop at text)) → NoPiece (drop at text)
 none_tail text at h = rw take_rest at h

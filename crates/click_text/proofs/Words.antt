@@ -1,5 +1,5 @@
 -- How far a word goes, and other runs of bytes.
-use Rattle.std.proofs.Common.{◌≡◌, ◌≢◌, ℕ, zero, suc, ◌+◌, ◌<◌, ◌≤◌, List, [], ◌∷◌, ◌++◌, length, get_or, take, drop, Bool, true, false, eqb, refl, sym, ◌∙◌, ap, arith, inl, inr, append_assoc, length-take, length-drop}
+use Rattle.std.proofs.Common.{◌≡◌, ℕ, ◌+◌, ◌<◌, ◌≤◌, List, [], ◌∷◌, ◌++◌, length, get_or, take, drop, Bool, true, false, eqb, refl, sym, ◌∙◌, arith, inl, inr, append_assoc, length-take, length-drop}
 use Rattle.std.specs.Prelude.{if◌then◌else◌}
 use Rattle.std.specs.List.{list_all}
 use Rattle.std.proofs.lemmas.Bool.{false≢true, cases_Bool, and_parts, false_from_ne_true, eqb-true}
@@ -73,4 +73,4 @@ no_more text n m h l f g t = elim (cases_Bool (eqb (get_or text n 0) 47)) [
 pub word_most : (text : List ℕ) (n : ℕ) → is_word (take n text) ≡ true → word_byte (get_or text n 0) ≡ false → (get_or text n 0 ≡ 47 → word_byte (get_or text (n + 1) 0) ≡ false) → (m : ℕ) → n < m → m ≤ length text → is_word (take m text) ≡ false
 word_most text n w f g m h l =
     rw (front_splits text n m h l, word_on (take n text) (get_or text n 0) (drop (n + 1) (take m text)) w)
-      (false_from_ne_true _ (no_more text n m h l f g))
+    (false_from_ne_true _ (no_more text n m h l f g))

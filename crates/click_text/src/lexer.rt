@@ -329,11 +329,10 @@ fn fault_at(at: usize, text: &[u8]) -> Ending
     requires fits { at + length text.now < 2 ^ 64 }
     ensures { result ≡ piece_fault at text.now }
 {
-    let end = at + text.len();
     let (kind, end) = if text.len() > 1 && text[0] == b'/' && text[1] == b'*' {
-        (FaultKind::UnclosedComment, end)
+        (FaultKind::UnclosedComment, at + text.len())
     } else if text[0] == b'(' {
-        (FaultKind::UnclosedString, end)
+        (FaultKind::UnclosedString, at + text.len())
     } else {
         (FaultKind::BadByte, at + 1)
     };
@@ -376,4 +375,64 @@ pub fn is_blank(text: &[u8]) -> bool
         at += len;
     }
     true
+}
+
+#[cfg(test)]
+mod tests {
+    use super::*;
+
+    fn span(start: usize, end: usize) -> Span {
+        Span { start, end }
+    }
+
+    fn at(kind: FaultKind, start: usize, end: usize) -> Ending {
+        let span = Span { start, end };
+        Ending::Stuck(TextFault { kind, span })
+    }
+
+    #[test]
+    fn tokens(rt: HostRuntime) -> Result<(), AllocError> {
+        let text = b"q/0::Queue(\"(\", (2)) [007] -> $a, 256 // -> \n elementclass";
+        let (tokens, ending) = scan(rt.alloc(), text)?;
+        let expected = [
+            Token::Word(span(0, 3)),
+            Token::DoubleColon(span(3, 5)),
+            Token::Word(span(5, 10)),
+            Token::String(span(10, 20)),
+            Token::OpenBracket(span(21, 22)),
+            Token::Number(Some(7), span(22, 25)),
+            Token::CloseBracket(span(25, 26)),
+            Token::Arrow(span(27, 29)),
+            Token::Formal(span(30, 32)),
+            Token::Comma(span(32, 33)),
+            Token::Number(None, span(34, 37)),
+            Token::Elementclass(span(46, 58)),
+        ];
+        assert_eq!(rt; tokens.len(), expected.len());
+        for (i, token) in expected.iter().enumerate() {
+            assert_eq!(rt; tokens.get(i), Some(token));
+        }
+        assert_eq!(rt; ending, Ending::Whole);
+        Ok(())
+    }
+
+    #[test]
+    fn endings(rt: HostRuntime) -> Result<(), AllocError> {
+        let (_, ending) = scan(rt.alloc(), b"a = b")?;
+        assert_eq!(rt; ending, at(FaultKind::BadByte, 2, 3));
+        let (_, ending) = scan(rt.alloc(), b"a /* b *")?;
+        assert_eq!(rt; ending, at(FaultKind::UnclosedComment, 2, 8));
+        let (_, ending) = scan(rt.alloc(), b"a(\"b)\"")?;
+        assert_eq!(rt; ending, at(FaultKind::UnclosedString, 1, 6));
+        let (_, ending) = scan(rt.alloc(), b"a/ b")?;
+        assert_eq!(rt; ending, at(FaultKind::BadByte, 1, 2));
+        Ok(())
+    }
+
+    #[test]
+    fn blanks(rt: HostRuntime) {
+        assert!(rt; is_blank(b" \t\n /* (a) */ // b"));
+        assert!(rt; !is_blank(b"// a\n b"));
+        assert!(rt; !is_blank(b"/* a"));
+    }
 }

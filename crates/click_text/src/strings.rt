@@ -107,7 +107,6 @@ impl Mode {
 /// How many bytes behind an opening parenthesis end with the one that closes it.
 pub fn string_len(text: &[u8]) -> Option<usize>
     ensures within { IfSome result (λ len. len ≤ length text.now) }
-    ensures positive { IfSome result (λ len. 0 < len) }
     ensures closed { IfSome result (λ len. closes Mode.Plain 1 (take len text.now) ≡ true) }
     ensures unclosed { IfNone result ((n : ℕ) → n ≤ length text.now → closes Mode.Plain 1 (take n text.now) ≡ false) }
 {

@@ -13,7 +13,7 @@ returns-then-text-eq47-clause-some c =
     let text = c.args.text.now in
     let e = c.line_len.ensures in
     longest_line text c.line_len.result (omega arith) c.requires.first c.if-text-eq47.true
-      (rw (take_rest text 2) at e.within) (rw (take_rest text 2) at e.all) (rw (take_rest text 2) at e.most)
+    (rw (take_rest text 2) at e.within) (rw (take_rest text 2) at e.all) (rw (take_rest text 2) at e.most)
 
 pub returns-in_err-len-clause-none : goal.returns-in_err-len-clause-none
 returns-in_err-len-clause-none c =
@@ -25,7 +25,7 @@ returns-then-text-eq42-clause-some c =
     let text = c.args.text.now in
     let e = c.in_ok-len.ensures in
     longest_comment text c.in_ok-len.len (omega arith) c.requires.first c.if-text-eq42.true
-      (rw (take_rest text 2) at e.within) (rw (take_rest text 2) at e.ends)
+    (rw (take_rest text 2) at e.within) (rw (take_rest text 2) at e.ends)
 
 pub returns-clause-none : goal.returns-clause-none
 returns-clause-none c = no_slash c.args.text.now c.requires.first c.if-text-eq47.false c.if-text-eq42.false

@@ -1,6 +1,5 @@
-use Rattle.std.proofs.Common.{◌≡◌, ◌<◌, length, get_or, drop, false, sym, arith}
+use Rattle.std.proofs.Common.{arith}
 use Rattle.std.proofs.lemmas.List.{take_rest}
-use Rattle.click_text.specs.Pieces.{name_byte}
 use Rattle.click_text.proofs.Longest.{longest_formal, no_formal}
 use Rattle.click_text.proofs.lexer.formal.Goals as goal
 
@@ -16,4 +15,4 @@ returns-clause-some c =
     let e = c.name_len-len.ensures in
     let n = c.if-len-eq0.false in
     longest_formal text c.name_len-len.result c.requires.some c.requires.first (omega arith)
-      (rw (take_rest text 1) at e.within) (rw (take_rest text 1) at e.all) (rw (take_rest text 1) at e.most)
+    (rw (take_rest text 1) at e.within) (rw (take_rest text 1) at e.all) (rw (take_rest text 1) at e.most)

@@ -1,4 +1,4 @@
-use Rattle.std.proofs.Common.{◌≡◌, ℕ, ◌≤◌, ◌-◌, List, [], length, drop}
+use Rattle.std.proofs.Common.{◌≤◌, ◌-◌, [], length, drop}
 use Rattle.click_text.specs.declared.syntax.Ending.TheVariants as ending
 use Rattle.click_text.specs.Pieces.{Reads, IsBlank}
 use Rattle.click_text.proofs.lexer.is_blank.Given as goal

@@ -1,5 +1,4 @@
-use Rattle.std.proofs.Common.{◌≡◌, ◌+◌, ◌<◌, get_or, length, true, false, arith, sym, ◌∙◌}
-use Rattle.click_text.specs.Pieces.{word_byte}
+use Rattle.std.proofs.Common.{◌+◌, ◌<◌, length, arith, sym, ◌∙◌}
 use Rattle.click_text.proofs.Words.{word_more, word_joined, word_most}
 use Rattle.click_text.proofs.lexer.word_len.Goals as goal
 use Rattle.click_text.proofs.lexer.word_len.Goals.{else-text-len-eq47-via-then-text-len-eq47+else-is_word_at, else-text-len-eq47-via-else-text-len-eq47}
@@ -23,7 +22,7 @@ loop-len-preserved c =
 pub returns-else-text-len-eq47-clause-most : goal.returns-else-text-len-eq47-clause-most
 returns-else-text-len-eq47-clause-most c =
     word_most c.args.text.now c.loop-len.len c.loop-len.invariant.word (sym c.is_word_byte.ensures ∙ c.if-is_word_byte.false)
-      (elim c.else-text-len-eq47.branch [
-        | else-text-len-eq47-via-then-text-len-eq47+else-is_word_at w ↦ λ e. sym w.is_word_at.ensures.byte ∙ w.if-is_word_at.false
-        | else-text-len-eq47-via-else-text-len-eq47 w ↦ λ e. absurd (w.if-text-len-eq47.false e)
-      ])
+    (elim c.else-text-len-eq47.branch [
+      | else-text-len-eq47-via-then-text-len-eq47+else-is_word_at w ↦ λ e. sym w.is_word_at.ensures.byte ∙ w.if-is_word_at.false
+      | else-text-len-eq47-via-else-text-len-eq47 w ↦ λ e. absurd (w.if-text-len-eq47.false e)
+    ])
