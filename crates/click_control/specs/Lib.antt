@@ -1,3 +1,5 @@
 pub mod Commands
+pub mod Going
+pub mod Lines
 pub mod ReplyText
 pub mod Serving

@@ -3,6 +3,7 @@
 
 pub mod command;
 pub mod laws;
+mod line;
 pub mod peer;
 pub mod port;
 pub mod reply;
