@@ -139,10 +139,10 @@ fn without_front(bytes: &[u8]) -> &[u8]
 fn trimmed(bytes: &[u8]) -> &[u8]
     ensures { result.now ≡ trimmed bytes.now }
 {
-    let bytes = without_front(bytes);
-    let mut len = bytes.len();
-    while len > 0 && is_blank(bytes[len - 1]) {
+    let front = without_front(bytes);
+    let mut len = front.len();
+    while len > 0 && is_blank(front[len - 1]) {
         len -= 1;
     }
-    &bytes[..len]
+    &front[..len]
 }

@@ -135,11 +135,18 @@ fn line_start(start: Start, bytes: &[u8]) -> Option<usize>
     ensures { MatchOption result (commands_from (reading_of start) bytes.now ≡ [])
         (λ n. (n ≤ length bytes.now) × ((more : List ℕ) → commands_from (reading_of start) (bytes.now ++ more) ≡ commands_from (in_line []) (drop n bytes.now ++ more))) }
 {
-    match (start, bytes.first()) {
-        (Start::Line, _) => Some(0),
-        (Start::AfterReturn, Some(b'\n')) => Some(1),
-        (Start::AfterReturn, Some(_)) => Some(0),
-        (Start::AfterReturn, None) | (Start::Over, _) => None,
+    match start {
+        Start::Line => Some(0),
+        Start::AfterReturn => {
+            if bytes.is_empty() {
+                None
+            } else if bytes[0] == b'\n' {
+                Some(1)
+            } else {
+                Some(0)
+            }
+        }
+        Start::Over => None,
     }
 }
 
