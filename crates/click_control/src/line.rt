@@ -35,18 +35,19 @@ pub fn first_line(alloc: Global, bytes: &[u8], searched: usize) -> Result<Found,
     requires no_end { HasNoEnd (take searched bytes.now) }
     ensures { IfOk result (λ found. IsFound bytes.now found) }
 {
-    let Some(length) = line_len(bytes, searched) else {
-        return Ok(if bytes.len() > LONGEST_LINE { Found::TooLong } else { Found::Partial });
-    };
-    if length > LONGEST_LINE {
-        return Ok(Found::TooLong);
+    match line_len(bytes, searched) {
+        None if bytes.len() > LONGEST_LINE => Ok(Found::TooLong),
+        None => Ok(Found::Partial),
+        Some(length) if length > LONGEST_LINE => Ok(Found::TooLong),
+        Some(length) => {
+            let command = command_of(alloc, &bytes[..length])?;
+            Ok(Found::Whole {
+                command,
+                length: length + 1,
+                last: bytes[length],
+            })
+        }
     }
-    let command = command_of(alloc, &bytes[..length])?;
-    Ok(Found::Whole {
-        command,
-        length: length + 1,
-        last: bytes[length],
-    })
 }
 
 /// How many bytes stand before the first line end.

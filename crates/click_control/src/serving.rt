@@ -1,8 +1,10 @@
 //! A whole session.
 
-ghost use Rattle.std.specs.Prelude.{◌≡◌, ◌++◌, ◌<◌, ◌||◌, ℕ, List, Option, Bool, true, length, IfOk, OnOk, OnErr};
+ghost use Rattle.std.specs.Prelude.{◌≡◌, ◌++◌, ◌<◌, ◌||◌, ℕ, List, [], Option, Bool, true, length, IfNone, IfOk, OnOk, OnErr};
 ghost use Rattle.std.specs.Io.KnownBytes.{Appends};
 ghost use Rattle.click_control.specs.Serving.{Serves, Answered, call_of};
+ghost use Rattle.click_control.specs.Commands.{Pending, to_come};
+ghost use Rattle.click_control.specs.Lines.{TellsOne};
 ghost use Rattle.click_control.specs.Going.{SoFar, Goes, Written, WroteFront, TakesIn, ending_of};
 ghost use Rattle.click_control.specs.ReplyText.{text_of, greeting};
 
@@ -107,27 +109,43 @@ fn answer_whole<W: Sink, P: Port>(
     port: &mut P,
     session: &mut Session,
 ) -> Result<Option<Ended>, ServeFault>
-    ensures { (first : P) (had left held : Option (List ℕ)) (read_before read_now write_before : Bool) (reads : ℕ)
+    ensures goes { (first : P) (had left held : Option (List ℕ)) (read_before read_now write_before : Bool) (reads : ℕ)
         → SoFar P.asks first port.old had left read_before read_now held (W.contents writer.old) write_before (W.failed writer.old) session.old reads
         → Goes P.asks first port.new had left read_before read_now held (W.contents writer.new) write_before (W.failed writer.new) session.new reads result }
+    ensures all_told { IfOk result (λ ended. IfNone ended (to_come session.new [] ≡ [])) }
 {
     loop {
         match session.line(alloc) {
             Err(_) => return Err(ServeFault::NoMemory),
             Ok(Line::Partial) => return Ok(None),
             Ok(Line::Blank) => {}
-            Ok(Line::Told(command)) => {
-                let Ok(call) = call_of(alloc, &command) else {
-                    return Err(ServeFault::NoMemory);
-                };
-                let answer = ask(alloc, port, call);
-                reply(alloc, writer, &command, &answer)?;
-                if let Some(ended) = ending_of(&command) {
-                    return Ok(Some(ended));
-                }
-            }
+            Ok(Line::Told(command)) => match take_up(alloc, writer, port, command) {
+                Ok(None) => {}
+                Ok(Some(ended)) => return Ok(Some(ended)),
+                Err(fault) => return Err(fault),
+            },
         }
     }
+}
+
+/// Answers one command; says how the session ends, where the command ends it.
+fn take_up<W: Sink, P: Port>(
+    alloc: Global,
+    writer: &mut W,
+    port: &mut P,
+    command: Command,
+) -> Result<Option<Ended>, ServeFault>
+    ensures { (first : P) (had left held : Option (List ℕ)) (read_before read_now write_before : Bool) (old new : Pending) (reads : ℕ)
+        → SoFar P.asks first port.old had left read_before read_now held (W.contents writer.old) write_before (W.failed writer.old) old reads
+        → TellsOne old new command
+        → Goes P.asks first port.new had left read_before read_now held (W.contents writer.new) write_before (W.failed writer.new) new reads result }
+{
+    let Ok(call) = call_of(alloc, &command) else {
+        return Err(ServeFault::NoMemory);
+    };
+    let answer = ask(alloc, port, call);
+    reply(alloc, writer, &command, &answer)?;
+    Ok(ending_of(&command))
 }
 
 /// The call that a command makes.
