@@ -2,7 +2,7 @@
 use Rattle.std.proofs.Common.{◌≡◌, ℕ, ◌+◌, ◌≤◌, ◌<◌, List, [], ◌∷◌, ◌++◌, length, Bool, true, false, ◌||◌, Option, Some, None, Result, Ok, Err, All, refl, sym, ap, ◌∙◌, subst, inl, inr, le_trans, append_assoc, append-nil, length-append, arith}
 use Rattle.std.specs.Io.KnownBytes.{Consumes, Appends, Keeps, IsAtEnd}
 use Rattle.std.proofs.KnownBytes.{Consumes-nil, Consumes-trans, Consumes-kept, Appends-nil, Appends-trans}
-use Rattle.std.proofs.lemmas.List.Elements.{All-push}
+use Rattle.std.proofs.lemmas.List.Elements.{All-nil, All-push}
 use Rattle.click_router.specs.declared.call.Call.{Call}
 use Rattle.click_router.specs.declared.call.Reply.{Reply}
 use Rattle.click_control.specs.declared.port.AskFault.{AskFault}
@@ -211,7 +211,7 @@ module _ {P : Type 0} (asks : P → Call → Result Reply AskFault → P → Typ
     consumed = Consumes-nil had;
     many = omega arith;
     taken = [];
-    goes_on = λ k q. absurd (omega arith);
+    goes_on = All-nil (λ c. is_last c ≡ false);
     read = λ more. refl;
     answers = [];
     asked = nothing p;
