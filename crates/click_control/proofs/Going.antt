@@ -24,7 +24,7 @@ pub or-false : (b : Bool) → (b || false) ≡ b
 or-false true = refl
 or-false false = refl
 
-commands-nil : commands [] ≡ []
+pub commands-nil : commands [] ≡ []
 commands-nil = commands_from-nil (in_line [])
 
 -- ---- one more command and its answer

@@ -4,7 +4,7 @@ use Rattle.click_control.specs.Going.{SoFar}
 use Rattle.click_control.proofs.serving.serve.Given as goal
 
 -- each command that was read is answered
-abbrev pub invariant-loop-reads : goal.invariant-loop-_reads
+abbrev pub invariant-loop-reads : goal.invariant-loop-reads
 invariant-loop-reads g l =
     let source = g.R.Source in
     let sink = g.W.Sink in
