@@ -4,6 +4,7 @@
 pub mod alone;
 pub mod command;
 pub mod laws;
+mod line;
 pub mod peer;
 pub mod port;
 pub mod reply;

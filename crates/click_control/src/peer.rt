@@ -59,3 +59,77 @@ pub struct Writing<W> {
     inner: W,
     failed: bool,
 }
+
+impl<R: Read> Reading<R> {
+    /// A source that has not failed, with the reader's bytes.
+    pub fn new(inner: R) -> Self
+        ensures remaining { ⟦<Reading<R> as Source>⟧.remaining result ≡ R.remaining inner }
+        ensures failed { ⟦<Reading<R> as Source>⟧.failed result ≡ false }
+    {
+        Reading {
+            inner,
+            failed: false,
+        }
+    }
+
+    /// The reader, with the bytes that are left.
+    pub fn into_inner(self) -> R
+        ensures { R.remaining result ≡ ⟦<Reading<R> as Source>⟧.remaining self }
+    {
+        let Reading { inner, failed: _ } = self;
+        inner
+    }
+}
+
+impl<R: Read> Source for Reading<R> {
+    ghost remaining = { λ reading. R.remaining reading.inner };
+
+    ghost failed = { λ reading. reading.failed };
+
+    fn read(&mut self, piece: &mut [u8]) -> Result<usize, Failed> {
+        match self.inner.read(piece) {
+            Ok(n) => Ok(n),
+            Err(_) => {
+                self.failed = true;
+                Err(Failed)
+            }
+        }
+    }
+}
+
+impl<W: Write> Writing<W> {
+    /// A sink that has not failed, with the writer's bytes.
+    pub fn new(inner: W) -> Self
+        ensures contents { ⟦<Writing<W> as Sink>⟧.contents result ≡ W.contents inner }
+        ensures failed { ⟦<Writing<W> as Sink>⟧.failed result ≡ false }
+    {
+        Writing {
+            inner,
+            failed: false,
+        }
+    }
+
+    /// The writer, with the bytes that it took.
+    pub fn into_inner(self) -> W
+        ensures { W.contents result ≡ ⟦<Writing<W> as Sink>⟧.contents self }
+    {
+        let Writing { inner, failed: _ } = self;
+        inner
+    }
+}
+
+impl<W: Write> Sink for Writing<W> {
+    ghost contents = { λ writing. W.contents writing.inner };
+
+    ghost failed = { λ writing. writing.failed };
+
+    fn write(&mut self, bytes: &[u8]) -> Result<usize, Failed> {
+        match self.inner.write(bytes) {
+            Ok(n) if n > 0 || bytes.is_empty() => Ok(n),
+            Ok(_) | Err(_) => {
+                self.failed = true;
+                Err(Failed)
+            }
+        }
+    }
+}

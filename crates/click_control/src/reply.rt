@@ -1,9 +1,15 @@
 //! The text that answers a command.
 
-ghost use Rattle.std.specs.Prelude.{◌≡◌, IfOk};
-ghost use Rattle.click_control.specs.ReplyText.{text_of};
+ghost use Rattle.std.specs.Prelude.{◌≡◌, ◌++◌, IfOk, codes};
+ghost use Rattle.std.specs.List.{before_last};
+ghost use Rattle.click_router.specs.One.{is_dot};
+ghost use Rattle.click_control.specs.ReplyText.{text_of, read_text, uncalled_text, naming, data_text};
 
 use crate::command::{Answer, Command};
+use crate::port::AskFault;
+use click_router::{Refusal, Reply};
+use itoa::Buffer;
+use memchr::memrchr;
 use std::alloc::{AllocError, Global};
 
 /// The lines that a session writes for a command with its answer. For an answer that the command cannot have there are none.
@@ -14,5 +20,78 @@ pub fn reply_text(
 ) -> Result<Vec<u8>, AllocError>
     ensures { IfOk result (λ text. text.items ≡ text_of command.now answer.now) }
 {
-    Err(AllocError)
+    match command {
+        Command::Read { handler, .. } => read_text(alloc, handler.as_slice(), answer),
+        Command::Quit => uncalled_text(alloc, answer, b"200 Goodbye!\r\n"),
+        Command::Syntax => uncalled_text(alloc, answer, b"500 Syntax error\r\n"),
+        Command::LineTooLong => uncalled_text(alloc, answer, b"500 Line too long\r\n"),
+        Command::Unknown { word } => {
+            let text = naming(alloc, b"501 Unimplemented command ", word.as_slice(), b"")?;
+            uncalled_text(alloc, answer, &text)
+        }
+    }
+}
+
+/// The text for a command that makes no call.
+fn uncalled_text(alloc: Global, answer: &Answer, text: &[u8]) -> Result<Vec<u8>, AllocError>
+    ensures { IfOk result (λ lines. lines.items ≡ uncalled_text answer.now text.now) }
+{
+    match answer {
+        Answer::NoCall => Vec::from_slice(alloc, text),
+        Answer::Replied(_) | Answer::Failed(_) => Ok(Vec::new(alloc)),
+    }
+}
+
+/// What `READ` of a handler is told.
+fn read_text(alloc: Global, handler: &[u8], answer: &Answer) -> Result<Vec<u8>, AllocError>
+    ensures { IfOk result (λ text. text.items ≡ read_text handler.now answer.now) }
+{
+    match answer {
+        Answer::Replied(Reply::Value(bytes)) => value_text(alloc, handler, bytes.as_slice()),
+        Answer::Replied(Reply::Refused(Refusal::NoElement)) => {
+            naming(alloc, b"510 No element named ", element_of(handler), b"")
+        }
+        Answer::Replied(Reply::Refused(Refusal::NoHandler)) => {
+            naming(alloc, b"511 No handler named ", handler, b"")
+        }
+        Answer::Failed(AskFault::NoMemory) => Vec::from_slice(alloc, b"520 Out of memory\r\n"),
+        Answer::Failed(AskFault::HistoryFull) => Vec::from_slice(alloc, b"520 History full\r\n"),
+        Answer::NoCall => Ok(Vec::new(alloc)),
+    }
+}
+
+/// The text of a value that was read: its length, and then just its bytes.
+fn value_text(alloc: Global, handler: &[u8], bytes: &[u8]) -> Result<Vec<u8>, AllocError>
+    ensures { IfOk result (λ text. text.items ≡ naming (codes "200 Read handler ") handler.now (codes " OK") ++ data_text bytes.now) }
+{
+    let mut digits = Buffer::new();
+    let mut text = naming(alloc, b"200 Read handler ", handler, b" OK")?;
+    text.extend_from_slice(b"DATA ")?;
+    text.extend_from_slice(digits.format(bytes.len()).as_bytes())?;
+    text.extend_from_slice(b"\r\n")?;
+    text.extend_from_slice(bytes)?;
+    Ok(text)
+}
+
+/// A line with a name in quotes.
+fn naming(alloc: Global, front: &[u8], name: &[u8], back: &[u8]) -> Result<Vec<u8>, AllocError>
+    ensures { IfOk result (λ text. text.items ≡ naming front.now name.now back.now) }
+{
+    let mut text = Vec::from_slice(alloc, front)?;
+    text.extend_from_slice(b"'")?;
+    text.extend_from_slice(name)?;
+    text.extend_from_slice(b"'")?;
+    text.extend_from_slice(back)?;
+    text.extend_from_slice(b"\r\n")?;
+    Ok(text)
+}
+
+/// The element in a handler's name: what stands before its last dot.
+fn element_of(handler: &[u8]) -> &[u8]
+    ensures { result.now ≡ before_last is_dot handler.now }
+{
+    match memrchr(b'.', handler) {
+        Some(dot) => &handler[..dot],
+        None => &handler[..0],
+    }
 }

@@ -1,10 +1,21 @@
 //! A whole session.
 
-ghost use Rattle.click_control.specs.Serving.{Serves};
+ghost use Rattle.std.specs.Prelude.{◌≡◌, ◌++◌, ◌<◌, ◌||◌, ℕ, List, [], Option, Bool, true, length, IfNone, IfOk, OnOk, OnErr};
+ghost use Rattle.std.specs.Io.KnownBytes.{Appends};
+ghost use Rattle.click_control.specs.Serving.{Serves, Answered, call_of};
+ghost use Rattle.click_control.specs.Commands.{Pending, to_come};
+ghost use Rattle.click_control.specs.Lines.{TellsOne};
+ghost use Rattle.click_control.specs.Going.{SoFar, Goes, Written, WroteFront, TakesIn, ending_of};
+ghost use Rattle.click_control.specs.ReplyText.{text_of, greeting};
 
-use crate::peer::{Sink, Source};
+use crate::command::{Answer, Command};
+use crate::peer::{Failed, Sink, Source};
 use crate::port::Port;
-use std::alloc::Global;
+use crate::reply::reply_text;
+use crate::session::{Line, Session};
+use click_router::Call;
+use click_text::sequence::Sequence;
+use std::alloc::{AllocError, Global};
 
 /// How a session ends.
 #[derive(Clone, Copy, Debug, PartialEq, Eq)]
@@ -30,6 +41,9 @@ pub enum ServeFault {
 /// How many reads a session may have.
 pub const MOST_READS: u32 = 4_294_967_295;
 
+/// How many bytes one read may give.
+const PIECE: usize = 4096;
+
 /// Greets, and answers each command as soon as it is whole, before the next read. Bytes may come in any pieces.
 ///
 /// A read-only session refuses what would change the router; no command does so yet.
@@ -43,5 +57,169 @@ pub fn serve<R: Source, W: Sink, P: Port>(
     ensures { Serves P.asks port.old port.new (R.remaining reader.old) (R.remaining reader.new) (R.failed reader.old) (R.failed reader.new)
         (W.contents writer.old) (W.contents writer.new) (W.failed writer.old) (W.failed writer.new) result }
 {
-    Err(ServeFault::NoMemory)
+    // No command changes the router yet, so there is none to refuse.
+    let _ = readonly;
+    greet(writer)?;
+    let mut session = Session::new(alloc);
+    let mut piece = [0; PIECE];
+    for _reads in 0..MOST_READS {
+        if !take_in(reader, &mut piece, &mut session)? {
+            return Ok(Ended::EndOfInput);
+        }
+        if let Some(ended) = answer_whole(alloc, writer, port, &mut session)? {
+            return Ok(ended);
+        }
+    }
+    Err(ServeFault::ReadFailed)
+}
+
+/// Writes the greeting.
+fn greet<W: Sink>(writer: &mut W) -> Result<(), ServeFault>
+    ensures { Written result (W.contents writer.old) (W.contents writer.new) (W.failed writer.old) (W.failed writer.new) greeting }
+{
+    match write_all(writer, b"Click::ControlSocket/1.3\r\n") {
+        Ok(()) => Ok(()),
+        Err(Failed) => Err(ServeFault::WriteFailed),
+    }
+}
+
+/// Takes in the next bytes of the input; `false` at its end.
+fn take_in<R: Source>(
+    reader: &mut R,
+    piece: &mut [u8],
+    session: &mut Session,
+) -> Result<bool, ServeFault>
+    requires { 0 < length piece.old }
+    ensures { TakesIn (R.remaining reader.old) (R.remaining reader.new) (R.failed reader.old) (R.failed reader.new) session.old session.new result }
+{
+    match reader.read(piece) {
+        Err(Failed) => Err(ServeFault::ReadFailed),
+        Ok(0) => Ok(false),
+        Ok(n) => match session.feed(&piece[..n]) {
+            Ok(()) => Ok(true),
+            Err(_) => Err(ServeFault::NoMemory),
+        },
+    }
+}
+
+/// Takes up each command that is whole, and answers it; says how the session ends, where one of them ends it.
+fn answer_whole<W: Sink, P: Port>(
+    alloc: Global,
+    writer: &mut W,
+    port: &mut P,
+    session: &mut Session,
+) -> Result<Option<Ended>, ServeFault>
+    ensures goes { (first : P) (had left held : Option (List ℕ)) (read_before read_now write_before : Bool) (reads : ℕ)
+        → SoFar P.asks first port.old had left read_before read_now held (W.contents writer.old) write_before (W.failed writer.old) session.old reads
+        → Goes P.asks first port.new had left read_before read_now held (W.contents writer.new) write_before (W.failed writer.new) session.new reads result }
+    ensures all_told { IfOk result (λ ended. IfNone ended (to_come session.new [] ≡ [])) }
+{
+    loop {
+        match session.line(alloc) {
+            Err(_) => return Err(ServeFault::NoMemory),
+            Ok(Line::Partial) => return Ok(None),
+            Ok(Line::Blank) => {}
+            Ok(Line::Told(command)) => match take_up(alloc, writer, port, command) {
+                Ok(None) => {}
+                Ok(Some(ended)) => return Ok(Some(ended)),
+                Err(fault) => return Err(fault),
+            },
+        }
+    }
+}
+
+/// Answers one command; says how the session ends, where the command ends it.
+fn take_up<W: Sink, P: Port>(
+    alloc: Global,
+    writer: &mut W,
+    port: &mut P,
+    command: Command,
+) -> Result<Option<Ended>, ServeFault>
+    ensures { (first : P) (had left held : Option (List ℕ)) (read_before read_now write_before : Bool) (old new : Pending) (reads : ℕ)
+        → SoFar P.asks first port.old had left read_before read_now held (W.contents writer.old) write_before (W.failed writer.old) old reads
+        → TellsOne old new command
+        → Goes P.asks first port.new had left read_before read_now held (W.contents writer.new) write_before (W.failed writer.new) new reads result }
+{
+    let Ok(call) = call_of(alloc, &command) else {
+        return Err(ServeFault::NoMemory);
+    };
+    let answer = ask(alloc, port, call);
+    reply(alloc, writer, &command, &answer)?;
+    Ok(ending_of(&command))
+}
+
+/// The call that a command makes.
+fn call_of(alloc: Global, command: &Command) -> Result<Option<Call>, AllocError>
+    ensures { IfOk result (λ call. call ≡ call_of command.now) }
+{
+    match command {
+        Command::Read { handler, text } => Ok(Some(Call::Read {
+            name: copy(alloc, handler)?,
+            text: copy(alloc, text)?,
+        })),
+        _ => Ok(None),
+    }
+}
+
+fn copy(alloc: Global, bytes: &Sequence<u8>) -> Result<Sequence<u8>, AllocError>
+    ensures { IfOk result (λ copy. copy ≡ bytes.now) }
+{
+    Ok(Sequence::of(Vec::from_slice(alloc, bytes.as_slice())?))
+}
+
+/// Asks the port, where there is a call.
+fn ask<P: Port>(alloc: Global, port: &mut P, call: Option<Call>) -> Answer
+    ensures { Answered P.asks port.old call result port.new }
+{
+    match call {
+        None => Answer::NoCall,
+        Some(call) => match port.ask(alloc, call) {
+            Ok(reply) => Answer::Replied(reply),
+            Err(fault) => Answer::Failed(fault),
+        },
+    }
+}
+
+/// Writes the reply to a command in full.
+fn reply<W: Sink>(
+    alloc: Global,
+    writer: &mut W,
+    command: &Command,
+    answer: &Answer,
+) -> Result<(), ServeFault>
+    ensures { Written result (W.contents writer.old) (W.contents writer.new) (W.failed writer.old) (W.failed writer.new) (text_of command.now answer.now) }
+{
+    let Ok(text) = reply_text(alloc, command, answer) else {
+        return Err(ServeFault::NoMemory);
+    };
+    match write_all(writer, &text) {
+        Ok(()) => Ok(()),
+        Err(Failed) => Err(ServeFault::WriteFailed),
+    }
+}
+
+/// Writes all the bytes, by as many writes as it takes.
+fn write_all<W: Sink>(writer: &mut W, bytes: &[u8]) -> Result<(), Failed>
+    ensures ok { OnOk result (Appends (W.contents writer.old) (W.contents writer.new) bytes.now × (W.failed writer.new ≡ W.failed writer.old)) }
+    ensures err { OnErr result (WroteFront (W.contents writer.old) (W.contents writer.new) bytes.now × (W.failed writer.new ≡ (W.failed writer.old || true))) }
+{
+    let mut at = 0;
+    while at < bytes.len() {
+        match writer.write(&bytes[at..]) {
+            Ok(n) => at += n,
+            Err(Failed) => return Err(Failed),
+        }
+    }
+    Ok(())
+}
+
+/// How a command ends a session.
+fn ending_of(command: &Command) -> Option<Ended>
+    ensures { result ≡ ending_of command.now }
+{
+    match command {
+        Command::Quit => Some(Ended::Quit),
+        Command::LineTooLong => Some(Ended::TooLong),
+        Command::Read { .. } | Command::Syntax | Command::Unknown { .. } => None,
+    }
 }

@@ -1,0 +1,4 @@
+pub mod Going
+pub mod Sessions
+pub mod Streams
+pub mod Words

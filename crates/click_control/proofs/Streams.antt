@@ -1,0 +1,150 @@
+-- Lemmas on the commands of a stream.
+use Rattle.std.proofs.Common.{◌≡◌, ℕ, zero, suc, ◌+◌, ◌-◌, ◌<◌, ◌≤◌, List, [], ◌∷◌, ◌++◌, Bool, true, false, cond, leb, eqb, length, get_or, take, drop, Option, Some, None, refl, sym, ap, ◌∙◌, subst, ⊎_elim, append_assoc, append-nil, take-append-drop, get_or-take, get_or-drop, length-take, length-drop, length-append, length-take-le, take-take, take_all, eqb-true, inl, inr, arith}
+use Rattle.std.proofs.lemmas.Bool.{lt-leb, le-leb, ne_eqb, cases_lt}
+use Rattle.std.proofs.lemmas.List.{drop_more}
+use Rattle.click_control.specs.declared.command.Command.{Command}
+use Rattle.click_control.specs.declared.command.Command.TheVariants as command
+use Rattle.click_control.specs.Commands.{Reading, in_line, after_return, over, told, behind, told_in, behind_in, commands_from, command_of, is_end, listed, behind_line, longest_line}
+use Rattle.click_control.specs.Lines.{HasNoEnd, IsLine}
+
+-- where the reading stands behind these bytes
+abbrev pub reading_behind : Reading → List ℕ → Reading
+reading_behind r [] = r
+reading_behind r (b ∷ bs) = reading_behind (behind r b) bs
+
+pub commands_from-append : (r : Reading) (xs ys : List ℕ) → commands_from r (xs ++ ys) ≡ commands_from r xs ++ commands_from (reading_behind r xs) ys
+unfolding commands_from
+commands_from-append r [] ys = refl
+commands_from-append r (x ∷ xs) ys =
+    ap (λ cs. told r x ++ cs) (commands_from-append (behind r x) xs ys)
+    ∙ sym (append_assoc (told r x) (commands_from (behind r x) xs) (commands_from (reading_behind (behind r x) xs) ys))
+
+pub commands_from-over : (xs : List ℕ) → commands_from over xs ≡ []
+unfolding commands_from
+commands_from-over [] = refl
+commands_from-over (x ∷ xs) = commands_from-over xs
+
+pub commands_from-nil : (r : Reading) → commands_from r [] ≡ []
+unfolding commands_from
+commands_from-nil r = refl
+
+-- ---- bytes that hold no line end
+
+pub HasNoEnd-from : (bs : List ℕ) → ((k : ℕ) → k < length bs → is_end (get_or bs k 0) ≡ false) → HasNoEnd bs
+HasNoEnd-from [] h = tt
+HasNoEnd-from (b ∷ bs) h = (h 0 (omega arith), HasNoEnd-from bs (λ k q. h (suc k) (omega arith)))
+
+pub HasNoEnd-at : (bs : List ℕ) (k : ℕ) → HasNoEnd bs → k < length bs → is_end (get_or bs k 0) ≡ false
+HasNoEnd-at [] k h q = absurd (omega arith)
+HasNoEnd-at (b ∷ bs) zero h q = h.0
+HasNoEnd-at (b ∷ bs) (suc k) h q = HasNoEnd-at bs k h.1 (omega arith)
+
+pub HasNoEnd-take : (n : ℕ) (bs : List ℕ) → HasNoEnd bs → HasNoEnd (take n bs)
+HasNoEnd-take zero bs h = tt
+HasNoEnd-take (suc n) [] h = tt
+HasNoEnd-take (suc n) (b ∷ bs) h = (h.0, HasNoEnd-take n bs h.1)
+
+-- ---- a line of a stream
+
+told_within : (line : List ℕ) (x : ℕ) → is_end x ≡ false → length line < longest_line → told_in line x ≡ []
+told_within line x h q = rw (h, lt-leb longest_line (length line) q) refl
+
+behind_within : (line : List ℕ) (x : ℕ) → is_end x ≡ false → length line < longest_line → behind_in line x ≡ in_line (line ++ x ∷ [])
+behind_within line x h q = rw (h, lt-leb longest_line (length line) q) refl
+
+-- bytes that hold no line end go into the line
+pub commands_from-within : (line xs ys : List ℕ) → HasNoEnd xs → length line + length xs ≤ longest_line → commands_from (in_line line) (xs ++ ys) ≡ commands_from (in_line (line ++ xs)) ys
+unfolding commands_from
+commands_from-within line [] ys h q = ap (λ l. commands_from (in_line l) ys) (sym (append-nil line))
+commands_from-within line (x ∷ xs) ys h q =
+    let short : length line < longest_line = omega arith in
+    ap (λ cs. cs ++ commands_from (behind_in line x) (xs ++ ys)) (told_within line x h.0 short)
+    ∙ ap (λ r. commands_from r (xs ++ ys)) (behind_within line x h.0 short)
+    ∙ commands_from-within (line ++ x ∷ []) xs ys h.1 (omega (arith, length-append line (x ∷ [])))
+    ∙ ap (λ l. commands_from (in_line l) ys) (append_assoc line (x ∷ []) xs)
+
+commands_from-end : (line : List ℕ) (e : ℕ) (ys : List ℕ) → is_end e ≡ true → commands_from (in_line line) (e ∷ ys) ≡ listed (command_of line) ++ commands_from (behind_line (command_of line) e) ys
+unfolding commands_from
+commands_from-end line e ys h = rw h refl
+
+commands_from-beyond : (line : List ℕ) (x : ℕ) (ys : List ℕ) → is_end x ≡ false → longest_line ≤ length line → commands_from (in_line line) (x ∷ ys) ≡ command.LineTooLong ∷ []
+unfolding commands_from
+commands_from-beyond line x ys h q =
+    rw (h, le-leb longest_line (length line) q) (ap (λ cs. command.LineTooLong ∷ cs) (commands_from-over ys))
+
+split_at : (bytes : List ℕ) (n : ℕ) → n < length bytes → bytes ≡ take n bytes ++ get_or bytes n 0 ∷ drop (n + 1) bytes
+split_at bytes n q = sym (take-append-drop n bytes) ∙ ap (λ l. take n bytes ++ l) (drop_more bytes n 0 q)
+
+split_more : (bytes more : List ℕ) (n : ℕ) → n < length bytes → bytes ++ more ≡ take n bytes ++ (get_or bytes n 0 ∷ (drop (n + 1) bytes ++ more))
+split_more bytes more n q = ap (λ l. l ++ more) (split_at bytes n q) ∙ append_assoc (take n bytes) (get_or bytes n 0 ∷ drop (n + 1) bytes) more
+
+-- a line that has its end
+pub commands_from-line : (bytes more : List ℕ) (n : ℕ) → n < length bytes → n ≤ longest_line → HasNoEnd (take n bytes) → is_end (get_or bytes n 0) ≡ true
+    → commands_from (in_line []) (bytes ++ more) ≡ listed (command_of (take n bytes)) ++ commands_from (behind_line (command_of (take n bytes)) (get_or bytes n 0)) (drop (n + 1) bytes ++ more)
+commands_from-line bytes more n q short h e =
+    ap (λ l. commands_from (in_line []) l) (split_more bytes more n q)
+    ∙ commands_from-within [] (take n bytes) (get_or bytes n 0 ∷ (drop (n + 1) bytes ++ more)) h (omega (arith, length-take n bytes))
+    ∙ commands_from-end (take n bytes) (get_or bytes n 0) (drop (n + 1) bytes ++ more) e
+
+-- a line that is too long
+pub commands_from-long : (bytes more : List ℕ) (m n : ℕ) → m ≡ longest_line → m < n → n ≤ length bytes → HasNoEnd (take n bytes)
+    → commands_from (in_line []) (bytes ++ more) ≡ command.LineTooLong ∷ []
+commands_from-long bytes more m n is long q h =
+    let front : HasNoEnd (take m bytes) = subst HasNoEnd (take-take m n bytes (omega arith)) (HasNoEnd-take m (take n bytes) h) in
+    let len : length (take m bytes) ≡ m = length-take-le m bytes (omega arith) in
+    let next : is_end (get_or bytes m 0) ≡ false =
+    subst (λ (b : ℕ). is_end b ≡ false) (get_or-take n bytes m 0 long) (HasNoEnd-at (take n bytes) m h (omega (arith, length-take-le n bytes q))) in
+    ap (λ l. commands_from (in_line []) l) (split_more bytes more m (omega arith))
+    ∙ commands_from-within [] (take m bytes) (get_or bytes m 0 ∷ (drop (m + 1) bytes ++ more)) front (omega arith)
+    ∙ commands_from-beyond (take m bytes) (get_or bytes m 0) (drop (m + 1) bytes ++ more) next (omega arith)
+
+-- a line whose end has not come tells nothing
+pub commands_from-partial : (bytes : List ℕ) → HasNoEnd bytes → length bytes ≤ longest_line → commands_from (in_line []) bytes ≡ []
+commands_from-partial bytes h q =
+    ap (λ l. commands_from (in_line []) l) (sym (append-nil bytes)) ∙ commands_from-within [] bytes [] h (omega arith) ∙ commands_from-nil (in_line bytes)
+
+-- ---- behind a CR
+
+at_front : (bytes : List ℕ) → 0 < length bytes → bytes ≡ get_or bytes 0 0 ∷ drop 1 bytes
+at_front [] q = absurd (omega arith)
+at_front (b ∷ bytes) q = refl
+
+feed_behind_return : (ys : List ℕ) → commands_from after_return (10 ∷ ys) ≡ commands_from (in_line []) ys
+unfolding commands_from
+feed_behind_return ys = refl
+
+other_behind_return : (b : ℕ) (ys : List ℕ) → eqb b 10 ≡ false → commands_from after_return (b ∷ ys) ≡ commands_from (in_line []) (b ∷ ys)
+unfolding commands_from
+other_behind_return b ys h = rw h refl
+
+pub commands_from-feed : (bytes more : List ℕ) → 0 < length bytes → get_or bytes 0 0 ≡ 10 → commands_from after_return (bytes ++ more) ≡ commands_from (in_line []) (drop 1 bytes ++ more)
+commands_from-feed bytes more q e =
+    ap (λ l. commands_from after_return (l ++ more)) (at_front bytes q ∙ ap (λ b. b ∷ drop 1 bytes) e) ∙ feed_behind_return (drop 1 bytes ++ more)
+
+pub commands_from-no_feed : (bytes more : List ℕ) → 0 < length bytes → (get_or bytes 0 0 ≡ 10 → ⊥) → commands_from after_return (bytes ++ more) ≡ commands_from (in_line []) (bytes ++ more)
+commands_from-no_feed bytes more q e =
+    ap (λ l. commands_from after_return (l ++ more)) (at_front bytes q)
+    ∙ other_behind_return (get_or bytes 0 0) (drop 1 bytes ++ more) (ne_eqb (get_or bytes 0 0) 10 e)
+    ∙ ap (λ l. commands_from (in_line []) (l ++ more)) (sym (at_front bytes q))
+
+pub commands_from-empty : (r : Reading) (bytes : List ℕ) → eqb (length bytes) 0 ≡ true → commands_from r bytes ≡ []
+commands_from-empty r [] h = commands_from-nil r
+commands_from-empty r (b ∷ bytes) h = absurd (omega (arith, eqb-true (length (b ∷ bytes)) 0 h))
+
+-- ---- a search for the end of a line
+
+-- no end stands before s, and none from there up to n
+pub HasNoEnd-more : (bytes : List ℕ) (s n : ℕ) → s ≤ n → n ≤ length bytes → HasNoEnd (take s bytes) → ((k : ℕ) → s + k < n → is_end (get_or (drop s bytes) k 0) ≡ false) → HasNoEnd (take n bytes)
+HasNoEnd-more bytes s n low high h more =
+    HasNoEnd-from (take n bytes) (λ j q.
+        let below : j < n = omega (arith, length-take n bytes) in
+        let passes : is_end (get_or bytes j 0) ≡ false = elim (cases_lt j s) [
+          inl l ↦ subst (λ (b : ℕ). is_end b ≡ false) (get_or-take s bytes j 0 l) (HasNoEnd-at (take s bytes) j h (omega (arith, length-take s bytes)))
+        | inr l ↦
+            let place : s + (j - s) ≡ j = omega arith in
+            subst (λ (b : ℕ). is_end b ≡ false) (get_or-drop s bytes (j - s) 0 ∙ ap (λ k. get_or bytes k 0) place) (more (j - s) (omega arith))
+        ] in
+        subst (λ (b : ℕ). is_end b ≡ false) (sym (get_or-take n bytes j 0 below)) passes)
+
+pub HasNoEnd-all : (bytes : List ℕ) → HasNoEnd (take (length bytes) bytes) → HasNoEnd bytes
+HasNoEnd-all bytes h = subst HasNoEnd (take_all (length bytes) bytes (omega arith)) h
