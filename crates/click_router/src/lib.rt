@@ -5,6 +5,7 @@ pub mod call;
 mod classes;
 mod expand;
 pub mod fault;
+mod names;
 mod ports;
 pub mod opening;
 pub mod router;
