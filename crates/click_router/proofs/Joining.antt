@@ -1,14 +1,16 @@
 -- The connections that wires make, one after another.
-use Rattle.std.proofs.Common.{◌≡◌, ℕ, ◌+◌, ◌<◌, List, [], ◌∷◌, ◌++◌, map, length, get_or, drop, Bool, Option, Some, None, refl, sym, ap, ◌∙◌, append_assoc, position}
+use Rattle.std.proofs.Common.{◌≡◌, ℕ, ◌+◌, ◌<◌, ◌≤◌, List, [], ◌∷◌, ◌++◌, map, length, get_or, drop, Bool, Option, Some, None, refl, sym, ap, ◌∙◌, append_assoc, position, arith}
 use Rattle.std.specs.List.{filter_map, cons_option}
 use Rattle.std.specs.Str.{bytes_eq}
-use Rattle.std.proofs.lemmas.List.{at_drop_more}
+use Rattle.std.proofs.lemmas.Bool.{cond_both}
+use Rattle.std.proofs.lemmas.List.{append-nil, at_drop_all, at_drop_more}
 use Rattle.std.proofs.lemmas.List.Elements.{filter_map-append}
+use Rattle.click_text.specs.declared.syntax.Element.{Element}
 use Rattle.click_text.specs.declared.syntax.Link.{Link}
 use Rattle.click_router.specs.declared.expand.Connection.{Connection}
 use Rattle.click_router.specs.declared.expand.Step.{Step}
 use Rattle.click_router.specs.declared.expand.Step.TheVariants as step
-use Rattle.click_router.specs.Expand.{element_of, name_of, number_behind, port_number, wires_at, wires_from}
+use Rattle.click_router.specs.Expand.{element_of, makes, name_of, number_behind, port_number, wires_at, wires_from}
 use Rattle.click_router.specs.Joined.{join, joined, link_joins, joined_at}
 
 -- where the element of a name stands, if there is a name
@@ -45,12 +47,27 @@ module _ (text : List ℕ) (declared : List ℕ → Bool) (names : List (List �
   unfolding wires_from
   joined-end n before = refl
 
-  pub joined-more : (all cs : List Connection) (n : ℕ) (before : Option (List ℕ)) (ss : List Step) (i : ℕ) (s : Step) → i < length ss → s ≡ get_or ss i s →
+  joined-more : (all cs : List Connection) (n : ℕ) (before : Option (List ℕ)) (ss : List Step) (i : ℕ) (d : Step) → i < length ss →
       all ≡ cs ++ joined_from n before (drop i ss) →
+      (let s = get_or ss i d in
       all ≡ (cs ++ joined_at s (place_named names before) (position (bytes_eq (name_of text declared n (element_of s))) names))
-        ++ joined_from (number_behind text declared n (element_of s)) (Some (name_of text declared n (element_of s))) (drop (i + 1) ss)
-  joined-more all cs n before ss i s l is h =
-      h ∙ at_drop_more (λ ss. cs ++ joined_from n before ss) ss i s l
-      ∙ ap (λ d. cs ++ joined_from n before (d ∷ drop (i + 1) ss)) (sym is)
-      ∙ ap (λ ds. cs ++ ds) (joined-step n before s (drop (i + 1) ss))
+        ++ joined_from (number_behind text declared n (element_of s)) (Some (name_of text declared n (element_of s))) (drop (i + 1) ss))
+  joined-more all cs n before ss i d l h =
+      h ∙ at_drop_more (λ ss. cs ++ joined_from n before ss) ss i d l
+      ∙ ap (λ ds. cs ++ ds) (joined-step n before (get_or ss i d) (drop (i + 1) ss))
       ∙ sym (append_assoc cs _ _)
+
+  pub joined-next : (all cs cs' : List Connection) (n n' : ℕ) (before : Option (List ℕ)) (ss : List Step) (i : ℕ) (d : Step) (e : Element) (name : List ℕ) (from to : Option ℕ) →
+      i < length ss → e ≡ element_of (get_or ss i d) → from ≡ place_named names before → name ≡ name_of text declared n e → to ≡ position (bytes_eq name) names →
+      cs' ≡ cs ++ joined_at (get_or ss i d) from to → n' ≡ number_behind text declared n e →
+      all ≡ cs ++ joined_from n before (drop i ss) → all ≡ cs' ++ joined_from n' (Some name) (drop (i + 1) ss)
+  joined-next all cs cs' n n' before ss i d e name from to l is pf pn pt pc pk h =
+      rw (pc, pk, pt, pn, pf, is) (joined-more all cs n before ss i d l h)
+
+  pub number_behind-le : (n : ℕ) (e : Element) → number_behind text declared n e ≤ n + 1
+  number_behind-le n e = cond_both (makes text declared e) (n + 1) n (λ m. m ≤ n + 1) (λ _. omega arith) (λ _. omega arith)
+
+  pub joined-all : (all cs : List Connection) (n : ℕ) (before : Option (List ℕ)) (ss : List Step) (i : ℕ) → length ss ≤ i →
+      all ≡ cs ++ joined_from n before (drop i ss) → cs ≡ all
+  joined-all all cs n before ss i l h =
+      sym (h ∙ at_drop_all (λ ss. cs ++ joined_from n before ss) ss i l ∙ ap (λ ds. cs ++ ds) (joined-end n before) ∙ append-nil cs)
