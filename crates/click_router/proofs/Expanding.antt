@@ -40,17 +40,17 @@ module _ (text : List ℕ) (declared : List ℕ → Bool) where
       (has_name (name_of text declared n e) before ≡ false) × (is_some (class_of (bytes_at text (class_span e.head))) ≡ true)
   fit before n e m h = no_fault e.head e.text _ _ (rw m at h)
 
-  expand-made : (before : List (List ℕ)) (n : ℕ) (e : Element) (es : List Element) → makes text declared e ≡ true → element_fault text declared before n e ≡ None →
+  pub expand-made : (before : List (List ℕ)) (n : ℕ) (e : Element) (es : List Element) → makes text declared e ≡ true → element_fault text declared before n e ≡ None →
       expand_from text declared before n (e ∷ es) ≡ onto (flat_element text declared n e) (expand_from text declared (before ++ name_of text declared n e ∷ []) (n + 1) es)
   unfolding expand_from
   expand-made before n e es m f = rw (f, m) refl
 
-  expand-other : (before : List (List ℕ)) (n : ℕ) (e : Element) (es : List Element) → makes text declared e ≡ false →
+  pub expand-other : (before : List (List ℕ)) (n : ℕ) (e : Element) (es : List Element) → makes text declared e ≡ false →
       expand_from text declared before n (e ∷ es) ≡ expand_from text declared before n es
   unfolding expand_from
   expand-other before n e es m = rw m refl
 
-  expand-faulty : (before : List (List ℕ)) (n : ℕ) (e : Element) (es : List Element) (f : ExpandFault) → element_fault text declared before n e ≡ Some f →
+  pub expand-faulty : (before : List (List ℕ)) (n : ℕ) (e : Element) (es : List Element) (f : ExpandFault) → element_fault text declared before n e ≡ Some f →
       expand_from text declared before n (e ∷ es) ≡ Err f
   unfolding expand_from
   expand-faulty before n e es f h = rw h refl

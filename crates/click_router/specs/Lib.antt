@@ -5,4 +5,5 @@ pub mod Joined
 pub mod One
 pub mod Opened
 pub mod Ports
+pub mod Sound
 pub mod State
