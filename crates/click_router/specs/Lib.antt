@@ -5,5 +5,6 @@ pub mod Joined
 pub mod One
 pub mod Opened
 pub mod Ports
+pub mod Refused
 pub mod Sound
 pub mod State
