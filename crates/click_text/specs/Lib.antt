@@ -1,5 +1,6 @@
 pub mod Faults
 pub mod Grammar
+pub mod Marks
 pub mod Pieces
 pub mod Spans
 pub mod Spelling

@@ -1,9 +1,12 @@
 //! The pieces of a text: white space, comments and tokens.
 
-ghost use Rattle.std.specs.Prelude.{◌≡◌, IfOk, IsTrue, ◌↔◌};
-ghost use Rattle.click_text.specs.Pieces.{Reads, IsBlank};
+ghost use Rattle.std.specs.Prelude.{◌≡◌, ◌<◌, ◌≤◌, ◌+◌, ◌^◌, ◌↔◌, ℕ, List, eqb, if◌then◌else◌, length, take, slice_index, IfOk, IfSome, IfNone, None, IsTrue, true, false};
+ghost use Rattle.std.specs.List.{list_all};
+ghost use Rattle.click_text.specs.Marks.{mark_of};
+ghost use Rattle.click_text.specs.Pieces.{white, digit, name_byte, word_byte, is_word, ends_comment, IsPiece, Longest, NoPiece, port_of, token_of, piece_fault, Reads, IsBlank};
 
-use crate::syntax::{Ending, Token};
+use crate::strings::string_len;
+use crate::syntax::{Ending, FaultKind, Span, TextFault, Token};
 use std::alloc::{AllocError, Global};
 
 /// What a piece of a text is.
@@ -29,9 +32,407 @@ pub enum Piece {
     Bar,
 }
 
+impl Piece {
+    /// The token of a piece of these bytes that stands there.
+    fn token(self, bytes: &[u8], span: Span) -> Option<Token>
+        ensures { result ≡ token_of self bytes.now span }
+    {
+        match self {
+            Piece::Blank | Piece::LineComment | Piece::BlockComment => None,
+            Piece::Word => Some(Token::Word(span)),
+            Piece::Number => Some(Token::Number(port_number(bytes), span)),
+            Piece::Elementclass => Some(Token::Elementclass(span)),
+            Piece::Require => Some(Token::Require(span)),
+            Piece::Formal => Some(Token::Formal(span)),
+            Piece::String => Some(Token::String(span)),
+            Piece::DoubleColon => Some(Token::DoubleColon(span)),
+            Piece::Arrow => Some(Token::Arrow(span)),
+            Piece::Semicolon => Some(Token::Semicolon(span)),
+            Piece::Comma => Some(Token::Comma(span)),
+            Piece::OpenBracket => Some(Token::OpenBracket(span)),
+            Piece::CloseBracket => Some(Token::CloseBracket(span)),
+            Piece::Open => Some(Token::Open(span)),
+            Piece::Close => Some(Token::Close(span)),
+            Piece::Bar => Some(Token::Bar(span)),
+        }
+    }
+
+    /// The piece is white space or a comment, which has no token.
+    fn is_blank(self) -> bool
+        ensures { (bytes : List ℕ) (span : Span) → IsTrue result ↔ (token_of self bytes span ≡ None) }
+    {
+        match self {
+            Piece::Blank | Piece::LineComment | Piece::BlockComment => true,
+            _ => false,
+        }
+    }
+}
+
+fn is_white(byte: u8) -> bool
+    ensures { result ≡ white byte }
+{
+    byte == b' ' || (9 <= byte && byte <= 13)
+}
+
+fn is_digit(byte: u8) -> bool
+    ensures { result ≡ digit byte }
+{
+    byte.is_ascii_digit()
+}
+
+fn is_name_byte(byte: u8) -> bool
+    ensures { result ≡ name_byte byte }
+{
+    byte.is_ascii_alphanumeric() || byte == b'_'
+}
+
+fn is_word_byte(byte: u8) -> bool
+    ensures { result ≡ word_byte byte }
+{
+    is_name_byte(byte) || byte == b'@'
+}
+
+/// A word byte stands there.
+fn is_word_at(text: &[u8], at: usize) -> bool
+    ensures byte { result ≡ word_byte (slice_index text.now at) }
+    ensures within { IsTrue result → at < length text.now }
+{
+    at < text.len() && is_word_byte(text[at])
+}
+
+/// How long the word is that the text begins with.
+fn word_len(text: &[u8]) -> usize
+    requires some { 0 < length text.now }
+    requires first { word_byte (slice_index text.now 0) ≡ true }
+    ensures positive { 0 < result }
+    ensures within { result ≤ length text.now }
+    ensures word { is_word (take result text.now) ≡ true }
+    ensures most { (m : ℕ) → result < m → m ≤ length text.now → is_word (take m text.now) ≡ false }
+{
+    let mut len = 1;
+    while len < text.len() {
+        if is_word_byte(text[len]) {
+            len += 1;
+        } else if text[len] == b'/' && is_word_at(text, len + 1) {
+            len += 2;
+        } else {
+            return len;
+        }
+    }
+    len
+}
+
+/// The bytes are all digits.
+fn are_digits(bytes: &[u8]) -> bool
+    ensures { result ≡ list_all digit bytes.now }
+{
+    bytes.iter().all(|byte| is_digit(*byte))
+}
+
+/// What a word is that ends where it must.
+fn word_kind(word: &[u8]) -> Piece
+    requires { is_word word.now ≡ true }
+    ensures { IsPiece result word.now }
+{
+    if are_digits(word) {
+        return Piece::Number;
+    }
+    if word == b"elementclass".as_slice() {
+        return Piece::Elementclass;
+    }
+    if word == b"require".as_slice() {
+        return Piece::Require;
+    }
+    Piece::Word
+}
+
+/// How many name bytes the text begins with.
+fn name_len(text: &[u8]) -> usize
+    ensures within { result ≤ length text.now }
+    ensures all { list_all name_byte (take result text.now) ≡ true }
+    ensures most { result < length text.now → name_byte (slice_index text.now result) ≡ false }
+{
+    for (i, byte) in text.iter().enumerate() {
+        if !is_name_byte(*byte) {
+            return i;
+        }
+    }
+    text.len()
+}
+
+/// How many bytes stand before the next LF, or before the end.
+fn line_len(text: &[u8]) -> usize
+    ensures within { result ≤ length text.now }
+    ensures all { list_all (λ b. if eqb b 10 then false else true) (take result text.now) ≡ true }
+    ensures most { result < length text.now → slice_index text.now result ≡ 10 }
+{
+    for (i, byte) in text.iter().enumerate() {
+        if *byte == b'\n' {
+            return i;
+        }
+    }
+    text.len()
+}
+
+/// How many bytes end with the next `*/`.
+fn comment_len(text: &[u8]) -> Option<usize>
+    ensures within { IfSome result (λ len. len ≤ length text.now) }
+    ensures ends { IfSome result (λ len. ends_comment (take len text.now) ≡ true) }
+    ensures never { IfNone result ((n : ℕ) → n ≤ length text.now → ends_comment (take n text.now) ≡ false) }
+{
+    for i in 1..text.len() {
+        if text[i - 1] == b'*' && text[i] == b'/' {
+            return Some(i + 1);
+        }
+    }
+    None
+}
+
+/// The port that digits spell, if there is one of that number.
+fn port_number(digits: &[u8]) -> Option<u8>
+    ensures { result ≡ port_of digits.now }
+{
+    let mut number: u16 = 0;
+    for digit in digits {
+        number = 10 * number + u16::from(digit.saturating_sub(b'0'));
+        // Further digits make it no smaller.
+        if number > 255 {
+            return None;
+        }
+    }
+    Some(number as u8)
+}
+
+/// The piece that is this byte alone, other than white space.
+fn mark(byte: u8) -> Option<Piece>
+    ensures { result ≡ mark_of byte }
+{
+    match byte {
+        b';' => Some(Piece::Semicolon),
+        b',' => Some(Piece::Comma),
+        b'[' => Some(Piece::OpenBracket),
+        b']' => Some(Piece::CloseBracket),
+        b'{' => Some(Piece::Open),
+        b'}' => Some(Piece::Close),
+        b'|' => Some(Piece::Bar),
+        _ => None,
+    }
+}
+
+/// The comment that begins a text, which begins with `/`.
+fn comment(text: &[u8]) -> Option<(Piece, usize)>
+    requires some { 0 < length text.now }
+    requires first { slice_index text.now 0 ≡ 47 }
+    ensures some { IfSome result (λ found. Longest text.now found.0 found.1) }
+    ensures none { IfNone result (NoPiece text.now) }
+    ensures progress { IfSome result (λ found. 0 < found.1) }
+{
+    if text.len() < 2 {
+        return None;
+    }
+    if text[1] == b'/' {
+        return Some((Piece::LineComment, 2 + line_len(&text[2..])));
+    }
+    if text[1] == b'*' {
+        let len = comment_len(&text[2..])?;
+        return Some((Piece::BlockComment, 2 + len));
+    }
+    None
+}
+
+/// The formal that begins a text, which begins with `$`.
+fn formal(text: &[u8]) -> Option<(Piece, usize)>
+    requires some { 0 < length text.now }
+    requires first { slice_index text.now 0 ≡ 36 }
+    ensures some { IfSome result (λ found. Longest text.now found.0 found.1) }
+    ensures none { IfNone result (NoPiece text.now) }
+    ensures progress { IfSome result (λ found. 0 < found.1) }
+{
+    let len = name_len(&text[1..]);
+    if len == 0 {
+        return None;
+    }
+    Some((Piece::Formal, 1 + len))
+}
+
+/// The configuration string that begins a text, which begins with `(`.
+fn string(text: &[u8]) -> Option<(Piece, usize)>
+    requires some { 0 < length text.now }
+    requires first { slice_index text.now 0 ≡ 40 }
+    ensures some { IfSome result (λ found. Longest text.now found.0 found.1) }
+    ensures none { IfNone result (NoPiece text.now) }
+    ensures progress { IfSome result (λ found. 0 < found.1) }
+{
+    let len = string_len(&text[1..])?;
+    Some((Piece::String, 1 + len))
+}
+
+/// The `::` that begins a text, which begins with `:`.
+fn double_colon(text: &[u8]) -> Option<(Piece, usize)>
+    requires some { 0 < length text.now }
+    requires first { slice_index text.now 0 ≡ 58 }
+    ensures some { IfSome result (λ found. Longest text.now found.0 found.1) }
+    ensures none { IfNone result (NoPiece text.now) }
+    ensures progress { IfSome result (λ found. 0 < found.1) }
+{
+    if text.len() > 1 && text[1] == b':' {
+        return Some((Piece::DoubleColon, 2));
+    }
+    None
+}
+
+/// The `->` that begins a text, which begins with `-`.
+fn arrow(text: &[u8]) -> Option<(Piece, usize)>
+    requires some { 0 < length text.now }
+    requires first { slice_index text.now 0 ≡ 45 }
+    ensures some { IfSome result (λ found. Longest text.now found.0 found.1) }
+    ensures none { IfNone result (NoPiece text.now) }
+    ensures progress { IfSome result (λ found. 0 < found.1) }
+{
+    if text.len() > 1 && text[1] == b'>' {
+        return Some((Piece::Arrow, 2));
+    }
+    None
+}
+
+/// The longest piece that begins a text, and its length.
+fn first_piece(text: &[u8]) -> Option<(Piece, usize)>
+    requires { 0 < length text.now }
+    ensures some { IfSome result (λ found. Longest text.now found.0 found.1) }
+    ensures none { IfNone result (NoPiece text.now) }
+    ensures progress { IfSome result (λ found. 0 < found.1) }
+{
+    let byte = text[0];
+    if is_white(byte) {
+        return Some((Piece::Blank, 1));
+    }
+    if is_word_byte(byte) {
+        let len = word_len(text);
+        return Some((word_kind(&text[..len]), len));
+    }
+    if let Some(piece) = mark(byte) {
+        return Some((piece, 1));
+    }
+    match byte {
+        b'/' => comment(text),
+        b'$' => formal(text),
+        b'(' => string(text),
+        b':' => double_colon(text),
+        b'-' => arrow(text),
+        _ => None,
+    }
+}
+
+/// What is wrong at a place where these bytes follow, which no piece begins.
+fn fault_at(at: usize, text: &[u8]) -> Ending
+    requires some { 0 < length text.now }
+    requires fits { at + length text.now < 2 ^ 64 }
+    ensures { result ≡ piece_fault at text.now }
+{
+    let (kind, end) = if text.len() > 1 && text[0] == b'/' && text[1] == b'*' {
+        (FaultKind::UnclosedComment, at + text.len())
+    } else if text[0] == b'(' {
+        (FaultKind::UnclosedString, at + text.len())
+    } else {
+        (FaultKind::BadByte, at + 1)
+    };
+    let span = Span { start: at, end };
+    Ending::Stuck(TextFault { kind, span })
+}
+
 /// The tokens of a text up to its end, or up to the first place where no piece begins.
 pub fn scan(alloc: Global, text: &[u8]) -> Result<(Vec<Token>, Ending), AllocError>
     ensures { IfOk result (λ r. Reads 0 text.now r.0.items r.1) }
 {
-    Err(AllocError)
+    let mut tokens = Vec::new(alloc);
+    let mut at = 0;
+    'pieces: while at < text.len() {
+        let rest = &text[at..];
+        let Some((piece, len)) = first_piece(rest) else {
+            return Ok((tokens, fault_at(at, rest)));
+        };
+        let end = at + len;
+        if let Some(token) = piece.token(&rest[..len], Span { start: at, end }) {
+            tokens.push(token)?;
+        }
+        at = end;
+    }
+    Ok((tokens, Ending::Whole))
+}
+
+/// White space and comments alone.
+pub fn is_blank(text: &[u8]) -> bool
+    ensures { IsTrue result ↔ IsBlank text.now }
+{
+    let mut at = 0;
+    'pieces: while at < text.len() {
+        let Some((piece, len)) = first_piece(&text[at..]) else {
+            return false;
+        };
+        if !piece.is_blank() {
+            return false;
+        }
+        at += len;
+    }
+    true
+}
+
+#[cfg(test)]
+mod tests {
+    use super::*;
+
+    fn span(start: usize, end: usize) -> Span {
+        Span { start, end }
+    }
+
+    fn at(kind: FaultKind, start: usize, end: usize) -> Ending {
+        let span = Span { start, end };
+        Ending::Stuck(TextFault { kind, span })
+    }
+
+    #[test]
+    fn tokens(rt: HostRuntime) -> Result<(), AllocError> {
+        let text = b"q/0::Queue(\"(\", (2)) [007] -> $a, 256 // -> \n elementclass";
+        let (tokens, ending) = scan(rt.alloc(), text)?;
+        let expected = [
+            Token::Word(span(0, 3)),
+            Token::DoubleColon(span(3, 5)),
+            Token::Word(span(5, 10)),
+            Token::String(span(10, 20)),
+            Token::OpenBracket(span(21, 22)),
+            Token::Number(Some(7), span(22, 25)),
+            Token::CloseBracket(span(25, 26)),
+            Token::Arrow(span(27, 29)),
+            Token::Formal(span(30, 32)),
+            Token::Comma(span(32, 33)),
+            Token::Number(None, span(34, 37)),
+            Token::Elementclass(span(46, 58)),
+        ];
+        assert_eq!(rt; tokens.len(), expected.len());
+        for (i, token) in expected.iter().enumerate() {
+            assert_eq!(rt; tokens.get(i), Some(token));
+        }
+        assert_eq!(rt; ending, Ending::Whole);
+        Ok(())
+    }
+
+    #[test]
+    fn endings(rt: HostRuntime) -> Result<(), AllocError> {
+        let (_, ending) = scan(rt.alloc(), b"a = b")?;
+        assert_eq!(rt; ending, at(FaultKind::BadByte, 2, 3));
+        let (_, ending) = scan(rt.alloc(), b"a /* b *")?;
+        assert_eq!(rt; ending, at(FaultKind::UnclosedComment, 2, 8));
+        let (_, ending) = scan(rt.alloc(), b"a(\"b)\"")?;
+        assert_eq!(rt; ending, at(FaultKind::UnclosedString, 1, 6));
+        let (_, ending) = scan(rt.alloc(), b"a/ b")?;
+        assert_eq!(rt; ending, at(FaultKind::BadByte, 1, 2));
+        Ok(())
+    }
+
+    #[test]
+    fn blanks(rt: HostRuntime) {
+        assert!(rt; is_blank(b" \t\n /* (a) */ // b"));
+        assert!(rt; !is_blank(b"// a\n b"));
+        assert!(rt; !is_blank(b"/* a"));
+    }
 }

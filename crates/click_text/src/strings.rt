@@ -1,7 +1,7 @@
 //! Configuration strings: where quotes and comments stand in them.
 
-ghost use Rattle.std.specs.Prelude.{◌≡◌};
-ghost use Rattle.click_text.specs.Strings.{mode_after, is_outside};
+ghost use Rattle.std.specs.Prelude.{◌≡◌, ◌<◌, ◌≤◌, ◌+◌, ◌^◌, ℕ, length, take, IfSome, IfNone, true, false};
+ghost use Rattle.click_text.specs.Strings.{mode_after, plain_after, is_outside, is_last, depth_after, closes};
 
 /// What the next byte of a configuration string stands in.
 #[derive(Clone, Copy, Debug, PartialEq, Eq)]
@@ -26,4 +26,98 @@ pub enum Mode {
     Block,
     /// In such a comment, behind a `*`.
     Star,
+}
+
+impl Mode {
+    /// Behind a byte that is neither in a quote nor in a comment.
+    fn behind_plain(byte: u8) -> Mode
+        ensures { result ≡ plain_after byte }
+    {
+        match byte {
+            b'"' => Mode::Double,
+            b'\'' => Mode::Single,
+            b'/' => Mode::Slash,
+            b'\\' => Mode::Backslash,
+            _ => Mode::Plain,
+        }
+    }
+
+    /// Where a byte leads.
+    pub fn after(self, byte: u8) -> Mode
+        ensures { result ≡ mode_after self byte }
+    {
+        match self {
+            Mode::Plain => Mode::behind_plain(byte),
+            Mode::Slash if byte == b'/' => Mode::Line,
+            Mode::Slash if byte == b'*' => Mode::Block,
+            Mode::Slash => Mode::behind_plain(byte),
+            Mode::Backslash if byte == b'<' => Mode::Angle,
+            Mode::Backslash => Mode::behind_plain(byte),
+            Mode::Double if byte == b'"' => Mode::Plain,
+            Mode::Double if byte == b'\\' => Mode::Escape,
+            Mode::Double => Mode::Double,
+            Mode::Escape => Mode::Double,
+            Mode::Single if byte == b'\'' => Mode::Plain,
+            Mode::Single => Mode::Single,
+            Mode::Angle if byte == b'>' => Mode::Plain,
+            Mode::Angle => Mode::Angle,
+            Mode::Line if byte == b'\n' => Mode::Plain,
+            Mode::Line => Mode::Line,
+            Mode::Block if byte == b'*' => Mode::Star,
+            Mode::Block => Mode::Block,
+            Mode::Star if byte == b'/' => Mode::Plain,
+            Mode::Star if byte == b'*' => Mode::Star,
+            Mode::Star => Mode::Block,
+        }
+    }
+
+    /// The next byte stands outside quotes and comments, where it begins none.
+    pub fn is_outside(self) -> bool
+        ensures { result ≡ is_outside self }
+    {
+        match self {
+            Mode::Plain | Mode::Slash | Mode::Backslash => true,
+            _ => false,
+        }
+    }
+
+    /// The byte closes the last open parenthesis.
+    fn is_last(self, depth: usize, byte: u8) -> bool
+        ensures { result ≡ is_last self depth byte }
+    {
+        self.is_outside() && byte == b')' && depth == 1
+    }
+
+    /// How many parentheses are open behind a byte.
+    fn depth_after(self, depth: usize, byte: u8) -> usize
+        requires { depth + 1 < 2 ^ 64 }
+        ensures { result ≡ depth_after self depth byte }
+    {
+        if !self.is_outside() {
+            return depth;
+        }
+        match byte {
+            b'(' => depth + 1,
+            b')' => depth.saturating_sub(1),
+            _ => depth,
+        }
+    }
+}
+
+/// How many bytes behind an opening parenthesis end with the one that closes it.
+pub fn string_len(text: &[u8]) -> Option<usize>
+    ensures within { IfSome result (λ len. len ≤ length text.now) }
+    ensures closed { IfSome result (λ len. closes Mode.Plain 1 (take len text.now) ≡ true) }
+    ensures unclosed { IfNone result ((n : ℕ) → n ≤ length text.now → closes Mode.Plain 1 (take n text.now) ≡ false) }
+{
+    let mut mode = Mode::Plain;
+    let mut depth = 1;
+    for (i, byte) in text.iter().enumerate() {
+        if mode.is_last(depth, *byte) {
+            return Some(i + 1);
+        }
+        depth = mode.depth_after(depth, *byte);
+        mode = mode.after(*byte);
+    }
+    None
 }
