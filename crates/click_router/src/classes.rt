@@ -1,9 +1,11 @@
 //! The element classes: their names, first states and port counts.
 
-ghost use Rattle.std.specs.Prelude.{◌≡◌, ◌↔◌, IsTrue, MatchOption};
+ghost use Rattle.std.specs.Prelude.{◌≡◌, MatchOption};
 ghost use Rattle.click_text.specs.Pieces.{IsBlank};
 ghost use Rattle.click_router.specs.Classes.{class_at};
 ghost use Rattle.click_router.specs.Classes as spec;
+
+use click_text::lexer::is_blank;
 
 /// A class of elements.
 #[derive(Clone, Copy, Debug, PartialEq, Eq)]
@@ -56,12 +58,6 @@ pub fn first_state(class: Class) -> State
         },
         Class::Discard => State::Discard,
     }
-}
-
-fn is_blank(text: &[u8]) -> bool
-    ensures { IsTrue result ↔ IsBlank text.now }
-{
-    text.is_empty()
 }
 
 /// The first state of an element of the class. Its text may have no arguments.
