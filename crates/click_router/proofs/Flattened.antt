@@ -66,10 +66,14 @@ by_places : (names : List (List ℕ)) (ws : List Wire) (w : Wire) (c : Connectio
 by_places names ws w c k (Some i) (Some j) e f h =
     let is : connection i w.out_port j w.in_port ≡ c = cc in
     let a : i ≡ c.from = ap (λ (x : Connection). x.from) is in let b : j ≡ c.to = ap (λ (x : Connection). x.to) is in
-    let p : w.out_port ≡ c.out_port = ap (λ (x : Connection). x.out_port) is in let q : w.in_port ≡ c.in_port = ap (λ (x : Connection). x.in_port) is in
-    (w.from, w.to, ap (slice_get names) (sym a) ∙ found names w.from i e, ap (slice_get names) (sym b) ∙ found names w.to j f,
-     let same : w ≡ wire w.from c.out_port w.to c.in_port = ap (λ x. wire w.from x w.to w.in_port) p ∙ ap (λ x. wire w.from c.out_port w.to x) q in
-     subst (Contains ws) same k)
+    let p : w.out_port ≡ c.out_port = ap (λ (x : Connection). x.out_port) is in let q : w.in_port ≡ c.in_port = ap (λ (x : Connection). x.in_port) is in (
+      w.from,
+      w.to,
+      ap (slice_get names) (sym a) ∙ found names w.from i e,
+      ap (slice_get names) (sym b) ∙ found names w.to j f,
+      let same : w ≡ wire w.from c.out_port w.to c.in_port = ap (λ x. wire w.from x w.to w.in_port) p ∙ ap (λ x. wire w.from c.out_port w.to x) q in
+          subst (Contains ws) same k,
+    )
 by_places names ws w c k (Some i) None e f h = absurd cc
 by_places names ws w c k None r e f h = absurd cc
 
@@ -83,7 +87,7 @@ pub joined_from : (before : List (List ℕ)) (fs : List FlatElement) → AreSoun
 joined_from before fs s ws c j =
     is_kept (joined (flat_names fs)) ws (wire j.0 c.out_port j.1 c.in_port) c j.4
     (ap (λ o. join o c.out_port (position (bytes_eq j.1) (flat_names fs)) c.in_port) (place_is before fs s c.from j.0 j.2)
-     ∙ ap (λ o. join (Some c.from) c.out_port o c.in_port) (place_is before fs s c.to j.1 j.3))
+    ∙ ap (λ o. join (Some c.from) c.out_port o c.in_port) (place_is before fs s c.to j.1 j.3))
 
 module _ (config : Config) (text : List ℕ) (declared : List (List ℕ)) (first : List Step) (text_is : text ≡ config.text) (first_is : first ≡ steps config)
     (declares : (name : List ℕ) → has_name name declared ≡ has_name name (declared_names text (map element_of first))) where
@@ -113,8 +117,8 @@ module _ (config : Config) (text : List ℕ) (declared : List (List ℕ)) (first
       let made' : expanded config ≡ Ok flat.elements = sym (expanded_is second second_is) ∙ made ∙ ap Ok (sym elements_are) in
       let sound = AreSound-from_expanded config.text (is_declared config) (written_elements config) [] 0 flat.elements made' in
       let joins' : cs ≡ filter_map (joined (flat_names flat.elements)) (wires config) =
-        joins ∙ ap (λ ns. filter_map (joined ns) (wires_from text (λ name. has_name name declared) 0 None third)) (named ∙ ap flat_names (sym elements_are))
-        ∙ ap (filter_map (joined (flat_names flat.elements))) (wires_are third third_is) in
+      joins ∙ ap (λ ns. filter_map (joined ns) (wires_from text (λ name. has_name name declared) 0 None third)) (named ∙ ap flat_names (sym elements_are))
+      ∙ ap (filter_map (joined (flat_names flat.elements))) (wires_are third third_is) in
       record {
         elements = made';
         sound = λ c h. joins_from (flat_names flat.elements) (wires config) c (subst (λ ds. Contains ds c) joins' ((same c).0 h));

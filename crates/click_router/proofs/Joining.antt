@@ -36,7 +36,7 @@ module _ (text : List ℕ) (declared : List ℕ → Bool) (names : List (List �
   joined-step : (n : ℕ) (before : Option (List ℕ)) (s : Step) (ss : List Step) →
       joined_from n before (s ∷ ss)
       ≡ joined_at s (place_named names before) (position (bytes_eq (name_of text declared n (element_of s))) names)
-        ++ joined_from (number_behind text declared n (element_of s)) (Some (name_of text declared n (element_of s))) ss
+      ++ joined_from (number_behind text declared n (element_of s)) (Some (name_of text declared n (element_of s))) ss
   unfolding wires_from
   joined-step n before s ss =
       let name = name_of text declared n (element_of s) in
@@ -51,7 +51,7 @@ module _ (text : List ℕ) (declared : List ℕ → Bool) (names : List (List �
       all ≡ cs ++ joined_from n before (drop i ss) →
       (let s = get_or ss i d in
       all ≡ (cs ++ joined_at s (place_named names before) (position (bytes_eq (name_of text declared n (element_of s))) names))
-        ++ joined_from (number_behind text declared n (element_of s)) (Some (name_of text declared n (element_of s))) (drop (i + 1) ss))
+      ++ joined_from (number_behind text declared n (element_of s)) (Some (name_of text declared n (element_of s))) (drop (i + 1) ss))
   joined-more all cs n before ss i d l h =
       h ∙ at_drop_more (λ ss. cs ++ joined_from n before ss) ss i d l
       ∙ ap (λ ds. cs ++ ds) (joined-step n before (get_or ss i d) (drop (i + 1) ss))

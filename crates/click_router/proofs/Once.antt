@@ -59,8 +59,8 @@ head_or_tail c cs d (suc k, l, is) = inr (k, omega arith, is)
 same_heads : (c : Connection) (cs : List Connection) (d : Connection) (ds : List Connection) → AllBehind c cs → AllBehind d ds → Contains (d ∷ ds) c → Contains (c ∷ cs) d → c ≡ d
 same_heads c cs d ds h g k m =
     elim (head_or_tail d ds c k) [
-    | inl e ↦ sym e
-    | inr a ↦ elim (head_or_tail c cs d m) [ inl e ↦ e | inr b ↦ absurd (Before-one_way c d (behind c cs d h b) (behind d ds c g a)) ]
+      | inl e ↦ sym e
+      | inr a ↦ elim (head_or_tail c cs d m) [ inl e ↦ e | inr b ↦ absurd (Before-one_way c d (behind c cs d h b) (behind d ds c g a)) ]
     ]
 
 -- what stands behind c, where c ≡ d
@@ -68,8 +68,8 @@ tail_from : (c : Connection) (cs : List Connection) (d : Connection) (ds : List 
     ((x : Connection) → Contains (c ∷ cs) x → Contains (d ∷ ds) x) → (x : Connection) → Contains cs x → Contains ds x
 tail_from c cs d ds h e f x k =
     elim (head_or_tail d ds x (f x (in_tail c cs x k))) [
-    | inl g ↦ absurd (Before-not_itself c (subst (Before c) (sym (e ∙ g)) (behind c cs x h k)))
-    | inr t ↦ t
+      | inl g ↦ absurd (Before-not_itself c (subst (Before c) (sym (e ∙ g)) (behind c cs x h k)))
+      | inr t ↦ t
     ]
 
 same_ordered : (cs ds : List Connection) → InOrder cs → InOrder ds → ((x : Connection) → Contains cs x → Contains ds x) → ((x : Connection) → Contains ds x → Contains cs x) → cs ≡ ds
@@ -92,8 +92,8 @@ same_flat config f g h k =
     let es : f.elements ≡ g.elements = let p = sym h.elements ∙ k.elements in cc in
     let P : List FlatElement → Connection → Type 0 = λ es c. Joins (flat_names es) (wires config) c in
     let cs = same_ordered f.connections g.connections h.in_order k.in_order
-      (λ c m. k.complete c (subst (λ es. P es c) es (h.sound c m)))
-      (λ c m. h.complete c (subst (λ es. P es c) (sym es) (k.sound c m))) in
+    (λ c m. k.complete c (subst (λ es. P es c) es (h.sound c m)))
+    (λ c m. h.complete c (subst (λ es. P es c) (sym es) (k.sound c m))) in
     ap (λ es. flat_of es f.connections) es ∙ ap (flat_of g.elements) cs
 
 same_state : (e : FlatElement) (q r : State) → IsFresh e q → IsFresh e r → q ≡ r

@@ -57,8 +57,8 @@ pub apart : (before : List (List ℕ)) (fs : List FlatElement) → AreSound befo
 apart before [] s n h = refl
 apart before (f ∷ fs) s n h =
     elim (bytes_eq n f.name) as (λ b. bytes_eq n f.name ≡ b → (b || has_name n (flat_names fs)) ≡ false) [
-    | true ↦ λ e. absurd (false≢true (sym s.0 ∙ ap (λ m. has_name m before) (sym ((bytes_eq-Decides n f.name).0 e)) ∙ h))
-    | false ↦ λ e. apart (before ++ f.name ∷ []) fs s.2 n (has_name-push before f.name n h)
+      | true ↦ λ e. absurd (false≢true (sym s.0 ∙ ap (λ m. has_name m before) (sym ((bytes_eq-Decides n f.name).0 e)) ∙ h))
+      | false ↦ λ e. apart (before ++ f.name ∷ []) fs s.2 n (has_name-push before f.name n h)
     ] refl
 
 has_name-at : (ns : List (List ℕ)) (i : ℕ) (n : List ℕ) → slice_get ns i ≡ Some n → has_name n ns ≡ true
@@ -72,11 +72,11 @@ first_place before [] s i n h = absurd cc
 first_place before (f ∷ fs) s zero n h = let e : n ≡ f.name = cc in rw ((bytes_eq-Decides n f.name).1 e) refl
 first_place before (f ∷ fs) s (suc i) n h =
     elim (bytes_eq n f.name) as (λ b. bytes_eq n f.name ≡ b → cond (not b) (1 + position_or_len (bytes_eq n) (flat_names fs)) 0 ≡ suc i) [
-    | true ↦ λ e.
-      let none = apart (before ++ f.name ∷ []) fs s.2 f.name (has_name-last before f.name) in
-      let some = has_name-at (flat_names fs) i n h in
-      absurd (false≢true (sym none ∙ ap (λ m. has_name m (flat_names fs)) (sym ((bytes_eq-Decides n f.name).0 e)) ∙ some))
-    | false ↦ λ e. omega (arith, first_place (before ++ f.name ∷ []) fs s.2 i n h)
+      | true ↦ λ e.
+          let none = apart (before ++ f.name ∷ []) fs s.2 f.name (has_name-last before f.name) in
+          let some = has_name-at (flat_names fs) i n h in
+          absurd (false≢true (sym none ∙ ap (λ m. has_name m (flat_names fs)) (sym ((bytes_eq-Decides n f.name).0 e)) ∙ some))
+      | false ↦ λ e. omega (arith, first_place (before ++ f.name ∷ []) fs s.2 i n h)
     ] refl
 
 pub place_is : (before : List (List ℕ)) (fs : List FlatElement) → AreSound before fs → (i : ℕ) (n : List ℕ) → slice_get (flat_names fs) i ≡ Some n → position (bytes_eq n) (flat_names fs) ≡ Some i

@@ -137,8 +137,8 @@ expand_from text declared before n [] = Ok []
 expand_from text declared before n (e ∷ es) =
     unless_fault (element_fault text declared before n e)
     (if makes text declared e
-     then onto (flat_element text declared n e) (expand_from text declared (before ++ name_of text declared n e ∷ []) (n + 1) es)
-     else expand_from text declared before n es)
+    then onto (flat_element text declared n e) (expand_from text declared (before ++ name_of text declared n e ∷ []) (n + 1) es)
+    else expand_from text declared before n es)
 
 -- the elements of a configuration, or its first fault
 abbrev pub expanded : Config → Result (List FlatElement) ExpandFault

@@ -32,9 +32,14 @@ pub enum FaultKind {
 pub enum FaultPlace {
     Nowhere,
     /// At a place of the text: lines and columns are counted from 1, columns in bytes.
-    At { line: usize, column: usize },
+    At {
+        line: usize,
+        column: usize,
+    },
     /// In the element of that name.
-    Element { name: Sequence<u8> },
+    Element {
+        name: Sequence<u8>,
+    },
     /// So many ports of that side of the element are used.
     Used {
         name: Sequence<u8>,

@@ -6,11 +6,14 @@ mod classes;
 mod expand;
 pub mod fault;
 mod names;
-mod ports;
 pub mod opening;
+mod ports;
 pub mod router;
 
 pub use call::{Call, Refusal, Reply, StepFault};
 pub use fault::{ConfigFault, FaultKind, FaultPlace, Side};
 pub use opening::{Prepared, prepare};
 pub use router::Router;
+
+#[cfg(test)]
+mod tests;

@@ -137,10 +137,7 @@ fn name_at(
 {
     match elements.get(place) {
         None => Ok(Sequence::new(alloc)),
-        Some(element) => Ok(Sequence::of(Vec::from_slice(
-            alloc,
-            element.name.as_slice(),
-        )?)),
+        Some(element) => Ok(Sequence::of(Vec::from_slice(alloc, element.name.as_slice())?)),
     }
 }
 

@@ -37,16 +37,14 @@ pub enum PortFault {
     },
 }
 
-impl Connection {
-    /// The element and its port that the connection joins on that side.
-    fn end(&self, side: Side) -> (usize, usize)
-        ensures is { result ≡ spec.end_of side self.now }
-        ensures small { result.1 < 256 }
-    {
-        match side {
-            Side::Inputs => (self.to, usize::from(self.in_port)),
-            Side::Outputs => (self.from, usize::from(self.out_port)),
-        }
+/// The element and its port that the connection joins on that side.
+fn end_of(connection: Connection, side: Side) -> (usize, usize)
+    ensures is { result ≡ spec.end_of side connection }
+    ensures small { result.1 < 256 }
+{
+    match side {
+        Side::Inputs => (connection.to, usize::from(connection.in_port)),
+        Side::Outputs => (connection.from, usize::from(connection.out_port)),
     }
 }
 
@@ -56,7 +54,7 @@ fn uses(connections: &[Connection], side: Side, element: usize, port: usize) -> 
 {
     connections
         .iter()
-        .filter(|c| c.end(side) == (element, port))
+        .filter(|c| end_of(**c, side) == (element, port))
         .count()
 }
 
@@ -66,7 +64,7 @@ fn ports_used(connections: &[Connection], side: Side, element: usize) -> usize
 {
     let mut used = 0;
     for connection in connections {
-        let (at, port) = connection.end(side);
+        let (at, port) = end_of(*connection, side);
         if at == element {
             used = used.max(port + 1);
         }

@@ -13,9 +13,9 @@ returns-in_err-made-clause-err c =
     let p = err_from_is_err_and c.from_residual.result c.from_residual.ensures.1 in
     let k : c.len.result ≡ length c.loop-step.elements.items = search rules in
     rw (p.1, p.2) (elim c.in_err-made.ensures.err [
-    | inl m ↦ inl m
-    | inr e ↦ inr (c.loop-step.invariant.made
-        ∙ left_at-faulty c.args.text.now D c.loop-step.elements.items c.loop-step.names c.len.result c.args.steps.now c.loop-step.step-index _ c.element-element.result _
+      | inl m ↦ inl m
+      | inr e ↦ inr (c.loop-step.invariant.made
+          ∙ left_at-faulty c.args.text.now D c.loop-step.elements.items c.loop-step.names c.len.result c.args.steps.now c.loop-step.step-index _ c.element-element.result _
           c.loop-step.invariant.names k c.loop-step-test.true c.element-element.ensures e)
     ])
 
@@ -25,30 +25,30 @@ loop-step-preserved c =
     let text = c.args.text.now in let ss = c.args.steps.now in let i = c.loop-step.step-index in let fs = c.loop-step.elements.items in let e = c.element-element.result in
     let v = c.loop-step.invariant in
     elim c.if-makes.branch [
-    | then-makes+in_ok-made+in_ok-add+in_ok-push w ↦
-      let f : FlatElement = w.in_ok-made.made in
-      let is : c.if-makes.elements.items ≡ fs ++ f ∷ [] = ap (λ v. v.items) w.elements-is ∙ w.in_ok-push.ensures in
-      let k : w.len.result ≡ length fs = search rules in
-      let m = sym c.makes.ensures ∙ w.if-makes.true in
-      record {
-        names = w.names-is ∙ w.in_ok-add.ensures
-          ∙ ap (λ n. cond (has_name n c.loop-step.names) c.loop-step.names (c.loop-step.names ++ n ∷ [])) w.as_slice.ensures
-          ∙ names-made text D fs c.loop-step.names w.len.result e f v.names m w.in_ok-made.ensures.fit w.in_ok-made.ensures.is
-          ∙ ap flat_names (sym is);
-        few = omega (arith, v.few, ap length is, length_push fs f);
-        made = v.made
-          ∙ left_at-made text D fs c.loop-step.names w.len.result ss i _ e f v.names k c.loop-step-test.true c.element-element.ensures m w.in_ok-made.ensures.fit w.in_ok-made.ensures.is
-          ∙ ap (λ gs. left_at text D gs ss (i + 1)) (sym is);
-      }
-    | else-makes w ↦
-      let is : c.if-makes.elements.items ≡ fs = ap (λ v. v.items) w.elements-is in
-      record {
-        names = w.names-is ∙ v.names ∙ ap flat_names (sym is);
-        few = omega (arith, v.few, ap length is);
-        made = v.made
-          ∙ left_at-other text D fs ss i _ e c.loop-step-test.true c.element-element.ensures (sym c.makes.ensures ∙ w.if-makes.false)
-          ∙ ap (λ gs. left_at text D gs ss (i + 1)) (sym is);
-      }
+      | then-makes+in_ok-made+in_ok-add+in_ok-push w ↦
+          let f : FlatElement = w.in_ok-made.made in
+          let is : c.if-makes.elements.items ≡ fs ++ f ∷ [] = ap (λ v. v.items) w.elements-is ∙ w.in_ok-push.ensures in
+          let k : w.len.result ≡ length fs = search rules in
+          let m = sym c.makes.ensures ∙ w.if-makes.true in
+          record {
+            names = w.names-is ∙ w.in_ok-add.ensures
+                ∙ ap (λ n. cond (has_name n c.loop-step.names) c.loop-step.names (c.loop-step.names ++ n ∷ [])) w.as_slice.ensures
+                ∙ names-made text D fs c.loop-step.names w.len.result e f v.names m w.in_ok-made.ensures.fit w.in_ok-made.ensures.is
+                ∙ ap flat_names (sym is);
+            few = omega (arith, v.few, ap length is, length_push fs f);
+            made = v.made
+                ∙ left_at-made text D fs c.loop-step.names w.len.result ss i _ e f v.names k c.loop-step-test.true c.element-element.ensures m w.in_ok-made.ensures.fit w.in_ok-made.ensures.is
+                ∙ ap (λ gs. left_at text D gs ss (i + 1)) (sym is);
+          }
+      | else-makes w ↦
+          let is : c.if-makes.elements.items ≡ fs = ap (λ v. v.items) w.elements-is in
+          record {
+            names = w.names-is ∙ v.names ∙ ap flat_names (sym is);
+            few = omega (arith, v.few, ap length is);
+            made = v.made
+                ∙ left_at-other text D fs ss i _ e c.loop-step-test.true c.element-element.ensures (sym c.makes.ensures ∙ w.if-makes.false)
+                ∙ ap (λ gs. left_at text D gs ss (i + 1)) (sym is);
+          }
     ]
 
 pub returns-clause-made : goal.returns-clause-made

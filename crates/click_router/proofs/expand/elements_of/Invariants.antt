@@ -8,5 +8,5 @@ invariant-loop-step l = record {
   names : l.names ≡ flat_names l.elements.items;
   few : length l.elements.items ≤ l.step-index;
   made : expand_from l.text (λ name. has_name name l.declared) [] 0 (map element_of l.steps)
-    ≡ behind l.elements.items (expand_from l.text (λ name. has_name name l.declared) (flat_names l.elements.items) (length l.elements.items) (map element_of (drop l.step-index l.steps)));
+      ≡ behind l.elements.items (expand_from l.text (λ name. has_name name l.declared) (flat_names l.elements.items) (length l.elements.items) (map element_of (drop l.step-index l.steps)));
 }

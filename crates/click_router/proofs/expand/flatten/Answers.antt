@@ -8,9 +8,9 @@ pub returns-in_err-elements-clause-err : goal.returns-in_err-elements-clause-err
 returns-in_err-elements-clause-err c =
     let p = err_from_is_err_and c.from_residual-in_err-elements.result c.from_residual-in_err-elements.ensures.1 in
     rw (p.1, p.2) (elim c.in_err-elements.ensures.err [
-    | inl m ↦ inl m
-    | inr e ↦ inr (sym (expanded_is c.args.config.now c.as_slice-text.result.now c.in_ok-declared.declared c.as_slice.result.now c.as_slice-text.ensures
-        (c.as_slice.ensures.value ∙ c.in_ok-steps.ensures) c.in_ok-declared.ensures c.as_slice-2.result.now (c.as_slice-2.ensures.value ∙ c.in_ok-steps.ensures)) ∙ e)
+      | inl m ↦ inl m
+      | inr e ↦ inr (sym (expanded_is c.args.config.now c.as_slice-text.result.now c.in_ok-declared.declared c.as_slice.result.now c.as_slice-text.ensures
+          (c.as_slice.ensures.value ∙ c.in_ok-steps.ensures) c.in_ok-declared.ensures c.as_slice-2.result.now (c.as_slice-2.ensures.value ∙ c.in_ok-steps.ensures)) ∙ e)
     ])
 
 pub returns-clause-flat : goal.returns-clause-flat

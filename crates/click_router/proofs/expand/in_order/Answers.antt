@@ -12,5 +12,7 @@ pub returns-clause-same : goal.returns-clause-same
 returns-clause-same c =
     let is = dedup_is same _ _ c.dedup.ensures.filtered in
     let moved = c.sort_unstable.ensures.permutation in
-    λ x. (λ h. Contains-permutation _ _ x (IsPermutation-sym _ _ moved) (Contains-from_dedup same _ x (rw is at h)),
-      λ h. rw is (Contains-dedup same_equiv exact _ x (Contains-permutation _ _ x moved h)))
+    λ x. (
+      λ h. Contains-permutation _ _ x (IsPermutation-sym _ _ moved) (Contains-from_dedup same _ x (rw is at h)),
+      λ h. rw is (Contains-dedup same_equiv exact _ x (Contains-permutation _ _ x moved h)),
+    )

@@ -9,5 +9,5 @@ abbrev pub invariant-loop-step : goal.invariant-loop-step
 invariant-loop-step l =
     (l.number ≤ l.step-index)
     × ((name : Option (List ℕ)) × (l.from ≡ place_named l.names name)
-      × (filter_map (joined l.names) (wires_from l.text (λ name. has_name name l.declared) 0 None l.steps)
-        ≡ l.connections.items ++ filter_map (joined l.names) (wires_from l.text (λ name. has_name name l.declared) l.number name (drop l.step-index l.steps))))
+    × (filter_map (joined l.names) (wires_from l.text (λ name. has_name name l.declared) 0 None l.steps)
+    ≡ l.connections.items ++ filter_map (joined l.names) (wires_from l.text (λ name. has_name name l.declared) l.number name (drop l.step-index l.steps))))

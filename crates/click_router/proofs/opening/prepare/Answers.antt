@@ -33,6 +33,6 @@ pub returns-in-Err-clause-err : goal.returns-in-Err-clause-err
 returns-in-Err-clause-err c =
     let text = c.args.text.now in
     elim c.in-Err.ensures.err [
-    | inl m ↦ inl (c.of_text.ensures ∙ ap (of_text text) m)
-    | inr a ↦ inr (subst (IsFirstFault text) (sym c.of_text.ensures) (unreadable text c.in-Err.fault a))
+      | inl m ↦ inl (c.of_text.ensures ∙ ap (of_text text) m)
+      | inr a ↦ inr (subst (IsFirstFault text) (sym c.of_text.ensures) (unreadable text c.in-Err.fault a))
     ]

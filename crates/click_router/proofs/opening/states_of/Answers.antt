@@ -9,10 +9,15 @@ use Rattle.click_router.proofs.opening.states_of.Goals as goal
 pub returns-in-None-clause-err : goal.returns-in-None-clause-err
 returns-in-None-clause-err c =
     let es = c.args.elements.now in let i = c.loop-element.element-index in let e = c.element-item.result in
-    inr (take i es, e, drop (i + 1) es, between es i e c.loop-element-test.true c.element-item.is,
+    inr (
+      take i es,
+      e,
+      drop (i + 1) es,
+      between es i e c.loop-element-test.true c.element-item.is,
       blank_all (take i es) c.loop-element.states.items c.loop-element.invariant.fresh,
       (λ b. c.in-None.ensures (subst IsBlank (sym c.as_slice-in-loop-element.ensures) b)),
-      c.in_ok-of_arguments-in-None.ensures)
+      c.in_ok-of_arguments-in-None.ensures,
+    )
 
 pub loop-element-preserved : goal.loop-element-preserved
 loop-element-preserved c =

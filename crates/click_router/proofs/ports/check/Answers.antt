@@ -20,11 +20,11 @@ returns-in-Some-first_twice c =
     let cs = c.args.connections.now in let qs = c.args.states.now in
     let a = counts_from cs 0 qs in let b = unused_from cs 0 qs in let d = twice_from cs 0 qs in
     cons_from_first (a ++ b ++ d) _
-      (first-right (a ++ b) d _ (first-right a b _ (sym c.in_default.ensures) (sym c.in_default-first_unused.ensures)) (sym c.in-Some-first_twice.ensures))
+    (first-right (a ++ b) d _ (first-right a b _ (sym c.in_default.ensures) (sym c.in_default-first_unused.ensures)) (sym c.in-Some-first_twice.ensures))
 
 pub returns : goal.returns
 returns c =
     let cs = c.args.connections.now in let qs = c.args.states.now in
     let a = counts_from cs 0 qs in let b = unused_from cs 0 qs in let d = twice_from cs 0 qs in
     nil_from_first (a ++ b ++ d)
-      (first-right (a ++ b) d _ (first-right a b _ (sym c.in_default.ensures) (sym c.in_default-first_unused.ensures)) (sym c.in_default-first_twice.ensures))
+    (first-right (a ++ b) d _ (first-right a b _ (sym c.in_default.ensures) (sym c.in_default-first_unused.ensures)) (sym c.in_default-first_twice.ensures))

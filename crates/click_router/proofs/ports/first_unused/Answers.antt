@@ -15,16 +15,16 @@ pub returns-in-Some : goal.returns-in-Some
 returns-in-Some c =
     let cs = c.args.connections.now in let i = c.loop-i.i in
     sym (c.loop-i.invariant ∙ elements-yes (unused_from cs) (own cs) (λ i. refl) (λ i q qs. refl) c.args.states.now i state.Idle _ c.loop-i-test.true
-      (first-left (unused_breaches cs i side.Inputs) (unused_breaches cs i side.Outputs) _ (sym c.in-Some.ensures)))
+    (first-left (unused_breaches cs i side.Inputs) (unused_breaches cs i side.Outputs) _ (sym c.in-Some.ensures)))
 
 pub returns-in-Some-unused_fault : goal.returns-in-Some-unused_fault
 returns-in-Some-unused_fault c =
     let cs = c.args.connections.now in let i = c.loop-i.i in
     sym (c.loop-i.invariant ∙ elements-yes (unused_from cs) (own cs) (λ i. refl) (λ i q qs. refl) c.args.states.now i state.Idle _ c.loop-i-test.true
-      (first-right (unused_breaches cs i side.Inputs) (unused_breaches cs i side.Outputs) _ (sym c.in_default.ensures) (sym c.in-Some-unused_fault.ensures)))
+    (first-right (unused_breaches cs i side.Inputs) (unused_breaches cs i side.Outputs) _ (sym c.in_default.ensures) (sym c.in-Some-unused_fault.ensures)))
 
 pub loop-i-preserved : goal.loop-i-preserved
 loop-i-preserved c =
     let cs = c.args.connections.now in let i = c.loop-i.i in
     c.loop-i.invariant ∙ elements-no (unused_from cs) (own cs) (λ i. refl) (λ i q qs. refl) c.args.states.now i state.Idle c.loop-i-test.true
-      (first-right (unused_breaches cs i side.Inputs) (unused_breaches cs i side.Outputs) _ (sym c.in_default.ensures) (sym c.in_default-unused_fault.ensures))
+    (first-right (unused_breaches cs i side.Inputs) (unused_breaches cs i side.Outputs) _ (sym c.in_default.ensures) (sym c.in_default-unused_fault.ensures))

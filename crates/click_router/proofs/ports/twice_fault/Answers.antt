@@ -12,7 +12,7 @@ returns-then-uses-gt1 c =
     let e = c.args.element in let cs = c.args.connections.now in let p = c.loop-port.port in
     let f : ℕ → PortFault = λ p. fault.Twice e side.Outputs p in let t : ℕ → Bool = λ p. nat_lt 1 (uses cs side.Outputs e p) in
     sym (ap (first_from f t 0) (sym c.ports_used-port-end.ensures) ∙ c.loop-port.invariant
-      ∙ first_from-yes f t p c.ports_used-port-end.result c.loop-port-test.true (lt-ltb 1 (uses cs side.Outputs e p) (omega (arith, c.uses.ensures, c.if-uses-gt1.true))))
+    ∙ first_from-yes f t p c.ports_used-port-end.result c.loop-port-test.true (lt-ltb 1 (uses cs side.Outputs e p) (omega (arith, c.uses.ensures, c.if-uses-gt1.true))))
 
 pub loop-port-preserved : goal.loop-port-preserved
 loop-port-preserved c =

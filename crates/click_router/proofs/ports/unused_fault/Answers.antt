@@ -11,7 +11,7 @@ returns-then-uses-eq0 c =
     let s = c.args.side in let e = c.args.element in let cs = c.args.connections.now in let p = c.loop-port.port in
     let f : ℕ → PortFault = λ p. fault.Unused e s p in let t : ℕ → Bool = λ p. nat_eq (uses cs s e p) 0 in
     sym (ap (first_from f t 0) (sym c.ports_used-port-end.ensures) ∙ c.loop-port.invariant
-      ∙ first_from-yes f t p c.ports_used-port-end.result c.loop-port-test.true (eq-eqb (uses cs s e p) 0 (sym c.uses.ensures ∙ c.if-uses-eq0.true)))
+    ∙ first_from-yes f t p c.ports_used-port-end.result c.loop-port-test.true (eq-eqb (uses cs s e p) 0 (sym c.uses.ensures ∙ c.if-uses-eq0.true)))
 
 pub loop-port-preserved : goal.loop-port-preserved
 loop-port-preserved c =
