@@ -15,6 +15,8 @@ use Rattle.click_text.specs.declared.syntax.Statement.TheVariants as statement
 use Rattle.click_text.specs.declared.syntax.Config.{Config}
 use Rattle.click_text.specs.Spans.{bytes_at, string_text}
 use Rattle.click_router.specs.Classes.{class_of}
+use Rattle.click_router.specs.declared.expand.Step.{Step}
+use Rattle.click_router.specs.declared.expand.Step.TheVariants as step
 use Rattle.click_router.specs.declared.expand.FlatElement.{FlatElement}
 use Rattle.click_router.specs.declared.expand.Connection.{Connection}
 use Rattle.click_router.specs.declared.expand.Flat.{Flat}
@@ -23,13 +25,20 @@ use Rattle.click_router.specs.declared.expand.NameFault.TheVariants as names
 use Rattle.click_router.specs.declared.expand.ExpandFault.{ExpandFault}
 use Rattle.click_router.specs.declared.expand.ExpandFault.TheVariants as fault
 
--- the elements of a chain as they are written
-abbrev pub chain_elements : Statement → List Element
-chain_elements (statement.Chain c) = c.first ∷ map (λ l. l.element) c.links
+-- the elements of a chain as they are written, each behind its link
+abbrev pub chain_steps : Statement → List Step
+chain_steps (statement.Chain c) = step.First c.first ∷ map step.Next c.links
 
 -- all elements of a configuration as they are written, in the order of the text
+abbrev pub steps : Config → List Step
+steps c = flat_map chain_steps c.statements
+
+abbrev pub element_of : Step → Element
+element_of (step.First e) = e
+element_of (step.Next l) = l.element
+
 abbrev pub written_elements : Config → List Element
-written_elements c = flat_map chain_elements c.statements
+written_elements c = map element_of (steps c)
 
 -- the name that an element is declared under
 abbrev pub declared_head : List ℕ → Head → Option (List ℕ)
@@ -46,30 +55,34 @@ declared_names text es = filter_map (declared_name text) es
 abbrev pub has_name : List ℕ → List (List ℕ) → Bool
 has_name name known = list_any (bytes_eq name) known
 
+-- the test of a name: it is declared somewhere in the configuration
+abbrev pub is_declared : Config → List ℕ → Bool
+is_declared c name = has_name name (declared_names c.text (written_elements c))
+
 -- a class used as an element makes one called after its class and its number, which counts from 1
 abbrev pub numbered : List ℕ → ℕ → List ℕ
 numbered class before = class ++ codes "@" ++ decimal (before + 1)
 
 -- A bare word that is declared somewhere means that element. Every other way to write an element makes one.
-abbrev pub makes_by : List ℕ → List (List ℕ) → Head → Option Span → Bool
-makes_by text declared (head.Word s) None = not (has_name (bytes_at text s) declared)
+abbrev pub makes_by : List ℕ → (List ℕ → Bool) → Head → Option Span → Bool
+makes_by text declared (head.Word s) None = not (declared (bytes_at text s))
 makes_by text declared (head.Word s) (Some string) = true
 makes_by text declared (head.Declared s c) string = true
 
-abbrev pub makes : List ℕ → List (List ℕ) → Element → Bool
+abbrev pub makes : List ℕ → (List ℕ → Bool) → Element → Bool
 makes text declared e = makes_by text declared e.head e.text
 
 -- how many elements there are behind one, of which so many stand before it
-abbrev pub number_behind : List ℕ → List (List ℕ) → ℕ → Element → ℕ
+abbrev pub number_behind : List ℕ → (List ℕ → Bool) → ℕ → Element → ℕ
 number_behind text declared n e = if makes text declared e then n + 1 else n
 
 -- the name of an element before which so many stand
-abbrev pub name_by : List ℕ → List (List ℕ) → ℕ → Head → Option Span → List ℕ
+abbrev pub name_by : List ℕ → (List ℕ → Bool) → ℕ → Head → Option Span → List ℕ
 name_by text declared n (head.Declared s c) string = bytes_at text s
 name_by text declared n (head.Word s) string =
     if makes_by text declared (head.Word s) string then numbered (bytes_at text s) n else bytes_at text s
 
-abbrev pub name_of : List ℕ → List (List ℕ) → ℕ → Element → List ℕ
+abbrev pub name_of : List ℕ → (List ℕ → Bool) → ℕ → Element → List ℕ
 name_of text declared n e = name_by text declared n e.head e.text
 
 -- the word for its class
@@ -82,7 +95,7 @@ abbrev pub text_by : List ℕ → Option Span → List ℕ
 text_by text None = []
 text_by text (Some string) = string_text text string
 
-abbrev pub flat_element : List ℕ → List (List ℕ) → ℕ → Element → FlatElement
+abbrev pub flat_element : List ℕ → (List ℕ → Bool) → ℕ → Element → FlatElement
 flat_element text declared n e = record {
   name = name_of text declared n e;
   class = bytes_at text (class_span e.head);
@@ -104,7 +117,7 @@ fault_by (head.Word s) string taken known =
     if known then (if taken then Some (fault.Name names.DeclaredTwice s) else None) else Some (fault.Name (unknown (head.Word s) string) s)
 
 -- what is wrong with an element behind those of these names
-abbrev pub element_fault : List ℕ → List (List ℕ) → List (List ℕ) → ℕ → Element → Option ExpandFault
+abbrev pub element_fault : List ℕ → (List ℕ → Bool) → List (List ℕ) → ℕ → Element → Option ExpandFault
 element_fault text declared before n e =
     if makes text declared e
     then fault_by e.head e.text (has_name (name_of text declared n e) before) (is_some (class_of (bytes_at text (class_span e.head))))
@@ -119,17 +132,17 @@ unless_fault (Some f) r = Err f
 unless_fault None r = r
 
 -- the elements that these make behind those of the names before, of which there are n, or the first fault
-unfoldable pub expand_from : List ℕ → List (List ℕ) → List (List ℕ) → ℕ → List Element → Result (List FlatElement) ExpandFault
+unfoldable pub expand_from : List ℕ → (List ℕ → Bool) → List (List ℕ) → ℕ → List Element → Result (List FlatElement) ExpandFault
 expand_from text declared before n [] = Ok []
 expand_from text declared before n (e ∷ es) =
     unless_fault (element_fault text declared before n e)
     (if makes text declared e
-     then onto (flat_element text declared n e) (expand_from text declared (before ++ name_of text declared n e ∷ []) (n + 1) es)
-     else expand_from text declared before n es)
+    then onto (flat_element text declared n e) (expand_from text declared (before ++ name_of text declared n e ∷ []) (n + 1) es)
+    else expand_from text declared before n es)
 
 -- the elements of a configuration, or its first fault
 abbrev pub expanded : Config → Result (List FlatElement) ExpandFault
-expanded c = expand_from c.text (declared_names c.text (written_elements c)) [] 0 (written_elements c)
+expanded c = expand_from c.text (is_declared c) [] 0 (written_elements c)
 
 -- what a link joins: two elements by their names, and the ports
 pub record Wire : Type 0 where
@@ -146,26 +159,21 @@ port_number (Some p) = p.number
 abbrev pub wire : List ℕ → Link → List ℕ → Wire
 wire a l b = record { from = a; out_port = port_number l.from; to = b; in_port = port_number l.to }
 
--- the wires of the links behind the element of that name, up to which there are n elements
-unfoldable pub wires_behind : List ℕ → List (List ℕ) → ℕ → List ℕ → List Link → List Wire
-wires_behind text declared n name [] = []
-wires_behind text declared n name (l ∷ ls) =
-    wire name l (name_of text declared n l.element) ∷ wires_behind text declared (number_behind text declared n l.element) (name_of text declared n l.element) ls
+-- the wire to an element of that name from the one before it
+abbrev pub wires_at : Step → Option (List ℕ) → List ℕ → List Wire
+wires_at (step.First e) before name = []
+wires_at (step.Next l) None name = []
+wires_at (step.Next l) (Some before) name = wire before l name ∷ []
 
--- how many elements there are behind these
-unfoldable pub number_after : List ℕ → List (List ℕ) → ℕ → List Element → ℕ
-number_after text declared n [] = n
-number_after text declared n (e ∷ es) = number_after text declared (number_behind text declared n e) es
-
--- the wires of statements before which n elements stand
-unfoldable pub wires_from : List ℕ → List (List ℕ) → ℕ → List Statement → List Wire
-wires_from text declared n [] = []
-wires_from text declared n (statement.Chain c ∷ ss) =
-    wires_behind text declared (number_behind text declared n c.first) (name_of text declared n c.first) c.links
-    ++ wires_from text declared (number_after text declared n (chain_elements (statement.Chain c))) ss
+-- the wires to these elements, behind the element of the name before, up to which there are n elements
+unfoldable pub wires_from : List ℕ → (List ℕ → Bool) → ℕ → Option (List ℕ) → List Step → List Wire
+wires_from text declared n before [] = []
+wires_from text declared n before (s ∷ ss) =
+    wires_at s before (name_of text declared n (element_of s))
+    ++ wires_from text declared (number_behind text declared n (element_of s)) (Some (name_of text declared n (element_of s))) ss
 
 abbrev pub wires : Config → List Wire
-wires c = wires_from c.text (declared_names c.text (written_elements c)) 0 c.statements
+wires c = wires_from c.text (is_declared c) 0 None (steps c)
 
 -- a connection joins the elements of these names as one of the wires does
 abbrev pub Joins : List (List ℕ) → List Wire → Connection → Type 0

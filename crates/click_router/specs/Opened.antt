@@ -99,6 +99,10 @@ of_ports es (port_fault.Count i s used) = record { kind = kind.Count; place = pl
 of_ports es (port_fault.Unused i s port) = record { kind = kind.Unused; place = place.Port (name_at es i) s port }
 of_ports es (port_fault.Twice i s port) = record { kind = kind.Twice; place = place.Port (name_at es i) s port }
 
+-- a fault of an element that has arguments
+abbrev pub of_arguments : FlatElement → ConfigFault
+of_arguments e = record { kind = kind.ArgumentCount; place = place.Element e.name }
+
 -- The first fault of a text: of the text itself, else of its names, else of the arguments of the first element that has some,
 -- else the first breach of its ports.
 pub data IsFirstFault : List ℕ → ConfigFault → Type 0 where

@@ -9,10 +9,14 @@ use Rattle.click_router.specs.declared.ports.Side.TheVariants as side
 use Rattle.click_router.specs.declared.ports.PortFault.{PortFault}
 use Rattle.click_router.specs.declared.ports.PortFault.TheVariants as fault
 
+-- the element and the port that a connection has on a side
+abbrev pub end_of : Side → Connection → ℕ × ℕ
+end_of side.Inputs c = (c.to, c.in_port)
+end_of side.Outputs c = (c.from, c.out_port)
+
 -- the connection ends at that port of the element
 abbrev pub is_at : Side → ℕ → ℕ → Connection → Bool
-is_at side.Inputs i p c = nat_eq c.to i && nat_eq c.in_port p
-is_at side.Outputs i p c = nat_eq c.from i && nat_eq c.out_port p
+is_at s i p c = nat_eq (end_of s c).0 i && nat_eq (end_of s c).1 p
 
 -- how many connections the port has
 abbrev pub uses : List Connection → Side → ℕ → ℕ → ℕ
@@ -20,8 +24,7 @@ uses cs s i p = count_by (is_at s i p) cs
 
 -- one more than the port that the connection has at the element, or 0
 abbrev pub port_past : Side → ℕ → Connection → ℕ
-port_past side.Inputs i c = if nat_eq c.to i then c.in_port + 1 else 0
-port_past side.Outputs i c = if nat_eq c.from i then c.out_port + 1 else 0
+port_past s i c = if nat_eq (end_of s c).0 i then (end_of s c).1 + 1 else 0
 
 -- an element has as many ports as its highest connected one says
 abbrev pub ports_used : Side → ℕ → List Connection → ℕ

@@ -1,10 +1,11 @@
 //! Why a configuration is refused, and the text that tells it.
 
-ghost use Rattle.std.specs.Prelude.{◌≡◌, IfOk};
-ghost use Rattle.click_router.specs.FaultText.{fault_text};
+ghost use Rattle.std.specs.Prelude.{◌≡◌, ◌++◌, IfOk, OnOk, decimal};
+ghost use Rattle.click_router.specs.FaultText.{kind_text, place_text, ports_text, port_text, fault_text};
 
 pub use crate::ports::Side;
 use click_text::sequence::Sequence;
+use itoa::Buffer;
 use std::alloc::{AllocError, Global};
 
 /// What is wrong. The numbers are those that operators see.
@@ -31,9 +32,14 @@ pub enum FaultKind {
 pub enum FaultPlace {
     Nowhere,
     /// At a place of the text: lines and columns are counted from 1, columns in bytes.
-    At { line: usize, column: usize },
+    At {
+        line: usize,
+        column: usize,
+    },
     /// In the element of that name.
-    Element { name: Sequence<u8> },
+    Element {
+        name: Sequence<u8>,
+    },
     /// So many ports of that side of the element are used.
     Used {
         name: Sequence<u8>,
@@ -55,11 +61,100 @@ pub struct ConfigFault {
     pub place: FaultPlace,
 }
 
+impl FaultKind {
+    /// Its number and its name.
+    fn text(self) -> &'static str
+        ensures { result.now ≡ kind_text self }
+    {
+        match self {
+            FaultKind::BadByte => "1 BadByte",
+            FaultKind::UnclosedComment => "2 UnclosedComment",
+            FaultKind::UnclosedString => "3 UnclosedString",
+            FaultKind::Unexpected => "4 Unexpected",
+            FaultKind::TooDeep => "5 TooDeep",
+            FaultKind::TooLarge => "6 TooLarge",
+            FaultKind::NoMemory => "7 NoMemory",
+            FaultKind::UnknownName => "11 UnknownName",
+            FaultKind::DeclaredTwice => "12 DeclaredTwice",
+            FaultKind::UnknownClass => "13 UnknownClass",
+            FaultKind::ArgumentCount => "21 ArgumentCount",
+            FaultKind::Count => "31 Count",
+            FaultKind::Unused => "32 Unused",
+            FaultKind::Twice => "33 Twice",
+        }
+    }
+}
+
+/// The ports of a side.
+fn ports_of(side: Side) -> &'static str
+    ensures { result.now ≡ ports_text side }
+{
+    match side {
+        Side::Inputs => " inputs ",
+        Side::Outputs => " outputs ",
+    }
+}
+
+/// A port of a side.
+fn port_of(side: Side) -> &'static str
+    ensures { result.now ≡ port_text side }
+{
+    match side {
+        Side::Inputs => " input ",
+        Side::Outputs => " output ",
+    }
+}
+
+/// Adds a number in decimal digits.
+fn push_number(line: &mut Vec<u8>, number: usize) -> Result<(), AllocError>
+    ensures { OnOk result (line.new.items ≡ line.old.items ++ decimal number) }
+{
+    let mut buffer = Buffer::new();
+    line.extend_from_slice(buffer.format(number).as_bytes())?;
+    Ok(())
+}
+
+impl FaultPlace {
+    /// Adds the words that tell the place.
+    fn push_to(&self, line: &mut Vec<u8>) -> Result<(), AllocError>
+        ensures { OnOk result (line.new.items ≡ line.old.items ++ place_text self.now) }
+    {
+        match self {
+            FaultPlace::Nowhere => {}
+            FaultPlace::At { line: row, column } => {
+                line.extend_from_slice(b" at ")?;
+                push_number(line, *row)?;
+                line.extend_from_slice(b":")?;
+                push_number(line, *column)?;
+            }
+            FaultPlace::Element { name } => {
+                line.extend_from_slice(b" in ")?;
+                line.extend_from_slice(name.as_slice())?;
+            }
+            FaultPlace::Used { name, side, used } => {
+                line.extend_from_slice(b" at ")?;
+                line.extend_from_slice(name.as_slice())?;
+                line.extend_from_slice(ports_of(*side).as_bytes())?;
+                push_number(line, *used)?;
+            }
+            FaultPlace::Port { name, side, port } => {
+                line.extend_from_slice(b" at ")?;
+                line.extend_from_slice(name.as_slice())?;
+                line.extend_from_slice(port_of(*side).as_bytes())?;
+                push_number(line, *port)?;
+            }
+        }
+        Ok(())
+    }
+}
+
 impl ConfigFault {
     /// The fault in one line: its number, its name, and where it stands, as `31 Count at Counter@1 inputs 0`.
     pub fn text(&self, alloc: Global) -> Result<Vec<u8>, AllocError>
         ensures { IfOk result (λ text. text.items ≡ fault_text self.now) }
     {
-        Err(AllocError)
+        let mut line = Vec::from_slice(alloc, self.kind.text().as_bytes())?;
+        self.place.push_to(&mut line)?;
+        Ok(line)
     }
 }

@@ -5,11 +5,15 @@ pub mod call;
 mod classes;
 mod expand;
 pub mod fault;
-mod ports;
+mod names;
 pub mod opening;
+mod ports;
 pub mod router;
 
 pub use call::{Call, Refusal, Reply, StepFault};
 pub use fault::{ConfigFault, FaultKind, FaultPlace, Side};
 pub use opening::{Prepared, prepare};
 pub use router::Router;
+
+#[cfg(test)]
+mod tests;

@@ -1,15 +1,24 @@
 //! From a text to a router that can be opened.
 
-ghost use Rattle.std.specs.Prelude.{◌≡◌, IfOk, IfErr};
+ghost use Rattle.std.specs.Prelude.{◌≡◌, ◌⊎◌, ◌<◌, ◌≤◌, ℕ, [], ◌∷◌, ◌++◌, OnOk, map, length, IfOk, IfErr};
+ghost use Rattle.click_text.specs.Spelling.{longest_text};
 ghost use Rattle.click_router.specs.State.{RouterState};
-ghost use Rattle.click_router.specs.Opened.{IsOpened, IsFirstFault, IsGiven, IsMemoryOr};
+ghost use Rattle.click_router.specs.Expand.{flat_names};
+ghost use Rattle.click_router.specs.Ports.{breaches};
+ghost use Rattle.click_router.specs.Sound.{AreSound};
+ghost use Rattle.click_router.specs.Opened as spec;
+ghost use Rattle.click_router.specs.Opened.{AreFresh, OpensAs, IsOpened, IsFirstFault, IsGiven, IsMemoryOr};
+ghost use Rattle.click_router.specs.Refused.{IsUnfit, IsUnlawful, IsConfigFault};
 
-use crate::classes::State;
-use crate::expand::Flat;
+use crate::classes::{State, class_of, make};
+use crate::expand::{ExpandFault, Flat, FlatElement, NameFault, flatten};
 use crate::fault::{ConfigFault, FaultKind, FaultPlace};
+use crate::names::Names;
+use crate::ports::{PortFault, Side, check};
 use click_text::sequence::Sequence;
-use indexmap::IndexSet;
-use std::alloc::Global;
+use click_text::syntax::{Config, FaultKind as TextKind, Span, TextFault};
+use click_text::{LONGEST_TEXT, parse};
+use std::alloc::{AllocError, Global};
 use std::marker::Model;
 
 /// A lawful configuration with its elements' first states.
@@ -19,7 +28,7 @@ pub struct Prepared {
     pub(crate) flat: Flat,
     pub(crate) states: Sequence<State>,
     /// The elements' names in their order, to look one up.
-    pub(crate) names: IndexSet<Vec<u8>>,
+    pub(crate) names: Names,
 }
 
 impl Model for Prepared {
@@ -30,7 +39,260 @@ impl Model for Prepared {
 
     ghost view = { λ p. record { text = p.text; flat = p.flat; states = p.states } };
 
-    ghost invariant = { λ p. (map (λ v. v.items) p.names.keys ≡ map (λ e. e.name) p.flat.elements) × (length p.states ≡ length p.flat.elements) };
+    ghost invariant = { λ p. (p.names ≡ map (λ e. e.name) p.flat.elements) × (length p.states ≡ length p.flat.elements) };
+}
+
+/// The line of the place: one more than the LF bytes before it.
+fn line_at(text: &[u8], at: usize) -> usize
+    requires { length text.now ≤ longest_text }
+    ensures { result ≡ spec.line_at text.now at }
+{
+    let before = &text[..at.min(text.len())];
+    before.iter().filter(|b| **b == b'\n').count() + 1
+}
+
+/// The column of the place: one more than the bytes between it and the last LF before it.
+fn column_at(text: &[u8], at: usize) -> usize
+    requires { length text.now ≤ longest_text }
+    ensures { result ≡ spec.column_at text.now at }
+{
+    let before = &text[..at.min(text.len())];
+    before.iter().rev().take_while(|b| **b != b'\n').count() + 1
+}
+
+/// A fault that stands nowhere.
+fn nowhere(kind: FaultKind) -> ConfigFault
+    ensures { result ≡ spec.fault_nowhere kind }
+{
+    ConfigFault {
+        kind,
+        place: FaultPlace::Nowhere,
+    }
+}
+
+/// A fault where the span begins.
+fn at(kind: FaultKind, text: &[u8], span: Span) -> ConfigFault
+    requires { length text.now ≤ longest_text }
+    ensures { result ≡ spec.fault_at kind text.now span }
+{
+    ConfigFault {
+        kind,
+        place: FaultPlace::At {
+            line: line_at(text, span.start),
+            column: column_at(text, span.start),
+        },
+    }
+}
+
+/// A fault of the text itself.
+fn of_text(text: &[u8], fault: TextFault) -> ConfigFault
+    requires { length text.now ≤ longest_text }
+    ensures { result ≡ spec.of_text text.now fault }
+{
+    match fault.kind {
+        TextKind::BadByte => at(FaultKind::BadByte, text, fault.span),
+        TextKind::UnclosedComment => at(FaultKind::UnclosedComment, text, fault.span),
+        TextKind::UnclosedString => at(FaultKind::UnclosedString, text, fault.span),
+        TextKind::Unexpected => at(FaultKind::Unexpected, text, fault.span),
+        TextKind::TooDeep => at(FaultKind::TooDeep, text, fault.span),
+        TextKind::TooLarge => nowhere(FaultKind::TooLarge),
+        TextKind::NoMemory => nowhere(FaultKind::NoMemory),
+    }
+}
+
+/// A fault of a name.
+fn of_names(text: &[u8], fault: ExpandFault) -> ConfigFault
+    requires { length text.now ≤ longest_text }
+    ensures { result ≡ spec.of_names text.now fault }
+{
+    match fault {
+        ExpandFault::Name(NameFault::UnknownName, span) => at(FaultKind::UnknownName, text, span),
+        ExpandFault::Name(NameFault::DeclaredTwice, span) => {
+            at(FaultKind::DeclaredTwice, text, span)
+        }
+        ExpandFault::Name(NameFault::UnknownClass, span) => at(FaultKind::UnknownClass, text, span),
+        ExpandFault::NoMemory => nowhere(FaultKind::NoMemory),
+    }
+}
+
+impl From<AllocError> for ConfigFault {
+    ghost use Rattle.std.specs.Prelude.{◌≡◌};
+    ghost use Rattle.click_router.specs.Opened.{fault_nowhere};
+    ghost use Rattle.click_router.specs.declared.fault.FaultKind.TheVariants as kind;
+
+    ghost from_gives = { λ _ f. f ≡ fault_nowhere kind.NoMemory };
+
+    fn from(_error: AllocError) -> ConfigFault {
+        nowhere(FaultKind::NoMemory)
+    }
+}
+
+/// A copy of the name of the element at a place.
+fn name_at(
+    alloc: Global,
+    elements: &[FlatElement],
+    place: usize,
+) -> Result<Sequence<u8>, AllocError>
+    ensures { IfOk result (λ name. name ≡ spec.name_at elements.now place) }
+{
+    match elements.get(place) {
+        None => Ok(Sequence::new(alloc)),
+        Some(element) => Ok(Sequence::of(Vec::from_slice(alloc, element.name.as_slice())?)),
+    }
+}
+
+/// A fault of the number of ports that an element has on a side.
+fn of_count(
+    alloc: Global,
+    elements: &[FlatElement],
+    element: usize,
+    side: Side,
+    used: usize,
+) -> Result<ConfigFault, AllocError>
+    ensures { IfOk result (λ f. f ≡ spec.of_ports elements.now (PortFault.Count element side used)) }
+{
+    Ok(ConfigFault {
+        kind: FaultKind::Count,
+        place: FaultPlace::Used {
+            name: name_at(alloc, elements, element)?,
+            side,
+            used,
+        },
+    })
+}
+
+/// A place at a port of an element.
+fn port_place(
+    alloc: Global,
+    elements: &[FlatElement],
+    element: usize,
+    side: Side,
+    port: usize,
+) -> Result<FaultPlace, AllocError>
+    ensures { IfOk result (λ p. p ≡ FaultPlace.Port (spec.name_at elements.now element) side port) }
+{
+    Ok(FaultPlace::Port {
+        name: name_at(alloc, elements, element)?,
+        side,
+        port,
+    })
+}
+
+/// A fault of ports.
+fn of_ports(
+    alloc: Global,
+    elements: &[FlatElement],
+    fault: PortFault,
+) -> Result<ConfigFault, AllocError>
+    ensures { IfOk result (λ f. f ≡ spec.of_ports elements.now fault) }
+{
+    match fault {
+        PortFault::Count {
+            element,
+            side,
+            used,
+        } => of_count(alloc, elements, element, side, used),
+        PortFault::Unused {
+            element,
+            side,
+            port,
+        } => Ok(ConfigFault {
+            kind: FaultKind::Unused,
+            place: port_place(alloc, elements, element, side, port)?,
+        }),
+        PortFault::Twice {
+            element,
+            side,
+            port,
+        } => Ok(ConfigFault {
+            kind: FaultKind::Twice,
+            place: port_place(alloc, elements, element, side, port)?,
+        }),
+    }
+}
+
+/// The fault of an element that has arguments.
+fn of_arguments(alloc: Global, element: &FlatElement) -> Result<ConfigFault, AllocError>
+    ensures { IfOk result (λ f. f ≡ spec.of_arguments element.now) }
+{
+    Ok(ConfigFault {
+        kind: FaultKind::ArgumentCount,
+        place: FaultPlace::Element {
+            name: Sequence::of(Vec::from_slice(alloc, element.name.as_slice())?),
+        },
+    })
+}
+
+/// The first states of the elements, or the fault of the first that has arguments.
+fn states_of(alloc: Global, elements: &[FlatElement]) -> Result<Vec<State>, ConfigFault>
+    requires { AreSound [] elements.now }
+    ensures fresh { IfOk result (λ v. AreFresh elements.now v.items) }
+    ensures err { IfErr result (λ f. IsMemoryOr f (IsUnfit elements.now f)) }
+{
+    let mut states = Vec::new(alloc);
+    for element in elements {
+        let Some(class) = class_of(element.class.as_slice()) else {
+            unreachable!()
+        };
+        match make(class, element.text.as_slice()) {
+            Some(state) => push(&mut states, state)?,
+            None => return Err(of_arguments(alloc, element)?),
+        }
+    }
+    Ok(states)
+}
+
+/// Adds a state at the end.
+fn push(states: &mut Vec<State>, state: State) -> Result<(), AllocError>
+    ensures { OnOk result (states.new.items ≡ states.old.items ++ state ∷ []) }
+{
+    states.push(state)?;
+    Ok(())
+}
+
+/// The names of the elements.
+fn names_of(alloc: Global, elements: &[FlatElement]) -> Result<Names, AllocError>
+    requires { AreSound [] elements.now }
+    ensures { IfOk result (λ names. names ≡ flat_names elements.now) }
+{
+    let mut names = Names::new(alloc);
+    for element in elements {
+        names.add(alloc, element.name.as_slice())?;
+    }
+    Ok(names)
+}
+
+/// The router of a flat form, or its first fault.
+fn prepare_flat(alloc: Global, text: Sequence<u8>, flat: Flat) -> Result<Prepared, ConfigFault>
+    requires { AreSound [] flat.elements }
+    ensures is { IfOk result (λ p. (p.text ≡ text) × (p.flat ≡ flat)) }
+    ensures fresh { IfOk result (λ p. AreFresh flat.elements p.states) }
+    ensures lawful { IfOk result (λ p. breaches flat.connections p.states ≡ []) }
+    ensures err { IfErr result (λ f. IsMemoryOr f (IsUnfit flat.elements f ⊎ IsUnlawful flat f)) }
+{
+    let states = states_of(alloc, flat.elements.as_slice())?;
+    if let Err(fault) = check(flat.connections.as_slice(), states.as_slice()) {
+        return Err(of_ports(alloc, flat.elements.as_slice(), fault)?);
+    }
+    let names = names_of(alloc, flat.elements.as_slice())?;
+    Ok(Prepared {
+        text,
+        flat,
+        states: Sequence::of(states),
+        names,
+    })
+}
+
+/// The router of a configuration, or its first fault.
+fn prepare_config(alloc: Global, config: Config) -> Result<Prepared, ConfigFault>
+    requires { length config.text ≤ longest_text }
+    ensures opened { IfOk result (λ p. OpensAs config p.flat p.states × (p.text ≡ config.text)) }
+    ensures err { IfErr result (λ f. IsMemoryOr f (IsConfigFault config f)) }
+{
+    match flatten(alloc, &config) {
+        Ok(flat) => prepare_flat(alloc, config.text, flat),
+        Err(fault) => Err(of_names(config.text.as_slice(), fault)),
+    }
 }
 
 /// The first state of the router of a text, or the text's first fault. Want of memory is answered as a fault of that kind,
@@ -43,8 +305,12 @@ pub fn prepare(alloc: Global, text: &[u8]) -> Result<Prepared, ConfigFault>
     // Which fault it is.
     ensures err { IfErr result (λ fault. IsMemoryOr fault (IsFirstFault text.now fault)) }
 {
-    Err(ConfigFault {
-        kind: FaultKind::NoMemory,
-        place: FaultPlace::Nowhere,
-    })
+    // Places are told only of a text that may be read.
+    if text.len() > LONGEST_TEXT {
+        return Err(nowhere(FaultKind::TooLarge));
+    }
+    match parse(alloc, text) {
+        Ok(config) => prepare_config(alloc, config),
+        Err(fault) => Err(of_text(text, fault)),
+    }
 }
