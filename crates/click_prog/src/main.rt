@@ -1,0 +1,81 @@
+//! The router as a program: one control session on standard input and output.
+#![tactic(auto)]
+
+mod arguments;
+mod run;
+#[cfg(test)]
+mod tests;
+
+use arguments::configuration;
+use clap::error::ErrorKind;
+use click_control::{Reading, ServeFault, Writing};
+use click_router::{ConfigFault, FaultKind};
+use run::{RunFault, run};
+use std::io::Write;
+use std::process::ExitCode;
+use std::{env, io};
+
+/// How the program ends, for its caller.
+#[derive(Clone, Copy, Debug, PartialEq, Eq)]
+enum Status {
+    Good = 0,
+    FaultyConfiguration = 1,
+    WrongArguments = 2,
+    NoMemory = 3,
+    DeviceFailed = 4,
+}
+
+fn main(rt: HostRuntime) -> ExitCode {
+    ExitCode::from(program(&rt) as u8)
+}
+
+/// Reads the command line and runs the session that it asks for.
+fn program(rt: &HostRuntime) -> Status {
+    let alloc = rt.alloc();
+    let Ok(words) = env::args(rt) else {
+        return Status::NoMemory;
+    };
+    let Ok(words) = words.collect::<Vec<String>>(alloc) else {
+        return Status::NoMemory;
+    };
+    match configuration(alloc, words.as_slice()) {
+        Ok(text) => session(rt, text.unwrap_or("").as_bytes()),
+        Err(error) if error.kind() == ErrorKind::OutOfMemory => Status::NoMemory,
+        Err(error) => {
+            // A failed write changes nothing of the status.
+            let _ = rt.eprint(&error);
+            Status::WrongArguments
+        }
+    }
+}
+
+/// Serves one session on standard input and output, over the router of the text.
+fn session(rt: &HostRuntime, text: &[u8]) -> Status {
+    let mut reader = Reading::new(rt.stdin());
+    let mut writer = Writing::new(rt.stdout());
+    match run(rt.alloc(), &mut reader, &mut writer, text, false) {
+        Ok(_) => Status::Good,
+        Err(RunFault::Config(fault)) => refused(rt, &fault),
+        Err(RunFault::Serve(ServeFault::NoMemory)) => Status::NoMemory,
+        Err(RunFault::Serve(_)) => Status::DeviceFailed,
+    }
+}
+
+/// Tells why a configuration is refused.
+fn refused(rt: &HostRuntime, fault: &ConfigFault) -> Status {
+    if fault.kind == FaultKind::NoMemory {
+        return Status::NoMemory;
+    }
+    let Ok(text) = fault.text(rt.alloc()) else {
+        return Status::NoMemory;
+    };
+    // A failed write changes nothing of the status.
+    let _ = told(&mut rt.stderr(), text.as_slice());
+    Status::FaultyConfiguration
+}
+
+fn told<W: Write>(to: &mut W, fault: &[u8]) -> io::Result<()> {
+    to.write_all(b"click_prog: ")?;
+    to.write_all(fault)?;
+    to.write_all(b"\n")
+}

@@ -1,0 +1,39 @@
+//! One session over a router of its own.
+
+ghost use Rattle.click_prog.specs.Running.{Runs};
+
+use click_control::{Ended, ServeFault, Sink, Source, serve};
+use click_router::{ConfigFault, Router, prepare};
+use std::alloc::Global;
+
+/// Why a run breaks off.
+#[derive(Drop)]
+pub enum RunFault {
+    /// The configuration is faulty, or memory ran out while it was prepared. Nothing was read or written.
+    Config(ConfigFault),
+    /// The session broke off.
+    Serve(ServeFault),
+}
+
+/// Opens the router of a text and serves one session over it.
+///
+/// The session's answers are those of one thread that begins with what the text opens.
+pub fn run<R: Source, W: Sink>(
+    alloc: Global,
+    reader: &mut R,
+    writer: &mut W,
+    text: &[u8],
+    readonly: bool,
+) -> Result<Ended, RunFault>
+    ensures { Runs text.now (R.remaining reader.old) (R.remaining reader.new) (R.failed reader.old) (R.failed reader.new)
+        (W.contents writer.old) (W.contents writer.new) (W.failed writer.old) (W.failed writer.new) result }
+{
+    let mut router = match prepare(alloc, text) {
+        Ok(prepared) => Router::open(prepared),
+        Err(fault) => return Err(RunFault::Config(fault)),
+    };
+    match serve(alloc, reader, writer, &mut router, readonly) {
+        Ok(ended) => Ok(ended),
+        Err(fault) => Err(RunFault::Serve(fault)),
+    }
+}

@@ -1,0 +1,92 @@
+//! A session's peer in memory, with failures at chosen calls.
+
+ghost use Rattle.std.specs.Prelude.{None};
+
+use click_control::{Failed, Sink, Source};
+use std::alloc::Global;
+
+/// Gives bytes in pieces of one size, and fails at one call.
+#[derive(Drop)]
+pub struct Script<'a> {
+    rest: &'a [u8],
+    size: usize,
+    fails: usize,
+    calls: usize,
+    failed: bool,
+}
+
+impl<'a> Script<'a> {
+    /// The call of that number fails: 0 for none.
+    pub fn new(rest: &'a [u8], size: usize, fails: usize) -> Script<'a> {
+        Script {
+            rest,
+            size,
+            fails,
+            calls: 0,
+            failed: false,
+        }
+    }
+}
+
+impl Source for Script<'_> {
+    ghost remaining = { λ _. None };
+
+    ghost failed = { λ script. script.failed };
+
+    fn read(&mut self, piece: &mut [u8]) -> Result<usize, Failed> {
+        self.calls = self.calls.saturating_add(1);
+        if self.calls == self.fails {
+            self.failed = true;
+            return Err(Failed);
+        }
+        let len = self.size.min(self.rest.len()).min(piece.len());
+        piece[..len].copy_from_slice(&self.rest[..len]);
+        self.rest = &self.rest[len..];
+        Ok(len)
+    }
+}
+
+/// Keeps what it takes, so many bytes at most in one call, and fails at one call.
+#[derive(Drop)]
+pub struct Keeper {
+    bytes: Vec<u8>,
+    most: usize,
+    fails: usize,
+    calls: usize,
+    failed: bool,
+}
+
+impl Keeper {
+    /// The call of that number fails: 0 for none. It takes at least one byte of some.
+    pub fn new(alloc: Global, most: usize, fails: usize) -> Keeper {
+        Keeper {
+            bytes: Vec::new(alloc),
+            most: most.max(1),
+            fails,
+            calls: 0,
+            failed: false,
+        }
+    }
+
+    /// What it took.
+    pub fn kept(self) -> Vec<u8> {
+        let Keeper { bytes, .. } = self;
+        bytes
+    }
+}
+
+impl Sink for Keeper {
+    ghost contents = { λ _. None };
+
+    ghost failed = { λ keeper. keeper.failed };
+
+    fn write(&mut self, bytes: &[u8]) -> Result<usize, Failed> {
+        self.calls = self.calls.saturating_add(1);
+        let len = self.most.max(1).min(bytes.len());
+        if self.calls == self.fails || self.bytes.extend_from_slice(&bytes[..len]).is_err() {
+            self.failed = true;
+            return Err(Failed);
+        }
+        Ok(len)
+    }
+}
