@@ -1,0 +1,31 @@
+#!/usr/bin/env bash
+# Runs each example through the program, which must have been built (rt run click_prog), and compares what it writes and its status.
+set -eu
+cd "$(dirname "$0")"
+program=../crates/click_prog/out/click_prog
+work=$(mktemp -d)
+trap 'rm -rf "$work"' EXIT
+passed=0
+for example in */; do
+    status=0
+    "$program" -e "$(cat "$example/configuration")" < "$example/session" > "$work/out" 2> "$work/err" || status=$?
+    cmp "$work/out" "$example/transcript"
+    cmp "$work/err" "$example/fault"
+    [ "$status" = "$(cat "$example/status")" ]
+    passed=$((passed + 1))
+done
+# Wrong arguments, and help: clap's text on standard error.
+for wrong in '' '-e' '-x' '--help'; do
+    status=0
+    "$program" $wrong < /dev/null > "$work/out" 2> "$work/err" || status=$?
+    [ "$status" = 2 ] && [ -s "$work/err" ] && ! [ -s "$work/out" ]
+    passed=$((passed + 1))
+done
+# A peer that takes nothing more is a failed write; standard input that cannot be read is a failed read.
+status=0
+"$program" -e '' < counter/session > /dev/full 2> "$work/err" || status=$?
+[ "$status" = 4 ]
+status=0
+"$program" -e '' <&- > "$work/out" 2> "$work/err" || status=$?
+[ "$status" = 4 ]
+echo "$((passed + 2)) examples passed"

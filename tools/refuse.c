@@ -1,0 +1,50 @@
+// Refuses the Nth request for memory, where REFUSE names N. Preloaded into a program, it shows what that program answers.
+#define _GNU_SOURCE
+#include <dlfcn.h>
+#include <stdlib.h>
+#include <unistd.h>
+
+static long left = -1;
+
+static int refused(void)
+{
+    if (left < 0) {
+        const char *nth = getenv("REFUSE");
+        left = nth ? atol(nth) : 0;
+        left = left > 0 ? left : 1L << 60;
+    }
+    if (--left == 0) {
+        // Tells the caller of the program that the request came.
+        (void)!write(9, "refused\n", 8);
+        return 1;
+    }
+    return 0;
+}
+
+void *malloc(size_t size)
+{
+    static void *(*real)(size_t);
+    if (!real) real = (void *(*)(size_t))dlsym(RTLD_NEXT, "malloc");
+    return refused() ? 0 : real(size);
+}
+
+void *realloc(void *old, size_t size)
+{
+    static void *(*real)(void *, size_t);
+    if (!real) real = (void *(*)(void *, size_t))dlsym(RTLD_NEXT, "realloc");
+    return refused() ? 0 : real(old, size);
+}
+
+void *aligned_alloc(size_t align, size_t size)
+{
+    static void *(*real)(size_t, size_t);
+    if (!real) real = (void *(*)(size_t, size_t))dlsym(RTLD_NEXT, "aligned_alloc");
+    return refused() ? 0 : real(align, size);
+}
+
+int posix_memalign(void **to, size_t align, size_t size)
+{
+    static int (*real)(void **, size_t, size_t);
+    if (!real) real = (int (*)(void **, size_t, size_t))dlsym(RTLD_NEXT, "posix_memalign");
+    return refused() ? 12 : real(to, align, size);
+}
