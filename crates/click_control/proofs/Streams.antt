@@ -137,14 +137,14 @@ commands_from-empty r (b ∷ bytes) h = absurd (omega (arith, eqb-true (length (
 pub HasNoEnd-more : (bytes : List ℕ) (s n : ℕ) → s ≤ n → n ≤ length bytes → HasNoEnd (take s bytes) → ((k : ℕ) → s + k < n → is_end (get_or (drop s bytes) k 0) ≡ false) → HasNoEnd (take n bytes)
 HasNoEnd-more bytes s n low high h more =
     HasNoEnd-from (take n bytes) (λ j q.
-        let below : j < n = omega (arith, length-take n bytes) in
-        let passes : is_end (get_or bytes j 0) ≡ false = elim (cases_lt j s) [
-          inl l ↦ subst (λ (b : ℕ). is_end b ≡ false) (get_or-take s bytes j 0 l) (HasNoEnd-at (take s bytes) j h (omega (arith, length-take s bytes)))
-        | inr l ↦
-            let place : s + (j - s) ≡ j = omega arith in
-            subst (λ (b : ℕ). is_end b ≡ false) (get_or-drop s bytes (j - s) 0 ∙ ap (λ k. get_or bytes k 0) place) (more (j - s) (omega arith))
-        ] in
-        subst (λ (b : ℕ). is_end b ≡ false) (sym (get_or-take n bytes j 0 below)) passes)
+    let below : j < n = omega (arith, length-take n bytes) in
+    let passes : is_end (get_or bytes j 0) ≡ false = elim (cases_lt j s) [
+      | inl l ↦ subst (λ (b : ℕ). is_end b ≡ false) (get_or-take s bytes j 0 l) (HasNoEnd-at (take s bytes) j h (omega (arith, length-take s bytes)))
+      | inr l ↦
+          let place : s + (j - s) ≡ j = omega arith in
+          subst (λ (b : ℕ). is_end b ≡ false) (get_or-drop s bytes (j - s) 0 ∙ ap (λ k. get_or bytes k 0) place) (more (j - s) (omega arith))
+    ] in
+    subst (λ (b : ℕ). is_end b ≡ false) (sym (get_or-take n bytes j 0 below)) passes)
 
 pub HasNoEnd-all : (bytes : List ℕ) → HasNoEnd (take (length bytes) bytes) → HasNoEnd bytes
 HasNoEnd-all bytes h = subst HasNoEnd (take_all (length bytes) bytes (omega arith)) h

@@ -9,7 +9,7 @@ returns-in-Some c =
     let name = c.args.handler.now in
     let found = c.in-Some.ensures in
     before_last-at name c.in-Some.dot found.0.high found.1
-      (λ j low high. false_from_ne_true (is_dot (get_or name j 0)) (found.0.after j (omega arith) high))
+    (λ j low high. false_from_ne_true (is_dot (get_or name j 0)) (found.0.after j (omega arith) high))
 
 pub returns-in-None : goal.returns-in-None
 returns-in-None c =

@@ -21,7 +21,7 @@ returns-in_err-take_in g c =
     let p = err_from_is_err_and c.from_residual-in_err-take_in.result c.from_residual-in_err-take_in.ensures.1 in
     let now = c.loop-reads in
     rw (p.1, p.2) (Serves-read g.P.Port.asks c.in_err-take_in.field-0.0 c.args.port.now now.port _ _ _ _ _ _ _ _ _ _ now.session c.take_in.new.session now._reads
-      now.invariant.so_far now.invariant.told c.in_err-take_in.ensures)
+    now.invariant.so_far now.invariant.told c.in_err-take_in.ensures)
 
 pub returns-in_err-ended : goal.returns-in_err-ended
 returns-in_err-ended g c =
