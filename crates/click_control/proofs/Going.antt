@@ -1,7 +1,7 @@
 -- Lemmas on a session that goes on.
-use Rattle.std.proofs.Common.{◌≡◌, ℕ, ◌+◌, ◌≤◌, ◌<◌, List, [], ◌∷◌, ◌++◌, length, Bool, true, false, ◌||◌, Option, Some, None, Result, Ok, Err, All, refl, sym, ap, ◌∙◌, subst, inl, inr, le_trans, append_assoc, append-nil, length-append, arith}
-use Rattle.std.specs.Io.KnownBytes.{Consumes, Appends, Keeps, IsAtEnd}
-use Rattle.std.proofs.KnownBytes.{Consumes-nil, Consumes-trans, Consumes-kept, Appends-nil, Appends-trans}
+use Rattle.std.proofs.Common.{◌≡◌, ℕ, ◌+◌, ◌≤◌, List, [], ◌∷◌, ◌++◌, length, Bool, true, false, ◌||◌, Option, Result, Ok, Err, refl, sym, ap, ◌∙◌, inl, inr, le_trans, append_assoc, append-nil, length-append, arith}
+use Rattle.std.specs.Io.KnownBytes.{Appends}
+use Rattle.std.proofs.KnownBytes.{Consumes-nil, Consumes-trans, Consumes-kept, Appends-trans}
 use Rattle.std.proofs.lemmas.List.Elements.{All-nil, All-push}
 use Rattle.click_router.specs.declared.call.Call.{Call}
 use Rattle.click_router.specs.declared.call.Reply.{Reply}
@@ -17,8 +17,8 @@ use Rattle.click_control.specs.Commands.{commands, commands_from, in_line, fresh
 use Rattle.click_control.proofs.Streams.{commands_from-nil}
 use Rattle.click_control.specs.ReplyText.{greeting, text_of}
 use Rattle.click_control.specs.Lines.{Tells, TellsOne}
-use Rattle.click_control.specs.Serving.{Answered, Asked, nothing, then_one, call_of, replies, is_last, most_reads, GoesOn, IsWhole, IsFront, EndsWith, Ends, Serves}
-use Rattle.click_control.specs.Going.{WroteFront, Written, TakesIn, ending_of, SoFar, Goes}
+use Rattle.click_control.specs.Serving.{Answered, Asked, nothing, then_one, call_of, replies, is_last, most_reads, IsWhole, EndsWith, Ends, Serves}
+use Rattle.click_control.specs.Going.{Written, TakesIn, ending_of, SoFar, Goes}
 
 pub or-false : (b : Bool) → (b || false) ≡ b
 or-false true = refl

@@ -1,5 +1,5 @@
 -- Lemmas on the lines that a session takes.
-use Rattle.std.proofs.Common.{◌≡◌, ℕ, ◌+◌, ◌≤◌, ◌<◌, List, [], ◌∷◌, ◌++◌, true, length, take, drop, ◌-◌, Option, Some, None, refl, sym, ap, ◌∙◌, subst, append-nil, append_assoc, drop-drop, length-drop, arith}
+use Rattle.std.proofs.Common.{◌≡◌, ℕ, ◌+◌, ◌≤◌, ◌<◌, List, [], ◌∷◌, ◌++◌, true, length, take, drop, ◌-◌, Option, Some, None, refl, sym, ap, ◌∙◌, subst, append-nil, drop-drop, length-drop, arith}
 use Rattle.click_control.specs.declared.command.Command.{Command}
 use Rattle.click_control.specs.declared.command.Command.TheVariants as command
 use Rattle.click_control.specs.declared.session.Start.{Start}

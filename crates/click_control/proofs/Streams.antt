@@ -1,11 +1,10 @@
 -- Lemmas on the commands of a stream.
-use Rattle.std.proofs.Common.{◌≡◌, ℕ, zero, suc, ◌+◌, ◌-◌, ◌<◌, ◌≤◌, List, [], ◌∷◌, ◌++◌, Bool, true, false, cond, leb, eqb, length, get_or, take, drop, Option, Some, None, refl, sym, ap, ◌∙◌, subst, ⊎_elim, append_assoc, append-nil, take-append-drop, get_or-take, get_or-drop, length-take, length-drop, length-append, length-take-le, take-take, take_all, eqb-true, inl, inr, arith}
+use Rattle.std.proofs.Common.{◌≡◌, ℕ, zero, suc, ◌+◌, ◌-◌, ◌<◌, ◌≤◌, List, [], ◌∷◌, ◌++◌, true, false, eqb, length, get_or, take, drop, refl, sym, ap, ◌∙◌, subst, append_assoc, append-nil, take-append-drop, get_or-take, get_or-drop, length-take, length-append, length-take-le, take-take, take_all, eqb-true, inl, inr, arith}
 use Rattle.std.proofs.lemmas.Bool.{lt-leb, le-leb, ne_eqb, cases_lt}
 use Rattle.std.proofs.lemmas.List.{drop_more}
-use Rattle.click_control.specs.declared.command.Command.{Command}
 use Rattle.click_control.specs.declared.command.Command.TheVariants as command
 use Rattle.click_control.specs.Commands.{Reading, in_line, after_return, over, told, behind, told_in, behind_in, commands_from, command_of, is_end, listed, behind_line, longest_line}
-use Rattle.click_control.specs.Lines.{HasNoEnd, IsLine}
+use Rattle.click_control.specs.Lines.{HasNoEnd}
 
 -- where the reading stands behind these bytes
 abbrev pub reading_behind : Reading → List ℕ → Reading

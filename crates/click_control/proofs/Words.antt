@@ -1,12 +1,10 @@
 -- Lemmas on the words of a line.
-use Rattle.std.proofs.Common.{◌≡◌, ℕ, ◌+◌, ◌-◌, ◌<◌, ◌≤◌, List, [], ◌∷◌, Bool, true, false, not, length, get_or, take, drop, Option, Some, None, refl, sym, ap, ◌∙◌, inl, inr, codes, cond, one-add, arith}
+use Rattle.std.proofs.Common.{◌≡◌, ℕ, ◌+◌, ◌-◌, ◌<◌, List, [], ◌∷◌, Bool, true, false, not, length, get_or, take, drop, Some, refl, sym, ap, ◌∙◌, inl, inr, codes, cond, one-add, arith}
 use Rattle.std.specs.List.{prefix_len, suffix_len, before_last}
 use Rattle.std.specs.Str.{str_eq_ignore_ascii_case}
-use Rattle.std.proofs.lemmas.Bool.{cases_Bool, not_from_false, not_from_true, false_from_ne_true}
+use Rattle.std.proofs.lemmas.Bool.{cases_Bool, not_from_false, not_from_true}
 use Rattle.std.proofs.lemmas.List.Sums.{suffix_len_is}
-use Rattle.memchr.specs.Find.{IsLastByte, is_byte}
 use Rattle.click_router.specs.One.{is_dot}
-use Rattle.click_control.specs.declared.command.Command.{Command}
 use Rattle.click_control.specs.declared.command.Command.TheVariants as command
 use Rattle.click_control.specs.Commands.{is_blank, from_blank, first_word, behind_word, read_command, command_by, command_of}
 

@@ -1,7 +1,6 @@
-use Rattle.std.proofs.Common.{◌≡◌, ◌+◌, Ok, Err, refl, sym, lit<, arith}
+use Rattle.std.proofs.Common.{lit<, arith}
 use Rattle.std.proofs.lemmas.Result.{err_from_is_err_and}
-use Rattle.click_control.specs.Commands.{Pending}
-use Rattle.click_control.proofs.Going.{Serves-greeting, SoFar-greeted, SoFar-took, Serves-read, Serves-end, Serves-spent, commands-nil}
+use Rattle.click_control.proofs.Going.{Serves-greeting, SoFar-greeted, SoFar-took, Serves-read, commands-nil}
 use Rattle.click_control.proofs.serving.serve.Goals as goal
 
 pub returns-in_err-greet : goal.returns-in_err-greet

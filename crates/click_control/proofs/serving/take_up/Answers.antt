@@ -1,7 +1,7 @@
-use Rattle.std.proofs.Common.{◌≡◌, Option, subst, ap}
+use Rattle.std.proofs.Common.{Option, subst}
 use Rattle.std.proofs.lemmas.Result.{err_from_is_err_and}
 use Rattle.click_router.specs.declared.call.Call.{Call}
-use Rattle.click_control.specs.Serving.{Answered, call_of}
+use Rattle.click_control.specs.Serving.{Answered}
 use Rattle.click_control.proofs.Going.{Serves-no_memory, Serves-reply, Goes-replied}
 use Rattle.click_control.proofs.serving.take_up.Goals as goal
 

@@ -1,4 +1,4 @@
-use Rattle.std.proofs.Common.{◌≡◌, ◌+◌, ◌++◌, ◌||◌, true, length, take, drop, sym, subst, ap, ◌∙◌, take-append-drop, take-add, length-drop, arith}
+use Rattle.std.proofs.Common.{◌||◌, true, take, drop, sym, subst, ap, ◌∙◌, take-append-drop, take-add, length-drop, arith}
 use Rattle.std.proofs.lemmas.List.{take_rest}
 use Rattle.std.specs.Io.KnownBytes.{Appends}
 use Rattle.std.proofs.KnownBytes.{Appends-trans, Appends-kept}

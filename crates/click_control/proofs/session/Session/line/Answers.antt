@@ -1,4 +1,4 @@
-use Rattle.std.proofs.Common.{◌≡◌, ◌+◌, ◌<◌, List, ℕ, Option, Some, None, length, drop, sym, subst, ap, ◌∙◌, length-drop, arith}
+use Rattle.std.proofs.Common.{◌+◌, Option, Some, None, length, drop, subst, ap, ◌∙◌, length-drop, arith}
 use Rattle.click_control.specs.declared.line.Found.TheVariants as found
 use Rattle.click_control.specs.declared.command.Command.{Command}
 use Rattle.click_control.specs.Commands.{behind_line}
