@@ -1,7 +1,7 @@
 -- Lemmas on a session that goes on.
-use Rattle.std.proofs.Common.{◌≡◌, ℕ, ◌+◌, ◌≤◌, ◌<◌, List, [], ◌∷◌, ◌++◌, length, Bool, true, false, ◌||◌, Option, Some, None, Result, Ok, Err, All, refl, sym, ap, ◌∙◌, subst, inl, inr, le_trans, append_assoc, append-nil, length-append, arith}
-use Rattle.std.specs.Io.KnownBytes.{Consumes, Appends, Keeps, IsAtEnd}
-use Rattle.std.proofs.KnownBytes.{Consumes-nil, Consumes-trans, Consumes-kept, Appends-nil, Appends-trans}
+use Rattle.std.proofs.Common.{◌≡◌, ℕ, ◌+◌, ◌≤◌, List, [], ◌∷◌, ◌++◌, length, Bool, true, false, ◌||◌, Option, Result, Ok, Err, refl, sym, ap, ◌∙◌, inl, inr, le_trans, append_assoc, append-nil, length-append, arith}
+use Rattle.std.specs.Io.KnownBytes.{Appends}
+use Rattle.std.proofs.KnownBytes.{Consumes-nil, Consumes-trans, Consumes-kept, Appends-trans}
 use Rattle.std.proofs.lemmas.List.Elements.{All-nil, All-push}
 use Rattle.click_router.specs.declared.call.Call.{Call}
 use Rattle.click_router.specs.declared.call.Reply.{Reply}
@@ -17,8 +17,8 @@ use Rattle.click_control.specs.Commands.{commands, commands_from, in_line, fresh
 use Rattle.click_control.proofs.Streams.{commands_from-nil}
 use Rattle.click_control.specs.ReplyText.{greeting, text_of}
 use Rattle.click_control.specs.Lines.{Tells, TellsOne}
-use Rattle.click_control.specs.Serving.{Answered, Asked, nothing, then_one, call_of, replies, is_last, most_reads, GoesOn, IsWhole, IsFront, EndsWith, Ends, Serves}
-use Rattle.click_control.specs.Going.{WroteFront, Written, TakesIn, ending_of, SoFar, Goes}
+use Rattle.click_control.specs.Serving.{Answered, Asked, nothing, then_one, call_of, replies, is_last, most_reads, IsWhole, EndsWith, Ends, Serves}
+use Rattle.click_control.specs.Going.{Written, TakesIn, ending_of, SoFar, Goes}
 
 pub or-false : (b : Bool) → (b || false) ≡ b
 or-false true = refl
@@ -114,8 +114,14 @@ module _ {P : Type 0} (asks : P → Call → Result Reply AskFault → P → Typ
         reading = h.reading ∙ sym (or-false rb);
         write_failed = true;
         writing = w.1 ∙ ap (λ b. b || true) h.writing;
-        ends = ((rest,
-          sym (whole-push old now h.taken h.answers c a h.output h.asked h.whole) ∙ ap (λ l. h.output ++ l) w.0.2 ∙ sym (append_assoc h.output front rest)), refl, refl);
+        ends = (
+          (
+            rest,
+            sym (whole-push old now h.taken h.answers c a h.output h.asked h.whole) ∙ ap (λ l. h.output ++ l) w.0.2 ∙ sym (append_assoc h.output front rest),
+          ),
+          refl,
+          refl,
+        );
       }
   Serves-reply fault.NoMemory old now next had left rb rn held holds then wb wn wt s t reads c a h tells answered w =
       let front = w.0.0 in
@@ -134,8 +140,14 @@ module _ {P : Type 0} (asks : P → Call → Result Reply AskFault → P → Typ
         reading = h.reading ∙ sym (or-false rb);
         write_failed = false;
         writing = w.1 ∙ h.writing ∙ sym (or-false wb);
-        ends = ((rest,
-          sym (whole-push old now h.taken h.answers c a h.output h.asked h.whole) ∙ ap (λ l. h.output ++ l) w.0.2 ∙ sym (append_assoc h.output front rest)), refl, refl);
+        ends = (
+          (
+            rest,
+            sym (whole-push old now h.taken h.answers c a h.output h.asked h.whole) ∙ ap (λ l. h.output ++ l) w.0.2 ∙ sym (append_assoc h.output front rest),
+          ),
+          refl,
+          refl,
+        );
       }
 
   -- a command that does not end the session, answered in full
@@ -164,7 +176,7 @@ module _ {P : Type 0} (asks : P → Call → Result Reply AskFault → P → Typ
       → (h : SoFar asks old now had left rb rn held holds wb wn s reads) → TellsOne s t c → Answered asks now (call_of c) a next
       → Appends holds then (text_of c a) → wt ≡ wn → is_last c ≡ true
       → ((taken : List Command) (answers : List Answer) (output : List ℕ) → IsWhole taken [] answers output → EndsWith taken c
-          → Ends (Ok e) h.input left taken [] answers output false false)
+      → Ends (Ok e) h.input left taken [] answers output false false)
       → Serves asks old next had left rb rn held then wb wt (Ok e)
   Serves-last e old now next had left rb rn held holds then wb wn wt s t reads c a h tells answered text same last ends = record {
     input = h.input;
@@ -181,7 +193,7 @@ module _ {P : Type 0} (asks : P → Call → Result Reply AskFault → P → Typ
     write_failed = false;
     writing = same ∙ h.writing ∙ sym (or-false wb);
     ends = ends (h.taken ++ c ∷ []) (h.answers ++ a ∷ []) (h.output ++ text_of c a)
-      (refl, whole-push old now h.taken h.answers c a h.output h.asked h.whole) (h.taken, refl);
+        (refl, whole-push old now h.taken h.answers c a h.output h.asked h.whole) (h.taken, refl);
   }
 
   -- a command whose reply was written in full
@@ -193,12 +205,12 @@ module _ {P : Type 0} (asks : P → Call → Result Reply AskFault → P → Typ
       SoFar-replied old now next had left rb rn held holds then wb wn wt s t reads (command.Read name text) a h tells answered w same refl
   Goes-replied command.Quit old now next had left rb rn held holds then wb wn wt s t reads a h tells answered w same =
       Serves-last ended.Quit old now next had left rb rn held holds then wb wn wt s t reads command.Quit a h tells answered w same refl
-        (λ taken answers output whole last. (whole, last, refl, refl))
+      (λ taken answers output whole last. (whole, last, refl, refl))
   Goes-replied command.Syntax old now next had left rb rn held holds then wb wn wt s t reads a h tells answered w same =
       SoFar-replied old now next had left rb rn held holds then wb wn wt s t reads command.Syntax a h tells answered w same refl
   Goes-replied command.LineTooLong old now next had left rb rn held holds then wb wn wt s t reads a h tells answered w same =
       Serves-last ended.TooLong old now next had left rb rn held holds then wb wn wt s t reads command.LineTooLong a h tells answered w same refl
-        (λ taken answers output whole last. (whole, last, refl, refl))
+      (λ taken answers output whole last. (whole, last, refl, refl))
   Goes-replied (command.Unknown word) old now next had left rb rn held holds then wb wn wt s t reads a h tells answered w same =
       SoFar-replied old now next had left rb rn held holds then wb wn wt s t reads (command.Unknown word) a h tells answered w same refl
 
@@ -272,7 +284,7 @@ module _ {P : Type 0} (asks : P → Call → Result Reply AskFault → P → Typ
         taken = h.taken;
         goes_on = h.goes_on;
         read = λ more. ap commands (append_assoc h.input piece more) ∙ h.read (piece ++ more)
-          ∙ ap (λ l. h.taken ++ commands_from s.from l) (sym (append_assoc s.bytes piece more)) ∙ ap (λ q. h.taken ++ to_come q more) (sym took.4);
+            ∙ ap (λ l. h.taken ++ commands_from s.from l) (sym (append_assoc s.bytes piece more)) ∙ ap (λ q. h.taken ++ to_come q more) (sym took.4);
         answers = h.answers;
         asked = h.asked;
         output = h.output;

@@ -1,5 +1,5 @@
 -- Lemmas on the lines that a session takes.
-use Rattle.std.proofs.Common.{◌≡◌, ℕ, ◌+◌, ◌≤◌, ◌<◌, List, [], ◌∷◌, ◌++◌, true, length, take, drop, ◌-◌, Option, Some, None, refl, sym, ap, ◌∙◌, subst, append-nil, append_assoc, drop-drop, length-drop, arith}
+use Rattle.std.proofs.Common.{◌≡◌, ℕ, ◌+◌, ◌≤◌, ◌<◌, List, [], ◌∷◌, ◌++◌, true, length, take, drop, ◌-◌, Option, Some, None, refl, sym, ap, ◌∙◌, subst, append-nil, drop-drop, length-drop, arith}
 use Rattle.click_control.specs.declared.command.Command.{Command}
 use Rattle.click_control.specs.declared.command.Command.TheVariants as command
 use Rattle.click_control.specs.declared.session.Start.{Start}
@@ -29,7 +29,7 @@ from_line : (items : List ℕ) (start : Start) (at n : ℕ) (old : Pending) → 
     → (more : List ℕ) → to_come old more ≡ commands_from (in_line []) (drop (at + n) items ++ more)
 from_line items start at n old view skips more =
     subst (λ (s : Pending). to_come s more ≡ commands_from (in_line []) (drop (at + n) items ++ more)) view
-      (skips.1 more ∙ ap (λ l. commands_from (in_line []) (l ++ more)) (drop-drop n at items))
+    (skips.1 more ∙ ap (λ l. commands_from (in_line []) (l ++ more)) (drop-drop n at items))
 
 old_length : (items : List ℕ) (start : Start) (at : ℕ) (old : Pending) → pending (reading_of start) (drop at items) ≡ old → length old.bytes ≡ length (drop at items)
 old_length items start at old view = sym (ap (λ s. length s.bytes) view)
@@ -37,9 +37,10 @@ old_length items start at old view = sym (ap (λ s. length s.bytes) view)
 pub tells_partial : (items : List ℕ) (start : Start) (at n : ℕ) (old : Pending) → pending (reading_of start) (drop at items) ≡ old → Skips start (drop at items) n
     → HasNoEnd (drop (at + n) items) → length (drop (at + n) items) ≤ longest_line
     → Tells old (pending (in_line []) (drop (at + n) items)) [] × (to_come (pending (in_line []) (drop (at + n) items)) [] ≡ [])
-tells_partial items start at n old view skips none short =
-    (from_line items start at n old view skips,
-    ap (λ l. commands_from (in_line []) l) (append-nil (drop (at + n) items)) ∙ commands_from-partial (drop (at + n) items) none short)
+tells_partial items start at n old view skips none short = (
+  from_line items start at n old view skips,
+  ap (λ l. commands_from (in_line []) l) (append-nil (drop (at + n) items)) ∙ commands_from-partial (drop (at + n) items) none short,
+)
 
 pub tells_long : (items rest : List ℕ) (start : Start) (at n : ℕ) (old : Pending) → pending (reading_of start) (drop at items) ≡ old → Skips start (drop at items) n
     → length rest < length (drop at items)

@@ -1,11 +1,10 @@
 -- Lemmas on the commands of a stream.
-use Rattle.std.proofs.Common.{◌≡◌, ℕ, zero, suc, ◌+◌, ◌-◌, ◌<◌, ◌≤◌, List, [], ◌∷◌, ◌++◌, Bool, true, false, cond, leb, eqb, length, get_or, take, drop, Option, Some, None, refl, sym, ap, ◌∙◌, subst, ⊎_elim, append_assoc, append-nil, take-append-drop, get_or-take, get_or-drop, length-take, length-drop, length-append, length-take-le, take-take, take_all, eqb-true, inl, inr, arith}
+use Rattle.std.proofs.Common.{◌≡◌, ℕ, zero, suc, ◌+◌, ◌-◌, ◌<◌, ◌≤◌, List, [], ◌∷◌, ◌++◌, true, false, eqb, length, get_or, take, drop, refl, sym, ap, ◌∙◌, subst, append_assoc, append-nil, take-append-drop, get_or-take, get_or-drop, length-take, length-append, length-take-le, take-take, take_all, eqb-true, inl, inr, arith}
 use Rattle.std.proofs.lemmas.Bool.{lt-leb, le-leb, ne_eqb, cases_lt}
 use Rattle.std.proofs.lemmas.List.{drop_more}
-use Rattle.click_control.specs.declared.command.Command.{Command}
 use Rattle.click_control.specs.declared.command.Command.TheVariants as command
 use Rattle.click_control.specs.Commands.{Reading, in_line, after_return, over, told, behind, told_in, behind_in, commands_from, command_of, is_end, listed, behind_line, longest_line}
-use Rattle.click_control.specs.Lines.{HasNoEnd, IsLine}
+use Rattle.click_control.specs.Lines.{HasNoEnd}
 
 -- where the reading stands behind these bytes
 abbrev pub reading_behind : Reading → List ℕ → Reading
@@ -137,14 +136,14 @@ commands_from-empty r (b ∷ bytes) h = absurd (omega (arith, eqb-true (length (
 pub HasNoEnd-more : (bytes : List ℕ) (s n : ℕ) → s ≤ n → n ≤ length bytes → HasNoEnd (take s bytes) → ((k : ℕ) → s + k < n → is_end (get_or (drop s bytes) k 0) ≡ false) → HasNoEnd (take n bytes)
 HasNoEnd-more bytes s n low high h more =
     HasNoEnd-from (take n bytes) (λ j q.
-        let below : j < n = omega (arith, length-take n bytes) in
-        let passes : is_end (get_or bytes j 0) ≡ false = elim (cases_lt j s) [
-          inl l ↦ subst (λ (b : ℕ). is_end b ≡ false) (get_or-take s bytes j 0 l) (HasNoEnd-at (take s bytes) j h (omega (arith, length-take s bytes)))
-        | inr l ↦
-            let place : s + (j - s) ≡ j = omega arith in
-            subst (λ (b : ℕ). is_end b ≡ false) (get_or-drop s bytes (j - s) 0 ∙ ap (λ k. get_or bytes k 0) place) (more (j - s) (omega arith))
-        ] in
-        subst (λ (b : ℕ). is_end b ≡ false) (sym (get_or-take n bytes j 0 below)) passes)
+    let below : j < n = omega (arith, length-take n bytes) in
+    let passes : is_end (get_or bytes j 0) ≡ false = elim (cases_lt j s) [
+      | inl l ↦ subst (λ (b : ℕ). is_end b ≡ false) (get_or-take s bytes j 0 l) (HasNoEnd-at (take s bytes) j h (omega (arith, length-take s bytes)))
+      | inr l ↦
+          let place : s + (j - s) ≡ j = omega arith in
+          subst (λ (b : ℕ). is_end b ≡ false) (get_or-drop s bytes (j - s) 0 ∙ ap (λ k. get_or bytes k 0) place) (more (j - s) (omega arith))
+    ] in
+    subst (λ (b : ℕ). is_end b ≡ false) (sym (get_or-take n bytes j 0 below)) passes)
 
 pub HasNoEnd-all : (bytes : List ℕ) → HasNoEnd (take (length bytes) bytes) → HasNoEnd bytes
 HasNoEnd-all bytes h = subst HasNoEnd (take_all (length bytes) bytes (omega arith)) h

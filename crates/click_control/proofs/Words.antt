@@ -1,12 +1,10 @@
 -- Lemmas on the words of a line.
-use Rattle.std.proofs.Common.{◌≡◌, ℕ, ◌+◌, ◌-◌, ◌<◌, ◌≤◌, List, [], ◌∷◌, Bool, true, false, not, length, get_or, take, drop, Option, Some, None, refl, sym, ap, ◌∙◌, inl, inr, codes, cond, one-add, arith}
+use Rattle.std.proofs.Common.{◌≡◌, ℕ, ◌+◌, ◌-◌, ◌<◌, List, [], ◌∷◌, Bool, true, false, not, length, get_or, take, drop, Some, refl, sym, ap, ◌∙◌, inl, inr, codes, cond, one-add, arith}
 use Rattle.std.specs.List.{prefix_len, suffix_len, before_last}
 use Rattle.std.specs.Str.{str_eq_ignore_ascii_case}
-use Rattle.std.proofs.lemmas.Bool.{cases_Bool, not_from_false, not_from_true, false_from_ne_true}
+use Rattle.std.proofs.lemmas.Bool.{cases_Bool, not_from_false, not_from_true}
 use Rattle.std.proofs.lemmas.List.Sums.{suffix_len_is}
-use Rattle.memchr.specs.Find.{IsLastByte, is_byte}
 use Rattle.click_router.specs.One.{is_dot}
-use Rattle.click_control.specs.declared.command.Command.{Command}
 use Rattle.click_control.specs.declared.command.Command.TheVariants as command
 use Rattle.click_control.specs.Commands.{is_blank, from_blank, first_word, behind_word, read_command, command_by, command_of}
 
@@ -18,8 +16,8 @@ pub from_blank-drop : (bs : List ℕ) → from_blank bs ≡ drop (prefix_len no_
 from_blank-drop [] = refl
 from_blank-drop (b ∷ bs) =
     elim (cases_Bool (is_blank b)) [
-      inl e ↦ rw e refl
-    | inr e ↦ rw (e, one-add) (from_blank-drop bs)
+      | inl e ↦ rw e refl
+      | inr e ↦ rw (e, one-add) (from_blank-drop bs)
     ]
 
 -- ---- no line says that a line is too long
@@ -49,8 +47,8 @@ before_last-at name k q dot after =
     let p : ℕ → Bool = λ b. not (is_dot b) in
     let behind : suffix_len p name ≡ length name - (k + 1) =
     suffix_len_is p name (k + 1) 0 (omega arith)
-      (λ j low high. not_from_false (is_dot (get_or name j 0)) (after j (omega arith) high))
-      (λ _. not_from_true (is_dot (get_or name (k + 1 - 1) 0)) (ap (λ i. is_dot (get_or name i 0)) (let e : k + 1 - 1 ≡ k = omega arith in e) ∙ dot)) in
+    (λ j low high. not_from_false (is_dot (get_or name j 0)) (after j (omega arith) high))
+    (λ _. not_from_true (is_dot (get_or name (k + 1 - 1) 0)) (ap (λ i. is_dot (get_or name i 0)) (let e : k + 1 - 1 ≡ k = omega arith in e) ∙ dot)) in
     let place : length name - suffix_len p name - 1 ≡ k = omega arith in
     sym (ap (λ i. take i name) place)
 

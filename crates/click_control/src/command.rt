@@ -19,7 +19,9 @@ pub enum Command {
     /// A line of more than 65,536 bytes.
     LineTooLong,
     /// A command word that is not known, as it was sent.
-    Unknown { word: Sequence<u8> },
+    Unknown {
+        word: Sequence<u8>,
+    },
 }
 
 /// What came of a command.

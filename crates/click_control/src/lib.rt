@@ -10,6 +10,8 @@ pub mod port;
 pub mod reply;
 pub mod serving;
 mod session;
+#[cfg(test)]
+mod tests;
 
 pub use command::{Answer, Command};
 pub use peer::{Failed, Reading, Sink, Source, Writing};

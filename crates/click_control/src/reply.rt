@@ -13,11 +13,7 @@ use memchr::memrchr;
 use std::alloc::{AllocError, Global};
 
 /// The lines that a session writes for a command with its answer. For an answer that the command cannot have there are none.
-pub fn reply_text(
-    alloc: Global,
-    command: &Command,
-    answer: &Answer,
-) -> Result<Vec<u8>, AllocError>
+pub fn reply_text(alloc: Global, command: &Command, answer: &Answer) -> Result<Vec<u8>, AllocError>
     ensures { IfOk result (λ text. text.items ≡ text_of command.now answer.now) }
 {
     match command {

@@ -1,4 +1,4 @@
-use Rattle.std.proofs.Common.{◌≡◌, ◌+◌, ◌≤◌, ◌<◌, length, take, refl, ap, ◌∙◌, subst, take_all, arith}
+use Rattle.std.proofs.Common.{length, take, refl, take_all, arith}
 use Rattle.click_control.specs.Lines.{HasNoEnd}
 use Rattle.click_control.proofs.Streams.{commands_from-long, commands_from-line}
 use Rattle.click_control.proofs.Words.{command_of-short}

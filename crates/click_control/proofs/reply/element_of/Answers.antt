@@ -1,4 +1,4 @@
-use Rattle.std.proofs.Common.{◌≡◌, ◌+◌, ◌<◌, length, get_or, arith}
+use Rattle.std.proofs.Common.{get_or, arith}
 use Rattle.std.proofs.lemmas.Bool.{false_from_ne_true}
 use Rattle.click_router.specs.One.{is_dot}
 use Rattle.click_control.proofs.Words.{before_last-at, before_last-none}
@@ -9,7 +9,7 @@ returns-in-Some c =
     let name = c.args.handler.now in
     let found = c.in-Some.ensures in
     before_last-at name c.in-Some.dot found.0.high found.1
-      (λ j low high. false_from_ne_true (is_dot (get_or name j 0)) (found.0.after j (omega arith) high))
+    (λ j low high. false_from_ne_true (is_dot (get_or name j 0)) (found.0.after j (omega arith) high))
 
 pub returns-in-None : goal.returns-in-None
 returns-in-None c =

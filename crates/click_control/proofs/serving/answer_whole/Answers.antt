@@ -1,4 +1,3 @@
-use Rattle.std.proofs.Common.{◌≡◌, Ok}
 use Rattle.click_control.proofs.Going.{Serves-no_memory}
 use Rattle.click_control.proofs.serving.answer_whole.Goals as goal
 

@@ -1,7 +1,6 @@
-use Rattle.std.proofs.Common.{◌≡◌, ◌+◌, Ok, Err, refl, sym, lit<, arith}
+use Rattle.std.proofs.Common.{lit<, arith}
 use Rattle.std.proofs.lemmas.Result.{err_from_is_err_and}
-use Rattle.click_control.specs.Commands.{Pending}
-use Rattle.click_control.proofs.Going.{Serves-greeting, SoFar-greeted, SoFar-took, Serves-read, Serves-end, Serves-spent, commands-nil}
+use Rattle.click_control.proofs.Going.{Serves-greeting, SoFar-greeted, SoFar-took, Serves-read, commands-nil}
 use Rattle.click_control.proofs.serving.serve.Goals as goal
 
 pub returns-in_err-greet : goal.returns-in_err-greet
@@ -21,7 +20,7 @@ returns-in_err-take_in g c =
     let p = err_from_is_err_and c.from_residual-in_err-take_in.result c.from_residual-in_err-take_in.ensures.1 in
     let now = c.loop-reads in
     rw (p.1, p.2) (Serves-read g.P.Port.asks c.in_err-take_in.field-0.0 c.args.port.now now.port _ _ _ _ _ _ _ _ _ _ now.session c.take_in.new.session now._reads
-      now.invariant.so_far now.invariant.told c.in_err-take_in.ensures)
+    now.invariant.so_far now.invariant.told c.in_err-take_in.ensures)
 
 pub returns-in_err-ended : goal.returns-in_err-ended
 returns-in_err-ended g c =

@@ -1,7 +1,7 @@
-use Rattle.std.proofs.Common.{◌≡◌, Option, subst, ap}
+use Rattle.std.proofs.Common.{Option, subst}
 use Rattle.std.proofs.lemmas.Result.{err_from_is_err_and}
 use Rattle.click_router.specs.declared.call.Call.{Call}
-use Rattle.click_control.specs.Serving.{Answered, call_of}
+use Rattle.click_control.specs.Serving.{Answered}
 use Rattle.click_control.proofs.Going.{Serves-no_memory, Serves-reply, Goes-replied}
 use Rattle.click_control.proofs.serving.take_up.Goals as goal
 
@@ -14,11 +14,11 @@ returns-in_err-reply g c =
     let p = err_from_is_err_and c.from_residual.result c.from_residual.ensures.1 in
     let asked = subst (λ (k : Option Call). Answered g.P.Port.asks c.args.port.now k c.ask-answer.result c.ask-answer.new.port) c.in-Ok.ensures c.ask-answer.ensures in
     rw (p.1, p.2) (λ first had left held rb rn wb old new reads h tells.
-      Serves-reply g.P.Port.asks _ first c.args.port.now c.ask-answer.new.port had left rb rn held _ _ wb _ _ old new reads c.args.command c.ask-answer.result h tells asked c.in_err-reply.ensures)
+    Serves-reply g.P.Port.asks _ first c.args.port.now c.ask-answer.new.port had left rb rn held _ _ wb _ _ old new reads c.args.command c.ask-answer.result h tells asked c.in_err-reply.ensures)
 
 pub returns : goal.returns
 returns g c =
     let asked = subst (λ (k : Option Call). Answered g.P.Port.asks c.args.port.now k c.ask-answer.result c.ask-answer.new.port) c.in-Ok.ensures c.ask-answer.ensures in
     rw c.ending_of.ensures (λ first had left held rb rn wb old new reads h tells.
-      Goes-replied g.P.Port.asks c.args.command first c.args.port.now c.ask-answer.new.port had left rb rn held _ _ wb _ _ old new reads c.ask-answer.result h tells asked
-        c.in_ok-reply.ensures.0 c.in_ok-reply.ensures.1)
+    Goes-replied g.P.Port.asks c.args.command first c.args.port.now c.ask-answer.new.port had left rb rn held _ _ wb _ _ old new reads c.ask-answer.result h tells asked
+    c.in_ok-reply.ensures.0 c.in_ok-reply.ensures.1)

@@ -1,4 +1,4 @@
-use Rattle.std.proofs.Common.{◌≡◌, ◌+◌, ◌<◌, List, ℕ, Option, Some, None, length, drop, sym, subst, ap, ◌∙◌, length-drop, arith}
+use Rattle.std.proofs.Common.{◌+◌, Option, Some, None, length, drop, subst, ap, ◌∙◌, length-drop, arith}
 use Rattle.click_control.specs.declared.line.Found.TheVariants as found
 use Rattle.click_control.specs.declared.command.Command.{Command}
 use Rattle.click_control.specs.Commands.{behind_line}
@@ -25,8 +25,8 @@ returns-in-TooLong-clause-ok c =
     let skips = skips_from _ items inside.start inside.at n c.deref.ensures.value c.in-Some.ensures in
     let line = found_from _ items (inside.at + n) found.TooLong c.deref-2.ensures.value (rw c.in-TooLong.is at c.in_ok-first_line.ensures) in
     tells_long items (drop len items) inside.start inside.at n _ c.self.view_is skips
-      (omega (arith, line.0, length-drop len items, length-drop inside.at items, length-drop (inside.at + n) items, c.deref.ensures.len, ap length c.deref.ensures.value, c.len-self-inside.ensures))
-      line.1
+    (omega (arith, line.0, length-drop len items, length-drop inside.at items, length-drop (inside.at + n) items, c.deref.ensures.len, ap length c.deref.ensures.value, c.len-self-inside.ensures))
+    line.1
 
 pub returns-after-command-clause-ok : goal.returns-after-command-clause-ok
 returns-after-command-clause-ok c =
@@ -37,15 +37,15 @@ returns-after-command-clause-ok c =
     let skips = skips_from _ items inside.start inside.at n c.deref.ensures.value c.in-Some.ensures in
     let line = found_from _ items (inside.at + n) (found.Whole whole.command whole.length whole.last) c.deref-2.ensures.value (rw whole.is at c.in_ok-first_line.ensures) in
     elim c.match-command.branch [
-      in-None w ↦
-        let is = w.in-None.is in
-        let line_of : IsLine (drop (inside.at + n) items) None whole.length whole.last = subst (λ (k : Option Command). IsLine (drop (inside.at + n) items) k whole.length whole.last) is line in
-        rw w.result-is (tells_blank items inside.start inside.at n whole.length whole.last _ _ c.self.view_is skips line_of
+      | in-None w ↦
+          let is = w.in-None.is in
+          let line_of : IsLine (drop (inside.at + n) items) None whole.length whole.last = subst (λ (k : Option Command). IsLine (drop (inside.at + n) items) k whole.length whole.last) is line in
+          rw w.result-is (tells_blank items inside.start inside.at n whole.length whole.last _ _ c.self.view_is skips line_of
           (c.start_behind-self-inside.ensures ∙ ap (λ k. behind_line k whole.last) is))
-    | in-Some-command w ↦
-        let is = w.in-Some-command.is in
-        let d = w.in-Some-command.command in
-        let line_of : IsLine (drop (inside.at + n) items) (Some d) whole.length whole.last = subst (λ (k : Option Command). IsLine (drop (inside.at + n) items) k whole.length whole.last) is line in
-        rw w.result-is (tells_told items inside.start inside.at n whole.length whole.last d _ _ c.self.view_is skips line_of
+      | in-Some-command w ↦
+          let is = w.in-Some-command.is in
+          let d = w.in-Some-command.command in
+          let line_of : IsLine (drop (inside.at + n) items) (Some d) whole.length whole.last = subst (λ (k : Option Command). IsLine (drop (inside.at + n) items) k whole.length whole.last) is line in
+          rw w.result-is (tells_told items inside.start inside.at n whole.length whole.last d _ _ c.self.view_is skips line_of
           (c.start_behind-self-inside.ensures ∙ ap (λ k. behind_line k whole.last) is))
     ]
