@@ -1,12 +1,8 @@
 -- The first breach among those of several ports or elements.
-use Rattle.std.proofs.Common.{◌≡◌, ℕ, suc, ◌+◌, ◌-◌, ◌<◌, ◌≤◌, List, [], ◌∷◌, ◌++◌, map, length, get_or, drop, Bool, true, false, Option, Some, None, refl, sym, ap, ◌∙◌, arith, slice_get}
+use Rattle.std.proofs.Common.{◌≡◌, ℕ, suc, ◌+◌, ◌-◌, ◌<◌, ◌≤◌, List, [], ◌∷◌, ◌++◌, map, length, get_or, drop, Bool, true, false, Option, Some, None, refl, ap, ◌∙◌, arith, slice_get}
 use Rattle.std.specs.List.{filter, range_with_len}
-use Rattle.std.proofs.lemmas.List.{at_drop_more, at_drop_all, append-nil}
-use Rattle.click_router.specs.declared.classes.State.{State}
-use Rattle.click_router.specs.declared.expand.Connection.{Connection}
+use Rattle.std.proofs.lemmas.List.{at_drop_more, at_drop_all}
 use Rattle.click_router.specs.declared.ports.PortFault.{PortFault}
-use Rattle.click_router.specs.declared.ports.Side.TheVariants as side
-use Rattle.click_router.specs.Ports.{count_breaches, unused_breaches, twice_breaches, counts_from, unused_from, twice_from, breaches}
 
 -- the first of a list
 abbrev pub first : {X : Type 0} → List X → Option X

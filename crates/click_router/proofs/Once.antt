@@ -1,26 +1,23 @@
 -- A configuration opens one state, and either opens one or has a fault.
-use Rattle.std.proofs.Common.{◌≡◌, ℕ, zero, suc, ◌+◌, ◌<◌, ◌≤◌, List, [], ◌∷◌, ◌++◌, length, get_or, Contains, All, Result, Ok, Err, refl, sym, ap, ◌∙◌, subst, inl, inr, ◌⊎◌, arith}
+use Rattle.std.proofs.Common.{◌≡◌, ℕ, zero, suc, ◌≤◌, List, [], ◌∷◌, ◌++◌, length, Contains, Result, Ok, Err, refl, sym, ap, ◌∙◌, subst, inl, inr, ◌⊎◌, arith}
 use Rattle.std.specs.Result.{IfOk, IfErr}
-use Rattle.std.proofs.lemmas.List.Elements.{All-contains, Contains-get_or}
-use Rattle.std.proofs.lemmas.List.{get_or_at}
+use Rattle.std.proofs.lemmas.List.Elements.{All-contains}
 use Rattle.click_text.specs.declared.syntax.Config.{Config}
 use Rattle.click_text.specs.Pieces.{IsBlank}
 use Rattle.click_text.specs.Spelling.{longest_text, Spells}
-use Rattle.click_router.specs.declared.classes.Class.{Class}
 use Rattle.click_router.specs.declared.classes.State.{State}
 use Rattle.click_router.specs.declared.expand.Connection.{Connection}
 use Rattle.click_router.specs.declared.expand.FlatElement.{FlatElement}
 use Rattle.click_router.specs.declared.expand.Flat.{Flat}
-use Rattle.click_router.specs.declared.expand.ExpandFault.{ExpandFault}
 use Rattle.click_router.specs.declared.fault.ConfigFault.{ConfigFault}
 use Rattle.click_router.specs.State.{RouterState}
-use Rattle.click_router.specs.Classes.{class_of, first_state}
-use Rattle.click_router.specs.Expand.{Before, AllBehind, InOrder, IsFlat, Joins, flat_names, wires, expanded, is_declared, written_elements}
+use Rattle.click_router.specs.Classes.{first_state}
+use Rattle.click_router.specs.Expand.{Before, AllBehind, InOrder, IsFlat, Joins, flat_names, wires, is_declared, written_elements}
 use Rattle.click_router.specs.Ports.{breaches}
 use Rattle.click_router.specs.Sound.{AreSound}
-use Rattle.click_router.specs.Opened.{IsFresh, AreFresh, OpensAs, of_names, of_arguments, of_ports, IsFirstFault, IsMemoryOr, IsGiven}
+use Rattle.click_router.specs.Opened.{IsFresh, AreFresh, OpensAs, IsOpened, of_names, IsFirstFault, IsMemoryOr, IsGiven}
 use Rattle.click_router.specs.Opened.IsFirstFault.{misnamed, unfit, unlawful}
-use Rattle.click_router.specs.Refused.{IsUnfit, IsUnlawful, IsConfigFault}
+use Rattle.click_router.specs.Refused.{IsConfigFault}
 use Rattle.click_router.proofs.Fresh.{blank_all}
 use Rattle.click_router.proofs.Sound.{AreSound-from_expanded}
 
@@ -153,3 +150,10 @@ first_fault text config f within spells (inr (flat, h, inl (fit, e, more, es, bl
     subst (IsFirstFault text) (sym k) (unfit text config fit e more within spells (h.elements ∙ ap Ok es) blank not_blank)
 first_fault text config f within spells (inr (flat, h, inr (qs, b, more, fresh, is, k))) =
     subst (IsFirstFault text) (sym k) (unlawful text config flat qs b more within spells h fresh is)
+
+-- ---- a text opens one state, where it spells one configuration
+
+pub opened_once : (text : List ℕ) → ((c d : Config) → Spells text c → Spells text d → c ≡ d) → (s t : RouterState) → IsOpened text s → IsOpened text t → s ≡ t
+opened_once text one s t h k =
+    let same = one h.config k.config h.spells k.spells in
+    opens_same k.config s t (subst (λ (c : Config). OpensAs c s.flat s.states) same h.opens) k.opens (h.copy ∙ sym k.copy)

@@ -1,9 +1,9 @@
 -- Connections in order.
-use Rattle.std.proofs.Common.{◌≡◌, ℕ, ◌<◌, List, [], ◌∷◌, Bool, true, false, ◌&&◌, eqb, nat_eq, Ordering, Less, Equal, Greater, Contains, refl, sym, ap, ◌∙◌, inl, inr, ◌⊎◌, arith, nat_cmp}
+use Rattle.std.proofs.Common.{◌≡◌, ℕ, ◌<◌, List, [], ◌∷◌, Bool, true, ◌&&◌, nat_eq, Ordering, Less, Equal, Greater, refl, ap, ◌∙◌, inl, inr, ◌⊎◌, arith, nat_cmp}
 use Rattle.std.specs.Cmp.{IsTotalOrder, IsEquivalence}
 use Rattle.std.specs.List.{AllByRecursion}
 use Rattle.std.specs.List.Sorted.{IsStrictlySortedBy}
-use Rattle.std.specs.Ordering.{on, then_cmp, ordering_then, eq_by_cmp, eq_of_both}
+use Rattle.std.specs.Ordering.{on, then_cmp, ordering_then, eq_by_cmp}
 use Rattle.std.proofs.lemmas.Bool.{and_parts, eqb-true}
 use Rattle.std.proofs.lemmas.Bool.Decides.{nat_tests}
 use Rattle.std.proofs.lemmas.Cmp.{nat_cmp_total, on_total, then_total, nat_eq_equiv, on_equiv, and_equiv}

@@ -1,16 +1,15 @@
 -- The elements of a flat form have names of their own, and known classes.
-use Rattle.std.proofs.Common.{◌≡◌, ℕ, zero, suc, ◌+◌, ◌<◌, List, [], ◌∷◌, ◌++◌, map, length, Bool, true, false, not, ◌||◌, cond, Option, Some, None, Result, Ok, Err, is_some, refl, sym, ap, ◌∙◌, subst, arith, slice_get, position}
-use Rattle.std.specs.List.{list_any, position_or_len, prefix_len}
+use Rattle.std.proofs.Common.{◌≡◌, ℕ, zero, suc, ◌+◌, ◌<◌, List, [], ◌∷◌, ◌++◌, length, Bool, true, false, not, ◌||◌, cond, Option, Some, None, Result, Ok, Err, is_some, refl, sym, ap, ◌∙◌, subst, arith, slice_get, position}
+use Rattle.std.specs.List.{position_or_len}
 use Rattle.std.specs.Str.{bytes_eq}
-use Rattle.std.proofs.lemmas.Bool.{false≢true, or_parts, or_right, lt-ltb}
+use Rattle.std.proofs.lemmas.Bool.{false≢true, or_right, lt-ltb}
 use Rattle.std.proofs.lemmas.Option.{slice_get_within}
 use Rattle.std.proofs.lemmas.Slice.Eq.{bytes_eq-Decides}
 use Rattle.click_text.specs.declared.syntax.Element.{Element}
-use Rattle.click_text.specs.Spans.{bytes_at}
 use Rattle.click_router.specs.declared.expand.FlatElement.{FlatElement}
 use Rattle.click_router.specs.declared.expand.ExpandFault.{ExpandFault}
 use Rattle.click_router.specs.Classes.{class_of}
-use Rattle.click_router.specs.Expand.{has_name, makes, name_of, class_span, flat_element, element_fault, onto, expand_from, flat_names}
+use Rattle.click_router.specs.Expand.{has_name, makes, name_of, flat_element, element_fault, onto, expand_from, flat_names}
 use Rattle.click_router.specs.Sound.{AreSound}
 use Rattle.click_router.proofs.Expanding.{expand-made, expand-other, expand-faulty, expand-end, fit}
 

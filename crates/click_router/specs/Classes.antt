@@ -1,7 +1,6 @@
 -- The class table (Click element reference): names, first states, port counts.
-use Rattle.std.specs.Prelude.{◌≡◌, ℕ, List, Option, Some, None, codes, if◌then◌else◌}
+use Rattle.std.specs.Prelude.{ℕ, List, Option, Some, None, codes, if◌then◌else◌}
 use Rattle.std.specs.Str.{bytes_eq}
-use Rattle.click_text.specs.Pieces.{IsBlank}
 use Rattle.click_router.specs.declared.classes.Class.{Class}
 use Rattle.click_router.specs.declared.classes.Class.TheVariants as class
 use Rattle.click_router.specs.declared.classes.State.{State}

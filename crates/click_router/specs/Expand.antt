@@ -1,5 +1,5 @@
 -- The elements and connections of a configuration with one scope (Click manual, "Elements", "Connections").
-use Rattle.std.specs.Prelude.{◌≡◌, ◌⊎◌, ◌<◌, ℕ, ◌+◌, List, [], ◌∷◌, ◌++◌, map, flat_map, filter_map, Contains, slice_get, Bool, true, false, not, ◌||◌, is_some, Option, Some, None, Result, Ok, Err, codes, decimal, if◌then◌else◌}
+use Rattle.std.specs.Prelude.{◌≡◌, ◌⊎◌, ◌<◌, ℕ, ◌+◌, List, [], ◌∷◌, ◌++◌, map, flat_map, filter_map, Contains, slice_get, Bool, true, not, is_some, Option, Some, None, Result, Ok, Err, codes, decimal, if◌then◌else◌}
 use Rattle.std.specs.List.{list_any}
 use Rattle.std.specs.Str.{bytes_eq}
 use Rattle.click_text.specs.declared.syntax.Span.{Span}
@@ -9,7 +9,6 @@ use Rattle.click_text.specs.declared.syntax.Head.{Head}
 use Rattle.click_text.specs.declared.syntax.Head.TheVariants as head
 use Rattle.click_text.specs.declared.syntax.Element.{Element}
 use Rattle.click_text.specs.declared.syntax.Link.{Link}
-use Rattle.click_text.specs.declared.syntax.Chain.{Chain}
 use Rattle.click_text.specs.declared.syntax.Statement.{Statement}
 use Rattle.click_text.specs.declared.syntax.Statement.TheVariants as statement
 use Rattle.click_text.specs.declared.syntax.Config.{Config}

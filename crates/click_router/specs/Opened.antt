@@ -1,7 +1,6 @@
 -- What a text opens: a router's first state, or the text's first fault.
-use Rattle.std.specs.Prelude.{◌≡◌, ◌⊎◌, ℕ, ◌+◌, ◌<◌, ◌≤◌, List, [], ◌∷◌, ◌++◌, length, take, map, count_by, take_while, reverse, All, not, nat_eq, slice_get, slice_index, Bool, true, false, Option, Some, None, Result, Ok, Err}
+use Rattle.std.specs.Prelude.{◌≡◌, ◌⊎◌, ℕ, ◌+◌, ◌≤◌, List, [], ◌∷◌, ◌++◌, length, take, count_by, take_while, reverse, All, not, nat_eq, slice_get, Option, Some, None, Result, Ok, Err}
 use Rattle.click_text.specs.declared.syntax.Span.{Span}
-use Rattle.click_text.specs.declared.syntax.FaultKind.{FaultKind as TextKind}
 use Rattle.click_text.specs.declared.syntax.FaultKind.TheVariants as text_kind
 use Rattle.click_text.specs.declared.syntax.TextFault.{TextFault}
 use Rattle.click_text.specs.declared.syntax.Config.{Config}
@@ -22,7 +21,6 @@ use Rattle.click_router.specs.declared.ports.PortFault.{PortFault}
 use Rattle.click_router.specs.declared.ports.PortFault.TheVariants as port_fault
 use Rattle.click_router.specs.declared.fault.FaultKind.{FaultKind}
 use Rattle.click_router.specs.declared.fault.FaultKind.TheVariants as kind
-use Rattle.click_router.specs.declared.fault.FaultPlace.{FaultPlace}
 use Rattle.click_router.specs.declared.fault.FaultPlace.TheVariants as place
 use Rattle.click_router.specs.declared.fault.ConfigFault.{ConfigFault}
 

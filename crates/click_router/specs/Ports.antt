@@ -1,5 +1,5 @@
 -- Which uses of ports are lawful where every port is push (Click manual, "Ports").
-use Rattle.std.specs.Prelude.{◌≡◌, ℕ, ◌+◌, ◌<◌, ◌≤◌, max, List, [], ◌∷◌, ◌++◌, flat_map, filter, count_by, map, length, Bool, true, false, not, ◌&&◌, nat_eq, nat_lt, nat_le, Option, Some, None, if◌then◌else◌}
+use Rattle.std.specs.Prelude.{ℕ, ◌+◌, max, List, [], ◌∷◌, ◌++◌, filter, count_by, map, Bool, ◌&&◌, nat_eq, nat_lt, nat_le, if◌then◌else◌}
 use Rattle.std.specs.List.{range_with_len}
 use Rattle.click_router.specs.Classes.{class_at, inputs_of, outputs_of}
 use Rattle.click_router.specs.declared.classes.State.{State}

@@ -1,7 +1,6 @@
 //! The elements and connections of a configuration. It has one scope: there are no compounds.
 
-ghost use Rattle.std.specs.Prelude.{◌≡◌, ◌⊎◌, ◌↔◌, ℕ, ◌<◌, List, [], ◌∷◌, ◌++◌, map, filter_map, Contains, true, Some, None, Ok, Err, IfOk, IfErr, OnOk, is_some};
-ghost use Rattle.click_text.specs.Spans.{bytes_at};
+ghost use Rattle.std.specs.Prelude.{◌≡◌, ◌⊎◌, ◌↔◌, ℕ, ◌<◌, List, [], ◌∷◌, ◌++◌, map, filter_map, Contains, true, Some, None, Ok, Err, IfOk, IfErr, OnOk};
 ghost use Rattle.click_router.specs.Expand as spec;
 ghost use Rattle.click_router.specs.Expand.{has_name, declared_names, chain_steps, element_of, element_fault, expand_from, expanded, flat_names, wires_from, InOrder, IsFlat};
 ghost use Rattle.click_router.specs.Joined.{joined, joined_at};

@@ -1,6 +1,6 @@
 //! From a text to a router that can be opened.
 
-ghost use Rattle.std.specs.Prelude.{◌≡◌, ◌⊎◌, ◌<◌, ◌≤◌, ℕ, [], ◌∷◌, ◌++◌, OnOk, map, length, IfOk, IfErr};
+ghost use Rattle.std.specs.Prelude.{◌≡◌, ◌⊎◌, ◌≤◌, [], ◌∷◌, ◌++◌, OnOk, map, length, IfOk, IfErr};
 ghost use Rattle.click_text.specs.Spelling.{longest_text};
 ghost use Rattle.click_router.specs.State.{RouterState};
 ghost use Rattle.click_router.specs.Expand.{flat_names};

@@ -2,7 +2,7 @@
 
 ghost use Rattle.std.specs.Prelude.{◌≡◌, ◌<◌, [], ◌∷◌, slice_get, List, MatchResult};
 ghost use Rattle.click_router.specs.Ports as spec;
-ghost use Rattle.click_router.specs.Ports.{is_at, port_past, allowed, count_breaches, unused_breaches, twice_breaches, counts_from, unused_from, twice_from, breaches};
+ghost use Rattle.click_router.specs.Ports.{count_breaches, unused_breaches, twice_breaches, counts_from, unused_from, twice_from, breaches};
 
 use crate::classes::{State, inputs, outputs};
 use crate::expand::Connection;

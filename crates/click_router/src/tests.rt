@@ -27,7 +27,7 @@ fn tells_faults(rt: HostRuntime) -> Result<(), Fail> {
             "12 DeclaredTwice at 3:2",
         ),
         ("x :: Foo;", "13 UnknownClass at 1:6"),
-        ("Foo@2 :: Idle; Foo(1)", "13 UnknownClass at 1:10"),
+        ("Foo@2 :: Idle; Foo(1)", "13 UnknownClass at 1:16"),
         ("Idle; Foo(1);", "13 UnknownClass at 1:7"),
         ("Idle(1) -> Discard;", "21 ArgumentCount in Idle@1"),
         ("Idle( /* none */ ) -> Discard();", "opens"),

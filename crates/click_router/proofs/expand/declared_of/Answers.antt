@@ -1,4 +1,4 @@
-use Rattle.std.proofs.Common.{◌≡◌, ℕ, ◌+◌, List, ◌∷◌, [], ◌++◌, cond, Some, None, sym, ap, ◌∙◌}
+use Rattle.std.proofs.Common.{◌≡◌, Some, None, sym, ap, ◌∙◌}
 use Rattle.std.proofs.lemmas.List.{append-nil}
 use Rattle.click_router.specs.Expand.{has_name, declared_head, declared_name}
 use Rattle.click_router.proofs.Declaring.{has_name-added, declared_by, declared_by-yes, declared_by-no}

@@ -1,9 +1,9 @@
-use Rattle.std.proofs.Common.{◌≡◌, ℕ, ◌+◌, List, [], ◌∷◌, ◌++◌, Bool, true, false, map, length, cond, sym, ap, ◌∙◌, inl, inr, arith, rules}
+use Rattle.std.proofs.Common.{◌≡◌, ℕ, ◌+◌, List, [], ◌∷◌, ◌++◌, Bool, length, cond, sym, ap, ◌∙◌, inl, inr, arith, rules}
 use Rattle.std.proofs.lemmas.List.{length_push}
 use Rattle.std.proofs.lemmas.Result.{err_from_is_err_and}
 use Rattle.click_router.specs.declared.expand.FlatElement.{FlatElement}
-use Rattle.click_router.specs.Expand.{has_name, element_of, flat_names}
-use Rattle.click_router.proofs.Expanding.{behind, left_at, left_at-made, left_at-other, left_at-faulty, left_at-end, names-made}
+use Rattle.click_router.specs.Expand.{has_name, flat_names}
+use Rattle.click_router.proofs.Expanding.{left_at, left_at-made, left_at-other, left_at-faulty, left_at-end, names-made}
 use Rattle.click_router.proofs.expand.elements_of.Goals as goal
 use Rattle.click_router.proofs.expand.elements_of.Goals.{then-makes+in_ok-made+in_ok-add+in_ok-push, else-makes}
 

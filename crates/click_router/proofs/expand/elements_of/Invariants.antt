@@ -1,4 +1,4 @@
-use Rattle.std.proofs.Common.{◌≡◌, ◌≤◌, ℕ, [], map, drop, length}
+use Rattle.std.proofs.Common.{◌≡◌, ◌≤◌, [], map, drop, length}
 use Rattle.click_router.specs.Expand.{has_name, element_of, expand_from, flat_names}
 use Rattle.click_router.proofs.Expanding.{behind}
 use Rattle.click_router.proofs.expand.elements_of.Given as goal

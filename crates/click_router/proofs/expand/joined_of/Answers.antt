@@ -1,4 +1,4 @@
-use Rattle.std.proofs.Common.{◌≡◌, ◌≤◌, ℕ, ◌+◌, List, Bool, Some, ap, ◌∙◌, arith, position}
+use Rattle.std.proofs.Common.{ℕ, List, Bool, Some, ap, ◌∙◌, arith, position}
 use Rattle.std.specs.Str.{bytes_eq}
 use Rattle.click_router.specs.Expand.{has_name}
 use Rattle.click_router.proofs.Joining.{joined-next, joined-all, number_behind-le}

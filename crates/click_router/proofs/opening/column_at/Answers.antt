@@ -1,4 +1,4 @@
-use Rattle.std.proofs.Common.{◌≡◌, ◌+◌, ℕ, not, nat_eq, length, take, reverse, ap, ◌∙◌, rules, tests}
+use Rattle.std.proofs.Common.{◌≡◌, ◌+◌, not, nat_eq, length, take, reverse, ap, ◌∙◌, rules, tests}
 use Rattle.std.specs.List.{take_while}
 use Rattle.std.proofs.lemmas.List.{take_min}
 use Rattle.std.proofs.lemmas.Iterator.Adapters.{YieldsList-from_rev_slice}

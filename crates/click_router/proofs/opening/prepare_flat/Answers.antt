@@ -1,6 +1,5 @@
 use Rattle.std.proofs.Common.{length, ap, ◌∙◌}
 use Rattle.click_router.specs.Expand.{flat_names}
-use Rattle.click_router.specs.Opened.{AreFresh}
 use Rattle.click_router.proofs.Once.{length_fresh}
 use Rattle.click_router.proofs.opening.prepare_flat.Goals as goal
 

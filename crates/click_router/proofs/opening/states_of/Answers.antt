@@ -1,7 +1,7 @@
-use Rattle.std.proofs.Common.{◌≡◌, ℕ, ◌+◌, ◌∷◌, [], ◌++◌, List, take, drop, sym, ap, ◌∙◌, subst, inr}
+use Rattle.std.proofs.Common.{◌+◌, ◌∷◌, [], ◌++◌, take, drop, sym, ap, ◌∙◌, subst, inr}
 use Rattle.click_text.specs.Pieces.{IsBlank}
 use Rattle.click_router.specs.Classes.{class_of}
-use Rattle.click_router.specs.Opened.{AreFresh, IsFresh}
+use Rattle.click_router.specs.Opened.{IsFresh}
 use Rattle.click_router.specs.Sound.{AreSound}
 use Rattle.click_router.proofs.Fresh.{AreFresh-push, blank_all, taken, dropped, between}
 use Rattle.click_router.proofs.opening.states_of.Goals as goal

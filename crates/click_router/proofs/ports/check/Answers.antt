@@ -1,6 +1,6 @@
-use Rattle.std.proofs.Common.{◌≡◌, [], ◌++◌, None, sym, ap, ◌∙◌, refl}
+use Rattle.std.proofs.Common.{◌++◌, sym}
 use Rattle.click_router.specs.Ports.{counts_from, unused_from, twice_from}
-use Rattle.click_router.proofs.Breaches.{first, nil_from_first, cons_from_first, first-left, first-right}
+use Rattle.click_router.proofs.Breaches.{nil_from_first, cons_from_first, first-left, first-right}
 use Rattle.click_router.proofs.ports.check.Goals as goal
 
 pub returns-in-Some : goal.returns-in-Some

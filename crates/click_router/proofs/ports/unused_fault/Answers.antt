@@ -1,5 +1,4 @@
 use Rattle.std.proofs.Common.{ℕ, Bool, nat_eq, sym, ap, ◌∙◌, eq-eqb, ne_eqb}
-use Rattle.std.specs.List.{filter, range_with_len}
 use Rattle.click_router.specs.declared.ports.PortFault.{PortFault}
 use Rattle.click_router.specs.declared.ports.PortFault.TheVariants as fault
 use Rattle.click_router.specs.Ports.{uses}

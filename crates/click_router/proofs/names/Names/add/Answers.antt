@@ -1,4 +1,4 @@
-use Rattle.std.proofs.Common.{◌≡◌, ℕ, List, ◌∷◌, [], ◌++◌, sym, ◌∙◌, ap, cond, map}
+use Rattle.std.proofs.Common.{◌≡◌, ℕ, List, ◌∷◌, [], ◌++◌, ◌∙◌, ap, cond, map}
 use Rattle.std.specs.Str.{bytes_eq}
 use Rattle.click_router.specs.Expand.{has_name}
 use Rattle.click_router.proofs.Places.{added_map}
