@@ -5,6 +5,7 @@ pub mod call;
 mod classes;
 mod expand;
 pub mod fault;
+pub mod laws;
 mod names;
 pub mod opening;
 mod ports;

@@ -1,13 +1,12 @@
 -- What is spelled so is read.
-use Rattle.std.proofs.Common.{◌≡◌, ℕ, List, length, Result, Ok, Err, IfOk, IfErr, OnOk, inl, inr, refl, sym, ◌∙◌, ap}
+use Rattle.std.proofs.Common.{◌≡◌, ℕ, List, length, Result, Ok, Err, IfOk, IfErr, inl, inr, refl, sym, ◌∙◌, ap}
 use Rattle.click_text.specs.declared.syntax.Token.{Token}
 use Rattle.click_text.specs.declared.syntax.Statement.{Statement}
 use Rattle.click_text.specs.declared.syntax.Body.{Body}
 use Rattle.click_text.specs.declared.syntax.Ending.{Ending}
-use Rattle.click_text.specs.declared.syntax.Ending.TheVariants as ending
 use Rattle.click_text.specs.declared.syntax.TextFault.{TextFault}
 use Rattle.click_text.specs.declared.syntax.Config.{Config}
-use Rattle.click_text.specs.Grammar.{Tree, IsText, NestsWithin, tree_of}
+use Rattle.click_text.specs.Grammar.{Tree, IsText, tree_of}
 use Rattle.click_text.specs.Pieces.{Reads}
 use Rattle.click_text.specs.Faults.{IsFaultAmong, IsMemoryOr}
 use Rattle.click_text.specs.Spelling.{Spells, IsGiven, IsTextFault}

@@ -1,5 +1,5 @@
 -- The first fault among tokens.
-use Rattle.std.specs.Prelude.{◌≡◌, ◌⊎◌, ℕ, List, [], ◌∷◌, ◌++◌, length}
+use Rattle.std.specs.Prelude.{◌≡◌, ◌⊎◌, ℕ, List, [], ◌∷◌, ◌++◌}
 use Rattle.click_text.specs.declared.syntax.Span.{Span}
 use Rattle.click_text.specs.declared.syntax.Token.{Token}
 use Rattle.click_text.specs.declared.syntax.Token.TheVariants as token
