@@ -1,11 +1,15 @@
 -- The checksum of an internet header (RFC 791, section 3.1; RFC 1071).
-use Rattle.std.specs.Prelude.{ℕ, zero, suc, ◌+◌, ◌-◌, ◌*◌, ◌%◌, ◌<◌, ◌≤◌, ◌↔◌, ◌≡◌, List, [], ◌∷◌, if◌then◌else◌, nat_lt}
+use Rattle.std.specs.Prelude.{ℕ, zero, suc, ◌+◌, ◌-◌, ◌*◌, ◌%◌, ◌<◌, ◌≤◌, ◌↔◌, ◌≡◌, List, [], ◌∷◌, if◌then◌else◌, nat_lt, sum}
 
--- the plain sum of the 16-bit words that the bytes spell, the high byte first; a last byte without a second is a high one
+-- the 16-bit words that the bytes spell, the high byte first; a last byte without a second is a high one
+abbrev pub words : List ℕ → List ℕ
+words [] = []
+words (high ∷ []) = (high * 256) ∷ []
+words (high ∷ low ∷ rest) = (high * 256 + low) ∷ words rest
+
+-- their plain sum
 abbrev pub sum_of_words : List ℕ → ℕ
-sum_of_words [] = 0
-sum_of_words (high ∷ []) = high * 256
-sum_of_words (high ∷ low ∷ rest) = high * 256 + low + sum_of_words rest
+sum_of_words bytes = sum (words bytes)
 
 -- the ones' complement sum of words whose plain sum is given. Ones' complement numbers of 16 bits are the numbers
 -- modulo 65,535, where ffff stands for 0 too; words sum to 0 itself only where each of them is 0
