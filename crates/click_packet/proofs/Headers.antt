@@ -1,5 +1,5 @@
 -- Facts on the fields of a header.
-use Rattle.std.proofs.Common.{◌≡◌, ℕ, ◌+◌, ◌-◌, ◌*◌, ◌/◌, ◌%◌, ◌<◌, ◌≤◌, Bool, true, false, List, ◌∷◌, length, get_or, set, take, get_or-set_other, get_or-set_same, length-set, length-take, zero, suc, [], ◌≢◌, ◌⊎◌, ◌↔◌, ⊎_elim, Option, Some, None, refl, sym, ◌∙◌, ap, arith, not, ◌==◌, ◌&&◌, nat_le, Contains, is_some}
+use Rattle.std.proofs.Common.{◌≡◌, ℕ, ◌+◌, ◌-◌, ◌*◌, ◌/◌, ◌%◌, ◌<◌, ◌≤◌, true, false, List, ◌∷◌, length, get_or, set, take, get_or-set_other, get_or-set_same, length-set, length-take, zero, suc, [], ◌≢◌, ◌⊎◌, ◌↔◌, ⊎_elim, Some, None, refl, sym, ◌∙◌, ap, arith, not, ◌==◌, nat_le, Contains, is_some}
 use Rattle.std.specs.Bool.{Decides}
 use Rattle.std.specs.List.{list_any}
 use Rattle.std.specs.Str.{bytes_eq}
@@ -28,7 +28,7 @@ pub checksum_is : (xs : List ℕ) → 12 ≤ length xs → 65535 - ones_sum (sum
 unfolding checksum
 checksum_is xs long =
     let e : sum_of_words xs - checksum_field xs ≡ sum_of_words (with_checksum_field xs 0) =
-        omega (arith, sum_of_words-field xs 0 long) in
+    omega (arith, sum_of_words-field xs 0 long) in
     ap (λ n. 65535 - ones_sum n) e
 
 pub header_len-some : (bytes : List ℕ) → 20 ≤ stated_len bytes → stated_len bytes ≤ length bytes → header_len bytes ≡ Some (stated_len bytes)
@@ -42,7 +42,6 @@ header_len-short bytes low = grind (arith, nat_tests)
 pub header_len-past : (bytes : List ℕ) → length bytes < stated_len bytes → header_len bytes ≡ None
 unfolding header_len
 header_len-past bytes low = grind (arith, nat_tests)
-
 
 -- a header whose fields pass is good unless it comes from a refused address
 pub header_good-fields : (bytes : List ℕ) (refused : List (List ℕ)) → header_len bytes ≡ Some (stated_len bytes) → version bytes ≡ 4 →
@@ -67,7 +66,7 @@ decides_header bytes = (λ e. grind (arith, nat_tests), λ h. grind (arith, nat_
 decides_contains : (xss : List (List ℕ)) (xs : List ℕ) → Decides (list_any (λ ys. bytes_eq ys xs) xss) (Contains xss xs)
 decides_contains xss xs =
     Decides-contains xss xs _
-        (Decides-by_or (λ ys. bytes_eq ys xs) (λ ys. ys ≡ xs) (list_any (λ ys. bytes_eq ys xs)) (λ ys. bytes_decides ys xs) refl (λ _ _. refl) xss)
+    (Decides-by_or (λ ys. bytes_eq ys xs) (λ ys. ys ≡ xs) (list_any (λ ys. bytes_eq ys xs)) (λ ys. bytes_decides ys xs) refl (λ _ _. refl) xss)
 
 -- the test is the record
 pub header_good-decides : (bytes : List ℕ) (refused : List (List ℕ)) → Decides (header_good bytes refused) (IsGoodHeader bytes refused)
@@ -80,9 +79,9 @@ header_good-decides bytes refused =
     let e = Decides-eqb (ones_sum (sum_of_words (header bytes))) 65535 in
     let f = Decides-not _ (decides_contains refused (source bytes)) in
     Decides-like _
-        (λ h. record { version = h.0.0.0.0.1; long = h.0.0.0.0.0.0; there = h.0.0.0.0.0.1; holds_header = h.0.0.0.1; holds_data = h.0.0.1; sum = h.0.1; welcome = h.1 })
-        (λ g. ((((((g.long, g.there), g.version), g.holds_header), g.holds_data), g.sum), g.welcome))
-        (Decides-and _ _ (Decides-and _ _ (Decides-and _ _ (Decides-and _ _ (Decides-and _ _ a b) c) d) e) f)
+    (λ h. record { version = h.0.0.0.0.1; long = h.0.0.0.0.0.0; there = h.0.0.0.0.0.1; holds_header = h.0.0.0.1; holds_data = h.0.0.1; sum = h.0.1; welcome = h.1 })
+    (λ g. ((((((g.long, g.there), g.version), g.holds_header), g.holds_data), g.sum), g.welcome))
+    (Decides-and _ _ (Decides-and _ _ (Decides-and _ _ (Decides-and _ _ (Decides-and _ _ a b) c) d) e) f)
 
 pub header_good-false : (bytes : List ℕ) (refused : List (List ℕ)) → (IsGoodHeader bytes refused → ⊥) → false ≡ header_good bytes refused
 header_good-false bytes refused h =
@@ -118,7 +117,7 @@ sum_of_words-checksum xs long =
     let bare = sum_of_words (with_checksum_field xs 0) in
     let word = 65535 - ones_sum bare in
     let e : sum_of_words (with_checksum_field xs word) ≡ bare + word =
-        omega (arith, sum_of_words-field xs 0 long, sum_of_words-field xs word long) in
+    omega (arith, sum_of_words-field xs 0 long, sum_of_words-field xs word long) in
     ap ones_sum e ∙ complement_sums bare word refl
 
 -- and no other word does, but that ffff may stand for 0
@@ -128,9 +127,10 @@ unfolding checksum
 sums_by_checksum xs long short =
     let bare = sum_of_words (with_checksum_field xs 0) in
     let word = checksum_field xs in
-    let e : sum_of_words xs ≡ bare + word = omega (arith, sum_of_words-field xs 0 long) in
-    (λ h. complement_from_sum bare word short (sym (ap ones_sum e) ∙ h),
-     λ h. ap ones_sum e ∙ ⊎_elim (λ f. complement_sums bare word f) (λ f. ones_sums bare word f.0 f.1) h)
+    let e : sum_of_words xs ≡ bare + word = omega (arith, sum_of_words-field xs 0 long) in (
+      λ h. complement_from_sum bare word short (sym (ap ones_sum e) ∙ h),
+      λ h. ap ones_sum e ∙ ⊎_elim (λ f. complement_sums bare word f) (λ f. ones_sums bare word f.0 f.1) h,
+    )
 
 pub length-with_ttl : (bytes : List ℕ) (ttl : ℕ) → length (with_ttl bytes ttl) ≡ length bytes
 unfolding with_ttl
@@ -171,7 +171,7 @@ sum-with_ttl bytes ttl low high =
     let e : header (with_ttl bytes ttl) ≡ take len (with_ttl bytes ttl) = ap (λ n. take n (with_ttl bytes ttl)) (stated_len-with_ttl bytes ttl) in
     let f : take len (with_ttl bytes ttl) ≡ take len (with_checksum_field aged word) = ap (take len) (with_ttl_is bytes ttl) in
     let g : take len (with_checksum_field aged word) ≡ with_checksum_field (take len aged) word =
-        take-set_in len (set aged 10 (word / 256)) 11 (word % 256) ∙ ap (λ xs. set xs 11 (word % 256)) (take-set_in len aged 10 (word / 256)) in
+    take-set_in len (set aged 10 (word / 256)) 11 (word % 256) ∙ ap (λ xs. set xs 11 (word % 256)) (take-set_in len aged 10 (word / 256)) in
     let long : 12 ≤ length (take len aged) = simp (length-take, length-set) (omega arith) in
     ap (λ xs. ones_sum (sum_of_words xs)) (e ∙ f ∙ g) ∙ sum_of_words-checksum (take len aged) long
 
@@ -183,10 +183,11 @@ with_ttl-good bytes refused ttl g =
     let e3 = same 3 (omega arith) (omega arith) (omega arith) in
     let len = length-with_ttl bytes ttl in
     let e : source (with_ttl bytes ttl) ≡ source bytes = simp (
-        same 12 (omega arith) (omega arith) (omega arith),
-        same 13 (omega arith) (omega arith) (omega arith),
-        same 14 (omega arith) (omega arith) (omega arith),
-        same 15 (omega arith) (omega arith) (omega arith)) in
+      same 12 (omega arith) (omega arith) (omega arith),
+      same 13 (omega arith) (omega arith) (omega arith),
+      same 14 (omega arith) (omega arith) (omega arith),
+      same 15 (omega arith) (omega arith) (omega arith),
+    ) in
     record {
       version = omega (arith, e0, g.version);
       long = omega (arith, e0, g.long);
@@ -194,7 +195,7 @@ with_ttl-good bytes refused ttl g =
       holds_header = omega (arith, e0, e2, e3, g.holds_header);
       holds_data = omega (arith, e2, e3, len, g.holds_data);
       sum = sum-with_ttl bytes ttl g.long g.there;
-      welcome = λ h. g.welcome (rw e at h)
+      welcome = λ h. g.welcome (rw e at h);
     }
 
 pub ttl-with_ttl : (bytes : List ℕ) (n : ℕ) → 20 ≤ stated_len bytes → stated_len bytes ≤ length bytes → ttl (with_ttl bytes n) ≡ Some n

@@ -1,5 +1,5 @@
 -- Facts on ones' complement sums.
-use Rattle.std.proofs.Common.{◌≡◌, ℕ, zero, suc, ◌+◌, ◌-◌, ◌*◌, ◌/◌, ◌%◌, ◌^◌, ◌<◌, ◌≤◌, List, [], ◌∷◌, length, get_or, drop, fold, ◌⊎◌, inl, inr, ⊎_elim, ◌↔◌, refl, sym, ◌∙◌, ap, add-zero, zero-add, arith}
+use Rattle.std.proofs.Common.{◌≡◌, ℕ, zero, suc, ◌+◌, ◌-◌, ◌*◌, ◌/◌, ◌%◌, ◌^◌, ◌<◌, ◌≤◌, List, [], ◌∷◌, length, get_or, drop, fold, ◌⊎◌, inl, inr, ⊎_elim, refl, sym, ◌∙◌, ap, add-zero, zero-add, arith}
 use Rattle.std.proofs.lemmas.Bool.Decides.{nat_tests}
 use Rattle.std.proofs.lemmas.Bool.{cases_lt, cases_eq}
 use Rattle.std.proofs.lemmas.List.{drop_more}
@@ -82,11 +82,11 @@ ones_sum-add_positive : (n w : ℕ) → 0 < n → w ≤ 65535 → (ones_sum n + 
 ones_sum-add_positive n w h short (inl below) =
     let i = ones_sum-is n h in
     ones_sum_at (n + w) (ones_sum n + w) ((n - 1) / 65535) (omega (arith, i.1)) (omega arith) (omega (arith, i.0))
-        ∙ sym (ones_add-below (ones_sum n) w below)
+    ∙ sym (ones_add-below (ones_sum n) w below)
 ones_sum-add_positive n w h short (inr past) =
     let i = ones_sum-is n h in
     ones_sum_at (n + w) (ones_sum n + w - 65535) ((n - 1) / 65535 + 1) (omega arith) (omega (arith, i.2)) (omega (arith, i.0))
-        ∙ sym (ones_add-carry (ones_sum n) w past)
+    ∙ sym (ones_add-carry (ones_sum n) w past)
 
 -- one more word is added as ones' complement numbers are
 pub ones_sum-add : (n w : ℕ) → w ≤ 65535 → ones_sum (n + w) ≡ ones_add (ones_sum n) w
@@ -107,9 +107,9 @@ fold_words n (high ∷ low ∷ rest) bytes =
     let l : low < 256 = bytes 1 in
     let w = high * 256 + low in
     let e : n + sum_of_words (high ∷ low ∷ rest) ≡ n + w + sum_of_words rest =
-        omega (arith, sum_by-cons (λ x. x) w (words rest)) in
+    omega (arith, sum_by-cons (λ x. x) w (words rest)) in
     ap ones_sum e ∙ fold_words (n + w) rest (λ i. bytes (suc (suc i)))
-        ∙ ap (λ m. fold ones_add m (words rest)) (ones_sum-add n w (omega arith))
+    ∙ ap (λ m. fold ones_add m (words rest)) (ones_sum-add n w (omega arith))
 
 -- the words added one after the other as ones' complement numbers
 pub ones_sum-fold : (xs : List ℕ) → ((i : ℕ) → get_or xs i 0 < 256) → ones_sum (sum_of_words xs) ≡ fold ones_add 0 (words xs)
@@ -154,4 +154,5 @@ complement_from_sum (suc n) w short e =
     ⊎_elim (λ h. inr (omega (arith, i.0, i.1, i.2, j.0, e, h), h)) (λ h. inl (omega (arith, i.0, i.1, i.2, j.0, e, h))) (cases_eq w 65535)
 
 pub ruleset folding = (fold-ones)
+
 pub ruleset word_steps = (sum_of_words-drop)

@@ -1,5 +1,5 @@
 -- The checksum of an internet header (RFC 791, section 3.1; RFC 1071).
-use Rattle.std.specs.Prelude.{ℕ, zero, suc, ◌+◌, ◌-◌, ◌*◌, ◌%◌, ◌<◌, ◌≤◌, ◌↔◌, ◌≡◌, List, [], ◌∷◌, if◌then◌else◌, nat_lt, sum}
+use Rattle.std.specs.Prelude.{ℕ, zero, suc, ◌+◌, ◌-◌, ◌*◌, ◌%◌, ◌≤◌, ◌↔◌, ◌≡◌, List, [], ◌∷◌, if◌then◌else◌, nat_lt, sum}
 
 -- the 16-bit words that the bytes spell, the high byte first; a last byte without a second is a high one
 abbrev pub words : List ℕ → List ℕ

@@ -58,8 +58,8 @@ pub record IsGoodHeader (bytes : List ℕ) (refused : List (List ℕ)) : Type 0 
 unfoldable pub header_good : List ℕ → List (List ℕ) → Bool
 header_good bytes refused =
     is_some (header_len bytes)
-        && (version bytes == 4)
-        && nat_le (stated_len bytes) (total_len bytes)
-        && nat_le (total_len bytes) (length bytes)
-        && (ones_sum (sum_of_words (header bytes)) == 65535)
-        && not (list_any (λ address. bytes_eq address (source bytes)) refused)
+    && (version bytes == 4)
+    && nat_le (stated_len bytes) (total_len bytes)
+    && nat_le (total_len bytes) (length bytes)
+    && (ones_sum (sum_of_words (header bytes)) == 65535)
+    && not (list_any (λ address. bytes_eq address (source bytes)) refused)

@@ -15,7 +15,11 @@ pub fn header_len(bytes: &[u8]) -> Option<usize>
         return None;
     }
     let len = usize::from(bytes[0] % 16) * 4;
-    if 20 <= len && len <= bytes.len() { Some(len) } else { None }
+    if 20 <= len && len <= bytes.len() {
+        Some(len)
+    } else {
+        None
+    }
 }
 
 /// Whether a whole header of version 4 is there, whose total length lies between its own and the number of bytes, whose

@@ -6,5 +6,5 @@ use Rattle.click_packet.proofs.checksum.sum_of_words.Given as goal
 abbrev pub invariant-loop-at : goal.invariant-loop-at
 invariant-loop-at l = record {
   made : l.sum + sum_of_words (drop (2 * l.at) l.header) ≡ sum_of_words l.header;
-  small : l.sum ≤ 65535 * l.at
+  small : l.sum ≤ 65535 * l.at;
 }

@@ -23,4 +23,4 @@ returns c =
     let here : header_len bytes ≡ Some (stated_len bytes) = sym c.in-Some.ensures.value ∙ ap (λ n. Some n) stated in
     let sums = sym (ap (λ n. ones_sum (sum_of_words (take n bytes))) stated) ∙ sym c.sum.ensures ∙ c.if-sum.false in
     ap not c.contains.ensures.value
-        ∙ sym (header_good-fields bytes c.args.refused.now here c.if-bytes-ne4.false (omega (arith, stated)) (omega (arith, stated)) sums)
+    ∙ sym (header_good-fields bytes c.args.refused.now here c.if-bytes-ne4.false (omega (arith, stated)) (omega (arith, stated)) sums)

@@ -1,4 +1,4 @@
-use Rattle.std.proofs.Common.{◌≡◌, ◌/◌, ◌%◌, Some, refl, ap, sym, ◌∙◌, take, set}
+use Rattle.std.proofs.Common.{◌≡◌, Some, refl, ap, sym, ◌∙◌, take, set}
 use Rattle.click_packet.specs.Header.{header_len, checksum, with_checksum_field}
 use Rattle.click_packet.proofs.Headers.{with_ttl_is}
 use Rattle.click_packet.proofs.header.set_ttl.Goals as goal
