@@ -41,6 +41,13 @@ impl Packet {
         Ok(packet)
     }
 
+    fn copy_from(&mut self, source: &Packet) {
+        self.bytes[..source.len].copy_from_slice(source.bytes());
+        self.len = source.len;
+        self.paint = source.paint;
+        self.destination = source.destination;
+    }
+
     fn bytes(&self) -> &[u8] {
         &self.bytes[..self.len]
     }
@@ -114,17 +121,34 @@ fn forward(bytes: &[u8], header: &[u8]) -> u64 {
     u64::from(packet.header_good(&[]) && packet.set_ttl(63))
 }
 
+#[inline(never)]
+fn forward_in_place(packet: &mut Packet, source: &Packet, header: &[u8]) -> u64 {
+    packet.copy_from(source);
+    packet.strip(20);
+    if packet.prepend(header).is_err() {
+        return 0;
+    }
+    u64::from(packet.header_good(&[]) && packet.set_ttl(63))
+}
+
 fn main() {
     let mut lines = io::stdin().lock().lines();
     let mut number = || lines.next().unwrap().unwrap().parse::<usize>().unwrap();
     let size = number();
     let rounds = number();
+    let in_place = number() == 1;
     let mut bytes = [7u8; 1600];
     let header = header_for(size);
+    let mut packet = Packet::empty();
+    let source = Packet::of(&bytes[..size]).unwrap();
     let mut good = 0u64;
     for round in 0..rounds {
         bytes[40] = round as u8;
-        good += forward(&bytes[..size], header.bytes());
+        good += if in_place {
+            forward_in_place(&mut packet, &source, header.bytes())
+        } else {
+            forward(&bytes[..size], header.bytes())
+        };
     }
     println!("{good}");
 }

@@ -28,6 +28,17 @@ fn forward(bytes: &[u8], header: &[u8]) -> u64 {
     if packet.header_good(&[]) && packet.set_ttl(63) { 1 } else { 0 }
 }
 
+/// The same in a packet that is there, whose bytes are copied from another.
+#[inline(never)]
+fn forward_in_place(packet: &mut Packet, source: &Packet, header: &[u8]) -> u64 {
+    packet.copy_from(source);
+    packet.strip(20);
+    if packet.prepend(header).is_err() {
+        return 0;
+    }
+    if packet.header_good(&[]) && packet.set_ttl(63) { 1 } else { 0 }
+}
+
 fn number(line: Option<io::Result<String>>) -> io::Result<usize> {
     match line {
         Some(text) => Ok(text?.as_str().parse::<usize>().unwrap_or(0)),
@@ -39,14 +50,20 @@ fn main(rt: HostRuntime) -> io::Result<()> {
     let mut lines = rt.lines(rt.alloc());
     let size = number(lines.next())?;
     let rounds = number(lines.next())?;
+    let in_place = number(lines.next())? == 1;
     let mut bytes = [7; 1600];
     let header = header_for(size);
+    let mut packet = Packet::empty();
+    let source = Packet::of(&bytes[..size.min(1600)]).unwrap_or(Packet::empty());
     let mut good: u64 = 0;
     for round in 0..rounds {
         bytes[40] = (round % 256) as u8;
-        if size <= 1600 {
-            good = good.wrapping_add(forward(&bytes[..size], header.bytes()));
-        }
+        let answer = if in_place {
+            forward_in_place(&mut packet, &source, header.bytes())
+        } else {
+            forward(&bytes[..size.min(1600)], header.bytes())
+        };
+        good = good.wrapping_add(answer);
     }
     println!(rt; "{good}")?;
     Ok(())
