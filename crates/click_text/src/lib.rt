@@ -12,6 +12,7 @@ pub mod parser;
 pub mod sequence;
 pub mod strings;
 pub mod syntax;
+pub mod tokens;
 
 use lexer::scan;
 use parser::config_of;
