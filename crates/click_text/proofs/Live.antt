@@ -1,5 +1,5 @@
 -- What is open in a state can be completed.
-use Rattle.std.proofs.Common.{◌≡◌, ℕ, List, [], ◌∷◌, ◌++◌, length, Option, Some, None, refl}
+use Rattle.std.proofs.Common.{ℕ, List, [], ◌∷◌, ◌++◌, length, Option, Some, None, refl}
 use Rattle.std.proofs.lemmas.List.{append-nil}
 use Rattle.click_text.specs.declared.syntax.Span.{Span}
 use Rattle.click_text.specs.declared.syntax.Token.{Token}
@@ -13,7 +13,7 @@ use Rattle.click_text.specs.declared.syntax.Element.{Element}
 use Rattle.click_text.specs.declared.syntax.Link.{Link}
 use Rattle.click_text.specs.declared.syntax.Statement.{Statement}
 use Rattle.click_text.specs.declared.syntax.Body.{Body}
-use Rattle.click_text.specs.Grammar.{port, element, link, chain, declaration, body, Tree, no_port, bracketed, no_string, semicolon, last_formal, no_header, by_name, word, an_element, no_links, chained, definition, synonym, requirement, no_more}
+use Rattle.click_text.specs.Grammar.{port, element, link, chain, declaration, body, Tree, no_port, bracketed, no_string, semicolon, last_formal, no_header, by_name, word, an_element, no_links, chained, synonym, no_more}
 use Rattle.click_text.specs.Machine.{Place, top, inside, Use, as_element, as_class, as_definition, Target, of_head, of_names, Context, start, linked, Side, out, into, State, between, statement_wanted, first_read, name_wanted, name_read, listed_read, define, define_named, required, ending, body_opened, formal_wanted, formal_read, element_wanted, word_read, class_wanted, head_read, after, port_wanted, number_wanted, close_wanted, arrow_wanted, a_definition, a_synonym, a_requirement}
 use Rattle.click_text.proofs.Completes.{names_end, formals_end, Then, Between, After, Listed, Headed, Ends, Used, Classified, Grown, Stated, Named, Wanted, Ported, Completes}
 
@@ -22,7 +22,7 @@ somewhere = record { start = 0; end = 0 }
 
 after_live : (k : Then) (bs : List Body) (ss : List Statement) (f : Element) (ls : List Link) → ((ts : List Token) × (t : Tree) × k bs (ss ++ chain f ls ∷ []) ts t) → (ts : List Token) × (t : Tree) × After k bs ss f ls ts t
 after_live k bs ss f ls (ts, t, h) =
-    (token.Semicolon somewhere ∷ ts, t, ([], _, ts, bs, no_links, semicolon, ([], ts, bs, no_more, rw (append-nil, append-nil) h)))
+    (token.Semicolon somewhere ∷ ts, t, ([], _, ts, bs, no_links, semicolon, ([], ts, bs, no_more, rw (append-nil ls, append-nil (ss ++ chain f ls ∷ [])) h)))
 
 listed_live : (k : Then) (bs : List Body) (ss : List Statement) (ns : List Span) (c : Class) → ((ts : List Token) × (t : Tree) × k bs (ss ++ declaration ns c None ∷ []) ts t) → (ts : List Token) × (t : Tree) × Listed k bs ss ns c ts t
 listed_live k bs ss ns c (ts, t, h) =

@@ -1,20 +1,19 @@
 -- From the grammar to the machine: what the grammar reads, the machine runs through, with the same tree.
-use Rattle.std.proofs.Common.{inl, inr, ◌≡◌, ℕ, List, [], ◌∷◌, ◌++◌, length, Option, Some, None, refl, sym, ◌∙◌, append_assoc}
+use Rattle.std.proofs.Common.{inl, inr, ◌≡◌, ℕ, List, [], ◌∷◌, ◌++◌, Option, Some, None, refl, sym, ◌∙◌, append_assoc}
 use Rattle.std.proofs.lemmas.List.{append-nil}
 use Rattle.click_text.specs.declared.syntax.Span.{Span}
 use Rattle.click_text.specs.declared.syntax.Token.{Token}
 use Rattle.click_text.specs.declared.syntax.Token.TheVariants as token
 use Rattle.click_text.specs.declared.syntax.Port.{Port}
 use Rattle.click_text.specs.declared.syntax.Class.{Class}
-use Rattle.click_text.specs.declared.syntax.Class.TheVariants as class
 use Rattle.click_text.specs.declared.syntax.Head.{Head}
 use Rattle.click_text.specs.declared.syntax.Head.TheVariants as head
 use Rattle.click_text.specs.declared.syntax.Element.{Element}
 use Rattle.click_text.specs.declared.syntax.Link.{Link}
 use Rattle.click_text.specs.declared.syntax.Statement.{Statement}
 use Rattle.click_text.specs.declared.syntax.Body.{Body}
-use Rattle.click_text.specs.Grammar.{port, element, link, chain, declaration, body, Tree, IsPort, no_port, bracketed, IsString, no_string, string, IsEnd, semicolon, before_close, at_end, IsFormals, last_formal, more_formals, IsHeader, no_header, header, IsNames, last_name, more_names, IsBody, braces, IsClass, by_name, by_body, IsHead, word, declared, compound, IsElement, an_element, IsLinks, no_links, more_links, IsStatement, chained, declarations, definition, synonym, requirement, IsStatements, no_more, empty, stated, IsText}
-use Rattle.click_text.specs.Machine.{Place, top, inside, Use, as_element, as_class, as_definition, Target, of_head, of_names, Context, start, linked, Side, out, into, State, between, statement_wanted, first_read, name_wanted, name_read, listed_read, define_named, required, ending, body_opened, formal_wanted, formal_read, element_wanted, word_read, class_wanted, head_read, after, port_wanted, arrow_wanted, grown, classified, used, ported, past_port, beyond_grown, a_synonym, a_requirement, step, ended_grown, finish, bind, run}
+use Rattle.click_text.specs.Grammar.{element, link, chain, declaration, Tree, IsPort, no_port, bracketed, IsString, no_string, string, IsEnd, semicolon, before_close, at_end, IsFormals, last_formal, more_formals, IsHeader, no_header, header, IsNames, last_name, more_names, IsBody, braces, IsClass, by_name, by_body, IsHead, word, declared, compound, IsElement, an_element, IsLinks, no_links, more_links, IsStatement, chained, declarations, definition, synonym, requirement, IsStatements, no_more, empty, stated, IsText}
+use Rattle.click_text.specs.Machine.{Place, top, inside, Use, as_element, as_class, as_definition, Target, of_head, of_names, Context, start, linked, Side, out, into, State, between, statement_wanted, first_read, name_read, listed_read, define_named, required, ending, body_opened, formal_wanted, element_wanted, word_read, class_wanted, head_read, after, port_wanted, grown, classified, used, ported, past_port, beyond_grown, a_synonym, a_requirement, step, ended_grown, finish, run}
 use Rattle.click_text.proofs.Takes.{headed_by, worded_by, firsted_by, listed_by, required_by, unfolded_by}
 
 -- no such token comes
@@ -220,6 +219,7 @@ close_follows b rest = (λ s r e. cc, λ s r e. cc)
 
 mutual
   unfolding run
+
   body_runs : {ts rest : List Token} {bs bs' : List Body} {n : ℕ} → IsBody ts bs n rest bs' → (s : State) (u : Use) → ((a : Span) → step s (token.Open a) ≡ Some (body_opened bs a u)) → run s ts ≡ run (used bs' u n) rest
   body_runs (braces {a = a} {b = b} {ts = ts} {rest = rest} {bs = bs} {fs = fs} h r) s u k =
       brace_runs s a ts (body_opened bs a u) (k a)

@@ -4,8 +4,6 @@ use Rattle.std.proofs.lemmas.Bool.Decides.{nat_tests}
 use Rattle.click_text.specs.declared.syntax.Span.{Span}
 use Rattle.click_text.specs.declared.syntax.Token.{Token}
 use Rattle.click_text.specs.declared.syntax.Token.TheVariants as token
-use Rattle.click_text.specs.declared.syntax.Element.{Element}
-use Rattle.click_text.specs.declared.syntax.Link.{Link}
 use Rattle.click_text.specs.declared.syntax.Statement.{Statement}
 use Rattle.click_text.specs.declared.syntax.Body.{Body}
 use Rattle.click_text.specs.declared.tokens.Stop.{Stop}

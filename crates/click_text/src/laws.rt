@@ -8,17 +8,14 @@ ghost use Rattle.click_text.specs.Spelling.{Spells, IsTextFault};
 /// A text spells one configuration at most.
 pub fn spells_once()
     ensures { (text : List ℕ) (c d : Config) → Spells text c → Spells text d → c ≡ d }
-{
-}
+{}
 
 /// A text has one first fault at most.
 pub fn faults_once()
     ensures { (text : List ℕ) (f g : TextFault) → IsTextFault text f → IsTextFault text g → f ≡ g }
-{
-}
+{}
 
 /// A text that spells a configuration has no fault.
 pub fn spelled_has_no_fault()
     ensures { (text : List ℕ) (c : Config) (f : TextFault) → Spells text c → IsTextFault text f → ⊥ }
-{
-}
+{}

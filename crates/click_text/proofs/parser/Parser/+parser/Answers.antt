@@ -1,4 +1,4 @@
-use Rattle.std.proofs.Common.{◌≡◌, ◌+◌, ◌∙◌, refl, arith}
+use Rattle.std.proofs.Common.{◌+◌, ◌∙◌, refl, arith}
 use Rattle.std.proofs.lemmas.Result.{err_from_is_err_and, IfOk-weaker, IfErr-weaker}
 use Rattle.std.proofs.lemmas.Grind.{common_steps}
 use Rattle.click_text.specs.Machine.{inside, as_element, as_class, as_definition, of_head, between, statement_wanted, define, define_named, element_wanted, class_wanted, a_synonym}
@@ -111,7 +111,7 @@ head-returns-then-not-double_colon-clause-goes_on t c = λ cx.
     ∙ (rw c.if-not-double_colon.true at (c.double_colon.ensures.goes_on c.args.depth c.args.self.now.bodies cx c.in-Word.word))
 
 pub head-returns-in_err-class-in-Word-clause-stops : goal.head-returns-in_err-class-in-Word-clause-stops
-head-returns-in_err-class-in-Word-clause-stops t c = 
+head-returns-in_err-class-in-Word-clause-stops t c =
     let r = err_from_is_err_and c.from_residual.result c.from_residual.ensures.1 in
     rw (r.1, r.2) (λ cx. stops_from _ _ _ _
     ((rw c.skip.ensures (taken c.args.depth c.args.depth _ _ c.in-Some.token _ _ c.in-Some.ensures (rw c.in-Word.is refl) (rw c.in-Word.is refl)))
@@ -119,7 +119,7 @@ head-returns-in_err-class-in-Word-clause-stops t c =
     (c.in_err-class-in-Word.ensures.stops (of_head c.in-Word.word cx)))
 
 pub head-returns-in_err-body-in-Open-clause-stops : goal.head-returns-in_err-body-in-Open-clause-stops
-head-returns-in_err-body-in-Open-clause-stops t c = 
+head-returns-in_err-body-in-Open-clause-stops t c =
     let r = err_from_is_err_and c.from_residual-in_err-body-in-Open.result c.from_residual-in_err-body-in-Open.ensures.1 in
     rw (r.1, r.2) (λ cx. c.in_err-body-in-Open.ensures.stops (element_wanted c.args.self.now.bodies cx) (as_element cx) refl)
 
@@ -145,15 +145,15 @@ pub statement-returns-in_default-clause-stops : goal.statement-returns-in_defaul
 statement-returns-in_default-clause-stops t c = λ p ss. refused_at_end c.args.depth _ _ c.in_default.ensures refl
 
 pub statement-returns-in-Some-first_of_names-clause-goes_on : goal.statement-returns-in-Some-first_of_names-clause-goes_on
-statement-returns-in-Some-first_of_names-clause-goes_on t c = 
+statement-returns-in-Some-first_of_names-clause-goes_on t c =
     IfOk-weaker c.declaration.result _ _ (λ st h p ss. (rw c.skip.ensures (lists c.args.depth c.args.self.now.bodies p ss c.in-Some-first_of_names.first _ c.in-Some-first_of_names.ensures)) ∙ h p ss) c.declaration.ensures.goes_on
 
 pub statement-returns-in-Some-first_of_names-clause-stops : goal.statement-returns-in-Some-first_of_names-clause-stops
-statement-returns-in-Some-first_of_names-clause-stops t c = 
+statement-returns-in-Some-first_of_names-clause-stops t c =
     IfErr-weaker c.declaration.result _ _ (λ e h p ss. stops_from e _ _ _ (rw c.skip.ensures (lists c.args.depth c.args.self.now.bodies p ss c.in-Some-first_of_names.first _ c.in-Some-first_of_names.ensures)) (h p ss)) c.declaration.ensures.stops
 
 pub statement-returns-in_err-chain-in_default-token : goal.statement-returns-in_err-chain-in_default-token
-statement-returns-in_err-chain-in_default-token t c = 
+statement-returns-in_err-chain-in_default-token t c =
     let r = err_from_is_err_and c.from_residual.result c.from_residual.ensures.1 in
     rw (r.1, r.2) (record {
       goes_on = tt;
@@ -164,11 +164,11 @@ statement-returns-in_err-chain-in_default-token t c =
     })
 
 pub statement-returns-in-Elementclass-clause-goes_on : goal.statement-returns-in-Elementclass-clause-goes_on
-statement-returns-in-Elementclass-clause-goes_on t c = 
+statement-returns-in-Elementclass-clause-goes_on t c =
     IfOk-weaker c.definition.result _ _ (λ st h p ss. (rw c.skip-in-Elementclass.ensures (taken c.args.depth c.args.depth (statement_wanted c.args.self.now.bodies p ss) (define c.args.self.now.bodies p ss) c.in-Some.token _ _ c.in-Some.ensures (rw c.in-Elementclass.is refl) (rw c.in-Elementclass.is refl))) ∙ h p ss) c.definition.ensures.goes_on
 
 pub statement-returns-in-Elementclass-clause-stops : goal.statement-returns-in-Elementclass-clause-stops
-statement-returns-in-Elementclass-clause-stops t c = 
+statement-returns-in-Elementclass-clause-stops t c =
     IfErr-weaker c.definition.result _ _ (λ e h p ss. stops_from e _ _ _ (rw c.skip-in-Elementclass.ensures (taken c.args.depth c.args.depth (statement_wanted c.args.self.now.bodies p ss) (define c.args.self.now.bodies p ss) c.in-Some.token _ _ c.in-Some.ensures (rw c.in-Elementclass.is refl) (rw c.in-Elementclass.is refl))) (h p ss)) c.definition.ensures.stops
 
 pub statement-returns-in-Require-clause-goes_on : goal.statement-returns-in-Require-clause-goes_on
@@ -191,13 +191,13 @@ statements-rows-preserved-in-Semicolon t c = record {
 }
 
 pub statements-returns-in_err-statement-in_default-token : goal.statements-returns-in_err-statement-in_default-token
-statements-returns-in_err-statement-in_default-token t c = 
+statements-returns-in_err-statement-in_default-token t c =
     let r = err_from_is_err_and c.from_residual.result c.from_residual.ensures.1 in
     rw (r.1, r.2) (record {
       goes_on = tt;
       stops = λ p. stops_from _ _ _ _
           (c.rows.invariant.same p ∙ same_step c.args.depth (between c.rows.self.bodies p c.rows.statements) (statement_wanted c.rows.self.bodies p c.rows.statements) c.in-Some.token _ _ c.in-Some.ensures
-      (otherwise2 (stated_by c.rows.self.bodies p c.rows.statements c.in-Some.token) (λ w. c.in_default-token.not-Semicolon w.0 w.1) (λ w. c.in_default-token.not-Close w.0 w.1)))
+          (otherwise2 (stated_by c.rows.self.bodies p c.rows.statements c.in-Some.token) (λ w. c.in_default-token.not-Semicolon w.0 w.1) (λ w. c.in_default-token.not-Close w.0 w.1)))
           (c.in_err-statement-in_default-token.ensures.stops p c.rows.statements);
       ended = tt;
       shorter = tt;

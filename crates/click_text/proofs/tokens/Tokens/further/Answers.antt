@@ -16,7 +16,7 @@ returns-in-Close-clause-goes_on c = λ n bs p ss f ls.
     same_step n _ _ c.in-Some.token _ _ c.in-Some.ensures (rw c.in-Close.is refl)
 
 pub returns-in_err-joint-in_default-token : goal.returns-in_err-joint-in_default-token
-returns-in_err-joint-in_default-token c = 
+returns-in_err-joint-in_default-token c =
     let r = err_from_is_err_and c.from_residual.result c.from_residual.ensures.1 in
     rw (r.1, r.2) (record {
       goes_on = tt;
