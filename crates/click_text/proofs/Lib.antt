@@ -1,7 +1,9 @@
 pub mod Beginnings
 pub mod Closing
 pub mod Completes
+pub mod Either
 pub mod Equal
+pub mod Existence
 pub mod Given
 pub mod Live
 pub mod Longest

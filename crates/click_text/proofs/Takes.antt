@@ -65,10 +65,10 @@ otherwise (inl a) h = absurd (h a)
 otherwise (inr b) h = b
 
 -- what is left where the first two are ruled out
-pub otherwise2 : {A B C : Type 0} → A ⊎ B ⊎ C → (A → ⊥) → (B → ⊥) → C
-otherwise2 (inl a) h k = absurd (h a)
-otherwise2 (inr (inl b)) h k = absurd (k b)
-otherwise2 (inr (inr c)) h k = c
+pub neither : {A B C : Type 0} → A ⊎ B ⊎ C → (A → ⊥) → (B → ⊥) → C
+neither (inl a) h k = absurd (h a)
+neither (inr (inl b)) h k = absurd (k b)
+neither (inr (inr c)) h k = c
 
 -- an element begins with a word or a brace
 pub begun_by : (bs : List Body) (cx : Context) (tok : Token) → IsWord tok ⊎ IsOpen tok ⊎ (begun bs cx tok ≡ None)

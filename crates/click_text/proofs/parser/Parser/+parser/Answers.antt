@@ -2,7 +2,7 @@ use Rattle.std.proofs.Common.{◌+◌, ◌∙◌, refl, arith}
 use Rattle.std.proofs.lemmas.Result.{err_from_is_err_and, IfOk-weaker, IfErr-weaker}
 use Rattle.std.proofs.lemmas.Grind.{common_steps}
 use Rattle.click_text.specs.Machine.{inside, as_element, as_class, as_definition, of_head, between, statement_wanted, define, define_named, element_wanted, class_wanted, a_synonym}
-use Rattle.click_text.proofs.Takes.{begun_by, classed_by, define_on_by, stated_by, otherwise2}
+use Rattle.click_text.proofs.Takes.{begun_by, classed_by, define_on_by, stated_by, neither}
 use Rattle.click_text.proofs.Steps.{taken, refused, refused_at_end, same_step, stops_from, too_deep, opened, closed_at, lists, chain_first}
 use Rattle.click_text.proofs.parser.Parser.+parser.Goals as goal
 
@@ -59,7 +59,7 @@ pub class-returns-in_default-token : goal.class-returns-in_default-token
 class-returns-in_default-token t c = record {
   goes_on = tt;
   stops = λ g. refused c.args.depth _ c.in-Some.token _ _ c.in-Some.ensures
-      (otherwise2 (classed_by c.args.self.now.bodies g c.in-Some.token) (λ w. c.in_default-token.not-Word w.0 w.1) (λ w. c.in_default-token.not-Open w.0 w.1));
+      (neither (classed_by c.args.self.now.bodies g c.in-Some.token) (λ w. c.in_default-token.not-Word w.0 w.1) (λ w. c.in_default-token.not-Open w.0 w.1));
   shorter = tt;
 }
 
@@ -98,7 +98,7 @@ definition-returns-in_default-token t c = record {
   goes_on = tt;
   stops = λ p ss. c.in_ok-name.ensures.defines c.args.depth c.args.self.now.bodies p ss
       ∙ refused c.args.depth _ c.in-Some.token _ _ c.in-Some.ensures
-      (otherwise2 (define_on_by c.args.self.now.bodies p ss c.in_ok-name.name c.in-Some.token) (λ w. c.in_default-token.not-Word w.0 w.1) (λ w. c.in_default-token.not-Open w.0 w.1));
+      (neither (define_on_by c.args.self.now.bodies p ss c.in_ok-name.name c.in-Some.token) (λ w. c.in_default-token.not-Word w.0 w.1) (λ w. c.in_default-token.not-Open w.0 w.1));
   shorter = tt;
 }
 
@@ -137,7 +137,7 @@ pub head-returns-in_default-token : goal.head-returns-in_default-token
 head-returns-in_default-token t c = record {
   goes_on = tt;
   stops = λ cx. refused c.args.depth _ c.in-Some.token _ _ c.in-Some.ensures
-      (otherwise2 (begun_by c.args.self.now.bodies cx c.in-Some.token) (λ w. c.in_default-token.not-Word w.0 w.1) (λ w. c.in_default-token.not-Open w.0 w.1));
+      (neither (begun_by c.args.self.now.bodies cx c.in-Some.token) (λ w. c.in_default-token.not-Word w.0 w.1) (λ w. c.in_default-token.not-Open w.0 w.1));
   shorter = tt;
 }
 
@@ -197,7 +197,7 @@ statements-returns-in_err-statement-in_default-token t c =
       goes_on = tt;
       stops = λ p. stops_from _ _ _ _
           (c.rows.invariant.same p ∙ same_step c.args.depth (between c.rows.self.bodies p c.rows.statements) (statement_wanted c.rows.self.bodies p c.rows.statements) c.in-Some.token _ _ c.in-Some.ensures
-          (otherwise2 (stated_by c.rows.self.bodies p c.rows.statements c.in-Some.token) (λ w. c.in_default-token.not-Semicolon w.0 w.1) (λ w. c.in_default-token.not-Close w.0 w.1)))
+          (neither (stated_by c.rows.self.bodies p c.rows.statements c.in-Some.token) (λ w. c.in_default-token.not-Semicolon w.0 w.1) (λ w. c.in_default-token.not-Close w.0 w.1)))
           (c.in_err-statement-in_default-token.ensures.stops p c.rows.statements);
       ended = tt;
       shorter = tt;
@@ -206,7 +206,7 @@ statements-returns-in_err-statement-in_default-token t c =
 pub statements-rows-preserved : goal.statements-rows-preserved
 statements-rows-preserved t c = record {
   same = λ p. c.rows.invariant.same p ∙ same_step c.args.depth (between c.rows.self.bodies p c.rows.statements) (statement_wanted c.rows.self.bodies p c.rows.statements) c.in-Some.token _ _ c.in-Some.ensures
-      (otherwise2 (stated_by c.rows.self.bodies p c.rows.statements c.in-Some.token) (λ w. c.in_default-token.not-Semicolon w.0 w.1) (λ w. c.in_default-token.not-Close w.0 w.1))
+      (neither (stated_by c.rows.self.bodies p c.rows.statements c.in-Some.token) (λ w. c.in_default-token.not-Semicolon w.0 w.1) (λ w. c.in_default-token.not-Close w.0 w.1))
       ∙ (rw c.in_ok-push-in_default-token.ensures.ok (c.in_ok-statement-in_default-token.ensures.goes_on p c.rows.statements));
   fewer = omega (arith, c.in_ok-statement-in_default-token.ensures.shorter, c.rows.invariant.fewer);
 }

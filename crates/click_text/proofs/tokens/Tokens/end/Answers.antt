@@ -1,5 +1,5 @@
 use Rattle.std.proofs.Common.{refl}
-use Rattle.click_text.proofs.Takes.{over_by, otherwise2}
+use Rattle.click_text.proofs.Takes.{over_by, neither}
 use Rattle.click_text.proofs.Steps.{taken, refused, same_step, same_end}
 use Rattle.click_text.proofs.tokens.Tokens.end.Goals as goal
 
@@ -18,6 +18,6 @@ pub returns-in_default-token : goal.returns-in_default-token
 returns-in_default-token c = record {
   goes_on = tt;
   stops = λ n bs p ss st. refused n _ c.in-Some.token _ _ c.in-Some.ensures
-      (otherwise2 (over_by bs p ss st c.in-Some.token) (λ w. c.in_default-token.not-Semicolon w.0 w.1) (λ w. c.in_default-token.not-Close w.0 w.1));
+      (neither (over_by bs p ss st c.in-Some.token) (λ w. c.in_default-token.not-Semicolon w.0 w.1) (λ w. c.in_default-token.not-Close w.0 w.1));
   shorter = tt;
 }

@@ -1,5 +1,5 @@
 use Rattle.std.proofs.Common.{refl}
-use Rattle.click_text.proofs.Takes.{formal_on_by, otherwise2}
+use Rattle.click_text.proofs.Takes.{formal_on_by, neither}
 use Rattle.click_text.proofs.Steps.{taken, refused, refused_at_end}
 use Rattle.click_text.proofs.tokens.Tokens.more_formals.Goals as goal
 
@@ -18,6 +18,6 @@ pub returns-in_default-token : goal.returns-in_default-token
 returns-in_default-token c = record {
   goes_on = tt;
   stops = λ n bs a u fs. refused n _ c.in-Some.token _ _ c.in-Some.ensures
-      (otherwise2 (formal_on_by bs a u fs c.in-Some.token) (λ w. c.in_default-token.not-Comma w.0 w.1) (λ w. c.in_default-token.not-Bar w.0 w.1));
+      (neither (formal_on_by bs a u fs c.in-Some.token) (λ w. c.in_default-token.not-Comma w.0 w.1) (λ w. c.in_default-token.not-Bar w.0 w.1));
   shorter = tt;
 }
