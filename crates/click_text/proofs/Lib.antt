@@ -1,11 +1,16 @@
 pub mod Beginnings
 pub mod Closing
+pub mod Completes
+pub mod Either
 pub mod Equal
+pub mod Existence
 pub mod Given
+pub mod Live
 pub mod Longest
 pub mod OneFault
 pub mod Outcomes
 pub mod Reading
+pub mod Runs
 pub mod Steps
 pub mod Takes
 pub mod Words

@@ -10,7 +10,8 @@ use Rattle.click_text.specs.declared.syntax.Ending.TheVariants as ending
 use Rattle.click_text.specs.Grammar.{Tree, IsText, BeginsText, NestsWithin, Brace, Opens, Closes, Neither, brace, HasRoom, depth_behind}
 use Rattle.click_text.specs.Faults.{IsFaultAmong, unexpected, too_deep, unfinished, no_piece, fault_at, span_of, end_fault}
 use Rattle.click_text.specs.Machine.{State, step, finish, bind, run, advance, open_behind, open_after, Outcome, Accepted, Refused, Deep, accepted, outcome}
-use Rattle.click_text.proofs.Equal.{initial, runs_to, begins_text, ends_text, begins_none}
+use Rattle.click_text.proofs.Runs.{runs_to}
+use Rattle.click_text.proofs.Equal.{initial, begins_text, ends_text, begins_none}
 
 -- how many braces are open behind these tokens
 depth_past : ℕ → List Token → ℕ

@@ -10,7 +10,8 @@ use Rattle.click_text.specs.declared.syntax.Ending.TheVariants as ending
 use Rattle.click_text.specs.Grammar.{Tree, IsText, BeginsText, NestsWithin, most_open, Brace, Opens, Closes, Neither, brace, HasRoom, depth_behind}
 use Rattle.click_text.specs.Faults.{IsFaultAmong, unexpected, too_deep, unfinished, no_piece, fault, fault_at, span_of, end_fault}
 use Rattle.click_text.specs.Machine.{State, step, finish, run, advance, open_behind, open_after, Outcome, Accepted, Refused, Deep, or_refused, or_deep, accepted, outcome}
-use Rattle.click_text.proofs.Equal.{initial, runs_to, begins_text, ends_text, begins_none, ends_none, run_append}
+use Rattle.click_text.proofs.Runs.{runs_to}
+use Rattle.click_text.proofs.Equal.{initial, begins_text, ends_text, begins_none, ends_none, run_append}
 
 -- where a state takes nothing more
 abbrev pub StuckAt : State → List Token → Type 0

@@ -1,7 +1,7 @@
 -- The grammar of configurations (Click manual, "The Click language"), by cases over the list of tokens.
 -- `IsX ts bs x ts' bs'`: from the tokens ts on an X stands, with the tree x, and ts' follows it.
 -- bs are the bodies that are closed before it, bs' those after it: a body is named by its place among them.
-use Rattle.std.specs.Prelude.{ℕ, ◌+◌, ◌-◌, ◌<◌, List, [], ◌∷◌, ◌++◌, Option, Some, None}
+use Rattle.std.specs.Prelude.{◌≡◌, ℕ, ◌+◌, ◌-◌, ◌<◌, List, [], ◌∷◌, ◌++◌, length, Option, Some, None}
 use Rattle.click_text.specs.declared.syntax.Span.{Span}
 use Rattle.click_text.specs.declared.syntax.Token.{Token}
 use Rattle.click_text.specs.declared.syntax.Token.TheVariants as token
@@ -33,6 +33,12 @@ link p q e = record { from = p; to = q; element = e }
 abbrev pub chain : Element → List Link → Statement
 chain e ls = statement.Chain (record { first = e; links = ls })
 
+abbrev pub declaration : List Span → Class → Option Span → Statement
+declaration ns c text = statement.Declaration (record { names = ns; class = c; text = text })
+
+abbrev pub body : Span → Span → List Span → List Statement → Body
+body a b fs ss = record { span = from_to a b; formals = fs; statements = ss }
+
 -- a port in brackets, or none
 pub data IsPort : List Token → Option Port → List Token → Type 0 where
   no_port : {ts : List Token} → IsPort ts None ts
@@ -50,33 +56,74 @@ pub data IsEnd : List Token → List Token → Type 0 where
   before_close : {s : Span} {ts : List Token} → IsEnd (token.Close s ∷ ts) (token.Close s ∷ ts)
   at_end : IsEnd [] []
 
--- a class
-pub data IsClass : List Token → List Body → Class → List Token → List Body → Type 0 where
-  by_name : {s : Span} {ts : List Token} {bs : List Body} → IsClass (token.Word s ∷ ts) bs (class.Named s) ts bs
+-- further parameters, each behind a comma, up to the bar
+pub data IsFormals : List Token → List Span → List Token → Type 0 where
+  last_formal : {s r : Span} {ts : List Token} → IsFormals (token.Formal s ∷ token.Bar r ∷ ts) (s ∷ []) ts
+  more_formals : {s c : Span} {ts rest : List Token} {fs : List Span} →
+      IsFormals ts fs rest → IsFormals (token.Formal s ∷ token.Comma c ∷ ts) (s ∷ fs) rest
 
--- what an element begins with
-pub data IsHead : List Token → List Body → Head → List Token → List Body → Type 0 where
-  word : {s : Span} {ts : List Token} {bs : List Body} → IsHead (token.Word s ∷ ts) bs (head.Word s) ts bs
-  declared : {s d : Span} {ts rest : List Token} {bs bs' : List Body} {c : Class} →
-      IsClass ts bs c rest bs' → IsHead (token.Word s ∷ token.DoubleColon d ∷ ts) bs (head.Declared s c) rest bs'
+-- a body's parameters, or none
+pub data IsHeader : List Token → List Span → List Token → Type 0 where
+  no_header : {ts : List Token} → IsHeader ts [] ts
+  header : {ts rest : List Token} {fs : List Span} → IsFormals ts fs rest → IsHeader ts fs rest
 
-pub data IsElement : List Token → List Body → Element → List Token → List Body → Type 0 where
-  an_element : {ts ts1 rest : List Token} {bs bs' : List Body} {h : Head} {text : Option Span} →
-      IsHead ts bs h ts1 bs' → IsString ts1 text rest → IsElement ts bs (element h text) rest bs'
+-- further names of a declaration, each behind a comma, up to `::`
+pub data IsNames : List Token → List Span → List Token → Type 0 where
+  last_name : {s c d : Span} {ts : List Token} → IsNames (token.Comma c ∷ token.Word s ∷ token.DoubleColon d ∷ ts) (s ∷ []) ts
+  more_names : {s c : Span} {ts rest : List Token} {ns : List Span} →
+      IsNames ts ns rest → IsNames (token.Comma c ∷ token.Word s ∷ ts) (s ∷ ns) rest
 
-pub data IsLinks : List Token → List Body → List Link → List Token → List Body → Type 0 where
-  no_links : {ts : List Token} {bs : List Body} → IsLinks ts bs [] ts bs
-  more_links : {s : Span} {ts ts1 ts2 ts3 rest : List Token} {bs bs1 bs2 : List Body} {p q : Option Port} {e : Element} {ls : List Link} →
-      IsPort ts p (token.Arrow s ∷ ts1) → IsPort ts1 q ts2 → IsElement ts2 bs e ts3 bs1 → IsLinks ts3 bs1 ls rest bs2 →
-      IsLinks ts bs (link p q e ∷ ls) rest bs2
+mutual
+  -- statements between braces, with the parameters before them: its place is that of the last body
+  pub data IsBody : List Token → List Body → ℕ → List Token → List Body → Type 0 where
+    braces : {a b : Span} {ts ts1 rest : List Token} {bs bs' : List Body} {fs : List Span} {ss : List Statement} →
+        IsHeader ts fs ts1 → IsStatements ts1 bs ss (token.Close b ∷ rest) bs' →
+        IsBody (token.Open a ∷ ts) bs (length bs') rest (bs' ++ body a b fs ss ∷ [])
 
-pub data IsStatements : List Token → List Body → List Statement → List Token → List Body → Type 0 where
-  no_more : {ts : List Token} {bs : List Body} → IsStatements ts bs [] ts bs
-  empty : {s : Span} {ts rest : List Token} {bs bs' : List Body} {ss : List Statement} →
-      IsStatements ts bs ss rest bs' → IsStatements (token.Semicolon s ∷ ts) bs ss rest bs'
-  chained : {ts ts1 ts2 ts3 rest : List Token} {bs bs1 bs2 bs3 : List Body} {e : Element} {ls : List Link} {ss : List Statement} →
-      IsElement ts bs e ts1 bs1 → IsLinks ts1 bs1 ls ts2 bs2 → IsEnd ts2 ts3 → IsStatements ts3 bs2 ss rest bs3 →
-      IsStatements ts bs (chain e ls ∷ ss) rest bs3
+  -- a class
+  pub data IsClass : List Token → List Body → Class → List Token → List Body → Type 0 where
+    by_name : {s : Span} {ts : List Token} {bs : List Body} → IsClass (token.Word s ∷ ts) bs (class.Named s) ts bs
+    by_body : {ts rest : List Token} {bs bs' : List Body} {n : ℕ} → IsBody ts bs n rest bs' → IsClass ts bs (class.Body n) rest bs'
+
+  -- what an element begins with
+  pub data IsHead : List Token → List Body → Head → List Token → List Body → Type 0 where
+    word : {s : Span} {ts : List Token} {bs : List Body} → IsHead (token.Word s ∷ ts) bs (head.Word s) ts bs
+    declared : {s d : Span} {ts rest : List Token} {bs bs' : List Body} {c : Class} →
+        IsClass ts bs c rest bs' → IsHead (token.Word s ∷ token.DoubleColon d ∷ ts) bs (head.Declared s c) rest bs'
+    compound : {ts rest : List Token} {bs bs' : List Body} {n : ℕ} → IsBody ts bs n rest bs' → IsHead ts bs (head.Compound n) rest bs'
+
+  pub data IsElement : List Token → List Body → Element → List Token → List Body → Type 0 where
+    an_element : {ts ts1 rest : List Token} {bs bs' : List Body} {h : Head} {text : Option Span} →
+        IsHead ts bs h ts1 bs' → IsString ts1 text rest → IsElement ts bs (element h text) rest bs'
+
+  pub data IsLinks : List Token → List Body → List Link → List Token → List Body → Type 0 where
+    no_links : {ts : List Token} {bs : List Body} → IsLinks ts bs [] ts bs
+    more_links : {s : Span} {ts ts1 ts2 ts3 rest : List Token} {bs bs1 bs2 : List Body} {p q : Option Port} {e : Element} {ls : List Link} →
+        IsPort ts p (token.Arrow s ∷ ts1) → IsPort ts1 q ts2 → IsElement ts2 bs e ts3 bs1 → IsLinks ts3 bs1 ls rest bs2 →
+        IsLinks ts bs (link p q e ∷ ls) rest bs2
+
+  -- one statement, with its end where it has one
+  pub data IsStatement : List Token → List Body → Statement → List Token → List Body → Type 0 where
+    chained : {ts ts1 ts2 rest : List Token} {bs bs1 bs2 : List Body} {e : Element} {ls : List Link} →
+        IsElement ts bs e ts1 bs1 → IsLinks ts1 bs1 ls ts2 bs2 → IsEnd ts2 rest → IsStatement ts bs (chain e ls) rest bs2
+    declarations : {s : Span} {ts ts1 ts2 ts3 rest : List Token} {bs bs' : List Body} {ns : List Span} {c : Class} {text : Option Span} →
+        IsNames ts ns ts1 → IsClass ts1 bs c ts2 bs' → IsString ts2 text ts3 → IsEnd ts3 rest →
+        IsStatement (token.Word s ∷ ts) bs (declaration (s ∷ ns) c text) rest bs'
+    -- a `;` behind the brace is an empty statement of its own
+    definition : {k s : Span} {ts rest : List Token} {bs bs' : List Body} {n : ℕ} →
+        IsBody ts bs n rest bs' → IsStatement (token.Elementclass k ∷ token.Word s ∷ ts) bs (statement.Definition s n) rest bs'
+    synonym : {k s c : Span} {ts rest : List Token} {bs : List Body} →
+        IsEnd ts rest → IsStatement (token.Elementclass k ∷ token.Word s ∷ token.Word c ∷ ts) bs (statement.Synonym s c) rest bs
+    -- a `;` behind it is an empty statement of its own
+    requirement : {k : Span} {ts rest : List Token} {bs : List Body} {text : Option Span} →
+        IsString ts text rest → IsStatement (token.Require k ∷ ts) bs (statement.Requirement text) rest bs
+
+  pub data IsStatements : List Token → List Body → List Statement → List Token → List Body → Type 0 where
+    no_more : {ts : List Token} {bs : List Body} → IsStatements ts bs [] ts bs
+    empty : {s : Span} {ts rest : List Token} {bs bs' : List Body} {ss : List Statement} →
+        IsStatements ts bs ss rest bs' → IsStatements (token.Semicolon s ∷ ts) bs ss rest bs'
+    stated : {ts ts1 rest : List Token} {bs bs1 bs2 : List Body} {s : Statement} {ss : List Statement} →
+        IsStatement ts bs s ts1 bs1 → IsStatements ts1 bs1 ss rest bs2 → IsStatements ts bs (s ∷ ss) rest bs2
 
 -- what a text spells: its statements, and its bodies
 pub record Tree : Type 0 where

@@ -1,30 +1,45 @@
 -- What may follow the tokens so far: a machine over tokens that keeps what is open. It is equal to the grammar (proofs/Equal.antt);
 -- the parser's private contracts speak of it.
-use Rattle.std.specs.Prelude.{◌≡◌, ℕ, ◌+◌, ◌-◌, List, [], ◌∷◌, ◌++◌, Option, Some, None, nat_lt, if◌then◌else◌}
+use Rattle.std.specs.Prelude.{◌≡◌, ℕ, ◌+◌, ◌-◌, List, [], ◌∷◌, ◌++◌, length, Option, Some, None, Bool, true, false, nat_lt, if◌then◌else◌}
 use Rattle.click_text.specs.declared.syntax.Span.{Span}
 use Rattle.click_text.specs.declared.syntax.Token.{Token}
 use Rattle.click_text.specs.declared.syntax.Token.TheVariants as token
 use Rattle.click_text.specs.declared.syntax.Port.{Port}
+use Rattle.click_text.specs.declared.syntax.Class.{Class}
 use Rattle.click_text.specs.declared.syntax.Class.TheVariants as class
 use Rattle.click_text.specs.declared.syntax.Head.{Head}
 use Rattle.click_text.specs.declared.syntax.Head.TheVariants as head
 use Rattle.click_text.specs.declared.syntax.Element.{Element}
 use Rattle.click_text.specs.declared.syntax.Link.{Link}
 use Rattle.click_text.specs.declared.syntax.Statement.{Statement}
+use Rattle.click_text.specs.declared.syntax.Statement.TheVariants as statement
 use Rattle.click_text.specs.declared.syntax.Body.{Body}
-use Rattle.click_text.specs.declared.parser.Stop.{Stop}
-use Rattle.click_text.specs.declared.parser.Stop.TheVariants as stop
-use Rattle.click_text.specs.declared.parser.Joint.{Joint}
-use Rattle.click_text.specs.Grammar.{port, element, link, chain, Tree, most_open, Brace, Opens, Closes, Neither, brace}
+use Rattle.click_text.specs.declared.tokens.Stop.{Stop}
+use Rattle.click_text.specs.declared.tokens.Stop.TheVariants as stop
+use Rattle.click_text.specs.declared.tokens.Joint.{Joint}
+use Rattle.click_text.specs.Grammar.{port, element, link, chain, declaration, body, Tree, most_open, Brace, Opens, Closes, Neither, brace}
 
--- where a list of statements stands
-pub data Place : Type 0 where
-  top : Place
+mutual
+  -- where a list of statements stands: inside a body with its brace, its parameters and what it is for, or in none
+  pub data Place : Type 0 where
+    top : Place
+    inside : Span → List Span → Use → Place
 
--- what an element goes to: it is the first of a chain, or a further one behind an arrow with these ports
-pub data Context : Type 0 where
-  start : Place → List Statement → Context
-  linked : Place → List Statement → Element → List Link → Option Port → Option Port → Context
+  -- what a body is for
+  pub data Use : Type 0 where
+    as_element : Context → Use
+    as_class : Target → Use
+    as_definition : Span → Place → List Statement → Use
+
+  -- what a class goes to: a head's name, or the names of a declaration
+  pub data Target : Type 0 where
+    of_head : Span → Context → Target
+    of_names : List Span → Place → List Statement → Target
+
+  -- what an element goes to: it is the first of a chain, or a further one behind an arrow with these ports
+  pub data Context : Type 0 where
+    start : Place → List Statement → Context
+    linked : Place → List Statement → Element → List Link → Option Port → Option Port → Context
 
 -- which port of an arrow comes: the one before it, or the one behind it, where the one before it is known
 pub data Side : Type 0 where
@@ -34,12 +49,36 @@ pub data Side : Type 0 where
 pub data State : Type 0 where
   -- a statement may begin
   between : List Body → Place → List Statement → State
+  -- a statement must begin
+  statement_wanted : List Body → Place → List Statement → State
+  -- a statement's first word has been read
+  first_read : List Body → Place → List Statement → Span → State
+  -- behind a comma a further name must come
+  name_wanted : List Body → Place → List Statement → List Span → State
+  -- names have been read
+  name_read : List Body → Place → List Statement → List Span → State
+  -- the names' class has been read, which a string may follow
+  listed_read : List Body → Place → List Statement → List Span → Class → State
+  -- the name of a definition must come
+  define : List Body → Place → List Statement → State
+  -- what that name is for must come
+  define_named : List Body → Place → List Statement → Span → State
+  -- a requirement's string may come
+  required : List Body → Place → List Statement → State
+  -- a statement is read, and must end
+  ending : List Body → Place → List Statement → Statement → State
+  -- a brace has been opened, which parameters may follow
+  body_opened : List Body → Span → Use → State
+  -- a further parameter must come
+  formal_wanted : List Body → Span → Use → List Span → State
+  -- a parameter has been read
+  formal_read : List Body → Span → Use → List Span → State
   -- an element must come
   element_wanted : List Body → Context → State
   -- a word has been read, which may be declared
   word_read : List Body → Context → Span → State
-  -- the class of a name must come
-  class_wanted : List Body → Context → Span → State
+  -- a class must come
+  class_wanted : List Body → Target → State
   -- a head has been read, which a string may follow
   head_read : List Body → Context → Head → State
   -- an element has ended
@@ -53,10 +92,30 @@ pub data State : Type 0 where
   -- an arrow must come
   arrow_wanted : List Body → Place → List Statement → Element → List Link → Option Port → State
 
+abbrev pub a_definition : Span → ℕ → Statement
+a_definition s n = statement.Definition s n
+
+abbrev pub a_synonym : Span → Span → Statement
+a_synonym s c = statement.Synonym s c
+
+abbrev pub a_requirement : Option Span → Statement
+a_requirement text = statement.Requirement text
+
 -- the state after an element
 abbrev pub grown : List Body → Context → Element → State
 grown bs (start p ss) e = after bs p ss e []
 grown bs (linked p ss f ls from to) e = after bs p ss f (ls ++ link from to e ∷ [])
+
+-- the state after a class
+abbrev pub classified : List Body → Target → Class → State
+classified bs (of_head s cx) c = head_read bs cx (head.Declared s c)
+classified bs (of_names ns p ss) c = listed_read bs p ss ns c
+
+-- the state after a body, which has this place
+abbrev pub used : List Body → Use → ℕ → State
+used bs (as_element cx) n = head_read bs cx (head.Compound n)
+used bs (as_class g) n = classified bs g (class.Body n)
+used bs (as_definition s p ss) n = between bs p (ss ++ a_definition s n ∷ [])
 
 -- the state after a port, or after none
 abbrev pub ported : List Body → Place → List Statement → Element → List Link → Side → Option Port → State
@@ -66,16 +125,19 @@ ported bs p ss f ls (into from) q = element_wanted bs (linked p ss f ls from q)
 -- an element begins
 abbrev pub begun : List Body → Context → Token → Option State
 begun bs cx (token.Word s) = Some (word_read bs cx s)
+begun bs cx (token.Open a) = Some (body_opened bs a (as_element cx))
 begun bs cx _ = None
 
 -- a class comes
-abbrev pub classed : List Body → Context → Span → Token → Option State
-classed bs cx s (token.Word w) = Some (head_read bs cx (head.Declared s (class.Named w)))
-classed bs cx s _ = None
+abbrev pub classed : List Body → Target → Token → Option State
+classed bs g (token.Word w) = Some (classified bs g (class.Named w))
+classed bs g (token.Open a) = Some (body_opened bs a (as_class g))
+classed bs g _ = None
 
 -- the statements of a body end
 abbrev pub closed : List Body → Place → List Statement → Span → Option State
 closed bs top ss b = None
+closed bs (inside a fs u) ss b = Some (used (bs ++ body a b fs ss ∷ []) u (length bs))
 
 -- an arrow comes
 abbrev pub arrowed : List Body → Place → List Statement → Element → List Link → Option Port → Token → Option State
@@ -119,20 +181,98 @@ headed bs cx h t = beyond_grown bs cx (element h None) t
 
 -- a token behind a word
 abbrev pub worded : List Body → Context → Span → Token → Option State
-worded bs cx s (token.DoubleColon d) = Some (class_wanted bs cx s)
+worded bs cx s (token.DoubleColon d) = Some (class_wanted bs (of_head s cx))
 worded bs cx s t = headed bs cx (head.Word s) t
+
+-- a token behind a statement's first word
+abbrev pub firsted : List Body → Place → List Statement → Span → Token → Option State
+firsted bs p ss s (token.Comma c) = Some (name_wanted bs p ss (s ∷ []))
+firsted bs p ss s t = worded bs (start p ss) s t
+
+-- a further name comes
+abbrev pub named : List Body → Place → List Statement → List Span → Token → Option State
+named bs p ss ns (token.Word s) = Some (name_read bs p ss (ns ++ s ∷ []))
+named bs p ss ns _ = None
+
+-- a token behind names
+abbrev pub names_on : List Body → Place → List Statement → List Span → Token → Option State
+names_on bs p ss ns (token.Comma c) = Some (name_wanted bs p ss ns)
+names_on bs p ss ns (token.DoubleColon d) = Some (class_wanted bs (of_names ns p ss))
+names_on bs p ss ns _ = None
+
+-- a statement ends
+abbrev pub over : List Body → Place → List Statement → Statement → Token → Option State
+over bs p ss st (token.Semicolon s) = Some (between bs p (ss ++ st ∷ []))
+over bs p ss st (token.Close s) = closed bs p (ss ++ st ∷ []) s
+over bs p ss st _ = None
+
+-- a token behind the class of names
+abbrev pub listed : List Body → Place → List Statement → List Span → Class → Token → Option State
+listed bs p ss ns c (token.String s) = Some (ending bs p ss (declaration ns c (Some s)))
+listed bs p ss ns c t = over bs p ss (declaration ns c None) t
+
+-- the name of a definition comes
+abbrev pub defined : List Body → Place → List Statement → Token → Option State
+defined bs p ss (token.Word s) = Some (define_named bs p ss s)
+defined bs p ss _ = None
+
+-- what that name is for comes
+abbrev pub define_on : List Body → Place → List Statement → Span → Token → Option State
+define_on bs p ss s (token.Word c) = Some (ending bs p ss (a_synonym s c))
+define_on bs p ss s (token.Open a) = Some (body_opened bs a (as_definition s p ss))
+define_on bs p ss s _ = None
+
+-- a statement begins
+abbrev pub opening : List Body → Place → List Statement → Token → Option State
+opening bs p ss (token.Word s) = Some (first_read bs p ss s)
+opening bs p ss (token.Elementclass k) = Some (define bs p ss)
+opening bs p ss (token.Require k) = Some (required bs p ss)
+opening bs p ss t = begun bs (start p ss) t
 
 -- a token where a statement may begin
 abbrev pub stated : List Body → Place → List Statement → Token → Option State
 stated bs p ss (token.Semicolon s) = Some (between bs p ss)
 stated bs p ss (token.Close s) = closed bs p ss s
-stated bs p ss t = begun bs (start p ss) t
+stated bs p ss t = opening bs p ss t
+
+-- a token behind `require`
+abbrev pub required_on : List Body → Place → List Statement → Token → Option State
+required_on bs p ss (token.String s) = Some (between bs p (ss ++ a_requirement (Some s) ∷ []))
+required_on bs p ss t = stated bs p (ss ++ a_requirement None ∷ []) t
+
+-- a token behind an open brace
+abbrev pub unfolded : List Body → Span → Use → Token → Option State
+unfolded bs a u (token.Formal s) = Some (formal_read bs a u (s ∷ []))
+unfolded bs a u t = stated bs (inside a [] u) [] t
+
+-- a further parameter comes
+abbrev pub formal_next : List Body → Span → Use → List Span → Token → Option State
+formal_next bs a u fs (token.Formal s) = Some (formal_read bs a u (fs ++ s ∷ []))
+formal_next bs a u fs _ = None
+
+-- a token behind a parameter
+abbrev pub formal_on : List Body → Span → Use → List Span → Token → Option State
+formal_on bs a u fs (token.Comma c) = Some (formal_wanted bs a u fs)
+formal_on bs a u fs (token.Bar r) = Some (between bs (inside a fs u) [])
+formal_on bs a u fs _ = None
 
 abbrev pub step : State → Token → Option State
 step (between bs p ss) t = stated bs p ss t
+step (statement_wanted bs p ss) t = opening bs p ss t
+step (first_read bs p ss s) t = firsted bs p ss s t
+step (name_wanted bs p ss ns) t = named bs p ss ns t
+step (name_read bs p ss ns) t = names_on bs p ss ns t
+step (listed_read bs p ss ns c) t = listed bs p ss ns c t
+step (define bs p ss) t = defined bs p ss t
+step (define_named bs p ss s) t = define_on bs p ss s t
+step (required bs p ss) t = required_on bs p ss t
+step (ending bs p ss st) t = over bs p ss st t
+step (body_opened bs a u) t = unfolded bs a u t
+step (formal_wanted bs a u fs) t = formal_next bs a u fs t
+step (formal_read bs a u fs) t = formal_on bs a u fs t
 step (element_wanted bs cx) t = begun bs cx t
 step (word_read bs cx s) t = worded bs cx s t
-step (class_wanted bs cx s) t = classed bs cx s t
+step (class_wanted bs g) t = classed bs g t
 step (head_read bs cx h) t = headed bs cx h t
 step (after bs p ss f ls) t = beyond bs p ss f ls t
 step (port_wanted bs p ss f ls side) t = joined bs p ss f ls side t
@@ -143,6 +283,7 @@ step (arrow_wanted bs p ss f ls q) t = arrowed bs p ss f ls q t
 -- the tree where the text may end
 abbrev pub ended : List Body → Place → List Statement → Option Tree
 ended bs top ss = Some (record { statements = ss; bodies = bs })
+ended bs (inside a fs u) ss = None
 
 abbrev pub ended_grown : List Body → Context → Element → Option Tree
 ended_grown bs (start p ss) e = ended bs p (ss ++ chain e [] ∷ [])
@@ -150,11 +291,23 @@ ended_grown bs (linked p ss f ls from to) e = ended bs p (ss ++ chain f (ls ++ l
 
 abbrev pub finish : State → Option Tree
 finish (between bs p ss) = ended bs p ss
+finish (statement_wanted bs p ss) = None
+finish (first_read bs p ss s) = ended bs p (ss ++ chain (element (head.Word s) None) [] ∷ [])
+finish (name_wanted bs p ss ns) = None
+finish (name_read bs p ss ns) = None
+finish (listed_read bs p ss ns c) = ended bs p (ss ++ declaration ns c None ∷ [])
+finish (define bs p ss) = None
+finish (define_named bs p ss s) = None
+finish (required bs p ss) = ended bs p (ss ++ a_requirement None ∷ [])
+finish (ending bs p ss st) = ended bs p (ss ++ st ∷ [])
+finish (body_opened bs a u) = None
+finish (formal_wanted bs a u fs) = None
+finish (formal_read bs a u fs) = None
+finish (element_wanted bs cx) = None
 finish (word_read bs cx s) = ended_grown bs cx (element (head.Word s) None)
+finish (class_wanted bs g) = None
 finish (head_read bs cx h) = ended_grown bs cx (element h None)
 finish (after bs p ss f ls) = ended bs p (ss ++ chain f ls ∷ [])
-finish (element_wanted bs cx) = None
-finish (class_wanted bs cx s) = None
 finish (port_wanted bs p ss f ls side) = None
 finish (number_wanted bs p ss f ls side a) = None
 finish (close_wanted bs p ss f ls side a n) = None
@@ -210,7 +363,31 @@ abbrev pub behind : Option Joint → List Body → Place → List Statement → 
 behind (Some j) bs p ss f ls = element_wanted bs (linked p ss f ls j.from j.to)
 behind None bs p ss f ls = between bs p (ss ++ chain f ls ∷ [])
 
+-- behind a word: its class, or nothing of its own
+abbrev pub past_word : Bool → List Body → Context → Span → State
+past_word true bs cx s = class_wanted bs (of_head s cx)
+past_word false bs cx s = head_read bs cx (head.Word s)
+
+-- behind names: a further one, or the class
+abbrev pub past_name : Bool → List Body → Place → List Statement → List Span → State
+past_name true bs p ss ns = name_wanted bs p ss ns
+past_name false bs p ss ns = class_wanted bs (of_names ns p ss)
+
+-- behind a parameter: a further one, or the body's statements
+abbrev pub past_formal : Bool → List Body → Span → Use → List Span → State
+past_formal true bs a u fs = formal_wanted bs a u fs
+past_formal false bs a u fs = between bs (inside a fs u) []
+
 -- where a parser stops for a fault, the run from before ends at the tokens that are left
 abbrev pub Stops : Stop → Outcome → List Token → Type 0
 Stops stop.Memory before rest = Unit {0}
 Stops stop.Unexpected before rest = before ≡ Refused rest
+Stops stop.TooDeep before rest = before ≡ Deep rest
+
+-- no statement stands here: a brace closes, or nothing comes
+abbrev pub NoStatement : List Token → Type 0
+NoStatement ts = (tok : Token) (rest : List Token) → ts ≡ tok ∷ rest → (s : Span) × (tok ≡ token.Close s)
+
+-- names of a declaration stand here
+abbrev pub Lists : List Token → Span → Type 0
+Lists ts first = (c : Span) × (rest : List Token) × (ts ≡ token.Word first ∷ token.Comma c ∷ rest)

@@ -1,6 +1,6 @@
 //! What holds of the definitions, in the language's words.
 
-ghost use Rattle.std.specs.Prelude.{◌≡◌, ℕ, List};
+ghost use Rattle.std.specs.Prelude.{◌≡◌, ◌⊎◌, ℕ, List};
 ghost use Rattle.click_text.specs.declared.syntax.Config.{Config};
 ghost use Rattle.click_text.specs.declared.syntax.TextFault.{TextFault};
 ghost use Rattle.click_text.specs.Spelling.{Spells, IsTextFault};
@@ -18,4 +18,9 @@ pub fn faults_once()
 /// A text that spells a configuration has no fault.
 pub fn spelled_has_no_fault()
     ensures { (text : List ℕ) (c : Config) (f : TextFault) → Spells text c → IsTextFault text f → ⊥ }
+{}
+
+/// A text spells a configuration or has a first fault.
+pub fn spelled_or_faulty()
+    ensures { (text : List ℕ) → ((c : Config) × Spells text c) ⊎ ((f : TextFault) × IsTextFault text f) }
 {}

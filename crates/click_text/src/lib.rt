@@ -12,6 +12,9 @@ pub mod parser;
 pub mod sequence;
 pub mod strings;
 pub mod syntax;
+#[cfg(test)]
+mod tests;
+pub mod tokens;
 
 use lexer::scan;
 use parser::config_of;

@@ -1,107 +1,151 @@
 //! The grammar over a list of tokens, by recursive descent.
 
-ghost use Rattle.std.specs.Prelude.{◌≡◌, ℕ, ◌<◌, ◌≤◌, ◌++◌, ◌∷◌, [], List, Option, length, drop, OnOk, IfOk, IfErr, MatchOption};
-ghost use Rattle.click_text.specs.declared.syntax.Span.{Span};
+ghost use Rattle.std.specs.Prelude.{◌≡◌, ℕ, ◌<◌, ◌≤◌, ◌++◌, ◌∷◌, [], List, Some, length, drop, OnOk, IfOk, IfErr};
 ghost use Rattle.click_text.specs.declared.syntax.Token.{Token};
-ghost use Rattle.click_text.specs.declared.syntax.Port.{Port};
-ghost use Rattle.click_text.specs.declared.syntax.Head.{Head};
-ghost use Rattle.click_text.specs.declared.syntax.Element.{Element};
-ghost use Rattle.click_text.specs.declared.syntax.Link.{Link};
 ghost use Rattle.click_text.specs.declared.syntax.Statement.{Statement};
-ghost use Rattle.click_text.specs.declared.syntax.Body.{Body};
-ghost use Rattle.click_text.specs.Grammar.{element, IsText, NestsWithin, tree_of};
+ghost use Rattle.click_text.specs.Grammar.{IsText, NestsWithin, tree_of};
 ghost use Rattle.click_text.specs.Faults.{IsFaultAmong, IsMemoryOr};
-ghost use Rattle.click_text.specs.Machine.{Place, top, Context, start, Side, into, outcome, between, element_wanted, word_read, class_wanted, head_read, after, port_wanted, number_wanted, close_wanted, arrow_wanted, grown, ported, behind, Stops};
+ghost use Rattle.click_text.specs.Machine.{Place, top, Use, Target, Context, start, State, step, outcome, between, statement_wanted, name_read, define, body_opened, element_wanted, head_read, class_wanted, classified, used, grown, Stops, NoStatement};
 
 use crate::sequence::Sequence;
 use crate::syntax::{
-    Chain, Class, Config, Element, Ending, FaultKind, Head, Link, Port, Span, Statement, TextFault,
-    Token,
+    Body, Chain, Class, Config, Declaration, Element, Ending, FaultKind, Head, Link, Span,
+    Statement, TextFault, Token,
 };
-use std::alloc::{AllocError, Global};
+use crate::tokens::{Stop, Tokens};
+use std::alloc::Global;
 
-/// Why the parser stopped. It stands then before the token that it could not take.
-#[derive(Clone, Copy, Debug, PartialEq, Eq)]
-pub enum Stop {
-    Memory,
-    Unexpected,
-}
+/// How many braces may be open.
+pub const MOST_OPEN: usize = 32;
 
-impl From<AllocError> for Stop {
-    ghost use Rattle.click_text.specs.declared.parser.Stop.TheVariants.{Memory};
-
-    ghost from_gives = { λ _ s. s ≡ Memory };
-
-    fn from(_error: AllocError) -> Stop {
-        Stop::Memory
-    }
-}
-
-/// The ports of an arrow.
-#[derive(Clone, Copy, Debug, PartialEq, Eq)]
-pub struct Joint {
-    pub from: Option<Port>,
-    pub to: Option<Port>,
-}
-
-/// The tokens that are left.
+/// The tokens that are left, and the bodies that are closed.
 #[derive(Drop)]
 pub struct Parser<'a> {
     alloc: Global,
-    tokens: &'a [Token],
+    tokens: Tokens<'a>,
+    bodies: Sequence<Body>,
 }
 
+// The depth is the number of open braces.
 impl<'a> Parser<'a> {
-    /// The next token, which stays.
-    fn peek(&self) -> Option<Token>
-        ensures { MatchOption result (self.now.tokens.now ≡ []) (λ t. self.now.tokens.now ≡ t ∷ drop 1 self.now.tokens.now) }
-    {
-        self.tokens.first().copied()
-    }
-
-    /// Goes past the next token.
-    fn skip(&mut self)
-        requires { 0 < length self.old.tokens.now }
-        ensures { self.new.tokens.now ≡ drop 1 self.old.tokens.now }
-    {
-        self.tokens = &self.tokens[1..];
-    }
-
-    /// Statements, up to the end.
-    fn statements(&mut self) -> Result<Sequence<Statement>, Stop>
-        ensures goes_on { IfOk result (λ ss. (n : ℕ) (bs : List Body) (p : Place) → outcome n (between bs p []) self.old.tokens.now ≡ outcome n (between bs p ss) []) }
-        ensures stops { IfErr result (λ s. (n : ℕ) (bs : List Body) (p : Place) → Stops s (outcome n (between bs p []) self.old.tokens.now) self.new.tokens.now) }
+    /// Statements, up to a closing brace or the end.
+    #[cycle(parser)]
+    fn statements(&mut self, depth: usize) -> Result<Sequence<Statement>, Stop>
+        ensures goes_on { IfOk result (λ ss. (p : Place) →
+            outcome depth (between self.old.bodies p []) self.old.tokens.items.now ≡ outcome depth (between self.new.bodies p ss) self.new.tokens.items.now) }
+        ensures stops { IfErr result (λ s. (p : Place) →
+            Stops s (outcome depth (between self.old.bodies p []) self.old.tokens.items.now) self.new.tokens.items.now) }
+        ensures ended { OnOk result (NoStatement self.new.tokens.items.now) }
+        ensures shorter { OnOk result (length self.new.tokens.items.now ≤ length self.old.tokens.items.now) }
     {
         let mut statements = Sequence::new(self.alloc);
         'rows: loop {
-            let Some(token) = self.peek() else {
+            let Some(token) = self.tokens.peek() else {
                 return Ok(statements);
             };
             match token {
-                Token::Semicolon(_) => self.skip(),
+                Token::Close(_) => return Ok(statements),
+                Token::Semicolon(_) => self.tokens.skip(),
                 _ => {
-                    let chain = self.chain()?;
-                    statements.push(Statement::Chain(chain))?;
+                    let statement = self.statement(depth)?;
+                    statements.push(statement)?;
                 }
             }
         }
     }
 
-    /// A chain with its end.
-    fn chain(&mut self) -> Result<Chain, Stop>
-        ensures goes_on { IfOk result (λ c. (n : ℕ) (bs : List Body) (p : Place) (ss : List Statement) →
-            outcome n (element_wanted bs (start p ss)) self.old.tokens.now ≡ outcome n (between bs p (ss ++ Statement.Chain c ∷ [])) self.new.tokens.now) }
-        ensures stops { IfErr result (λ s. (n : ℕ) (bs : List Body) (p : Place) (ss : List Statement) →
-            Stops s (outcome n (element_wanted bs (start p ss)) self.old.tokens.now) self.new.tokens.now) }
-        ensures shorter { OnOk result (length self.new.tokens.now < length self.old.tokens.now) }
+    /// A statement, with its end where it has one.
+    #[cycle(parser)]
+    fn statement(&mut self, depth: usize) -> Result<Statement, Stop>
+        ensures goes_on { IfOk result (λ st. (p : Place) (ss : List Statement) →
+            outcome depth (statement_wanted self.old.bodies p ss) self.old.tokens.items.now ≡ outcome depth (between self.new.bodies p (ss ++ st ∷ [])) self.new.tokens.items.now) }
+        ensures stops { IfErr result (λ s. (p : Place) (ss : List Statement) →
+            Stops s (outcome depth (statement_wanted self.old.bodies p ss) self.old.tokens.items.now) self.new.tokens.items.now) }
+        ensures shorter { OnOk result (length self.new.tokens.items.now < length self.old.tokens.items.now) }
     {
-        let first = self.element()?;
+        let Some(token) = self.tokens.peek() else {
+            return Err(Stop::Unexpected);
+        };
+        if let Some(first) = self.tokens.first_of_names() {
+            self.tokens.skip();
+            return self.declaration(first, depth);
+        }
+        match token {
+            Token::Elementclass(_) => {
+                self.tokens.skip();
+                self.definition(depth)
+            }
+            Token::Require(_) => {
+                self.tokens.skip();
+                let text = self.tokens.string();
+                Ok(Statement::Requirement { text })
+            }
+            _ => {
+                let chain = self.chain(depth)?;
+                Ok(Statement::Chain(chain))
+            }
+        }
+    }
+
+    /// A declaration behind the first of its names.
+    #[cycle(parser)]
+    fn declaration(&mut self, first: Span, depth: usize) -> Result<Statement, Stop>
+        ensures goes_on { IfOk result (λ st. (p : Place) (ss : List Statement) →
+            outcome depth (name_read self.old.bodies p ss (first ∷ [])) self.old.tokens.items.now ≡ outcome depth (between self.new.bodies p (ss ++ st ∷ [])) self.new.tokens.items.now) }
+        ensures stops { IfErr result (λ s. (p : Place) (ss : List Statement) →
+            Stops s (outcome depth (name_read self.old.bodies p ss (first ∷ [])) self.old.tokens.items.now) self.new.tokens.items.now) }
+        ensures shorter { OnOk result (length self.new.tokens.items.now ≤ length self.old.tokens.items.now) }
+    {
+        let names = self.tokens.names(self.alloc, first)?;
+        let class = self.class(depth)?;
+        let text = self.tokens.string();
+        self.tokens.end()?;
+        Ok(Statement::Declaration(Declaration { names, class, text }))
+    }
+
+    /// A definition or a synonym behind its keyword.
+    #[cycle(parser)]
+    fn definition(&mut self, depth: usize) -> Result<Statement, Stop>
+        ensures goes_on { IfOk result (λ st. (p : Place) (ss : List Statement) →
+            outcome depth (define self.old.bodies p ss) self.old.tokens.items.now ≡ outcome depth (between self.new.bodies p (ss ++ st ∷ [])) self.new.tokens.items.now) }
+        ensures stops { IfErr result (λ s. (p : Place) (ss : List Statement) →
+            Stops s (outcome depth (define self.old.bodies p ss) self.old.tokens.items.now) self.new.tokens.items.now) }
+        ensures shorter { OnOk result (length self.new.tokens.items.now ≤ length self.old.tokens.items.now) }
+    {
+        let name = self.tokens.word()?;
+        let Some(token) = self.tokens.peek() else {
+            return Err(Stop::Unexpected);
+        };
+        match token {
+            Token::Word(class) => {
+                self.tokens.skip();
+                self.tokens.end()?;
+                Ok(Statement::Synonym { name, class })
+            }
+            Token::Open(brace) => {
+                let body = self.body(brace, depth)?;
+                Ok(Statement::Definition { name, body })
+            }
+            _ => Err(Stop::Unexpected),
+        }
+    }
+
+    /// A chain with its end.
+    #[cycle(parser)]
+    fn chain(&mut self, depth: usize) -> Result<Chain, Stop>
+        ensures goes_on { IfOk result (λ c. (p : Place) (ss : List Statement) →
+            outcome depth (element_wanted self.old.bodies (start p ss)) self.old.tokens.items.now ≡ outcome depth (between self.new.bodies p (ss ++ Statement.Chain c ∷ [])) self.new.tokens.items.now) }
+        ensures stops { IfErr result (λ s. (p : Place) (ss : List Statement) →
+            Stops s (outcome depth (element_wanted self.old.bodies (start p ss)) self.old.tokens.items.now) self.new.tokens.items.now) }
+        ensures shorter { OnOk result (length self.new.tokens.items.now < length self.old.tokens.items.now) }
+    {
+        let first = self.element(depth)?;
         let mut links = Sequence::new(self.alloc);
         'links: loop {
-            let Some(joint) = self.further()? else {
+            let Some(joint) = self.tokens.further()? else {
                 return Ok(Chain { first, links });
             };
-            let element = self.element()?;
+            let element = self.element(depth)?;
             links.push(Link {
                 from: joint.from,
                 to: joint.to,
@@ -110,174 +154,128 @@ impl<'a> Parser<'a> {
         }
     }
 
-    /// What follows an element: an arrow with its ports, or the end of the chain.
-    fn further(&mut self) -> Result<Option<Joint>, Stop>
-        ensures goes_on { IfOk result (λ joint. (n : ℕ) (bs : List Body) (p : Place) (ss : List Statement) (f : Element) (ls : List Link) →
-            outcome n (after bs p ss f ls) self.old.tokens.now ≡ outcome n (behind joint bs p ss f ls) self.new.tokens.now) }
-        ensures stops { IfErr result (λ s. (n : ℕ) (bs : List Body) (p : Place) (ss : List Statement) (f : Element) (ls : List Link) →
-            Stops s (outcome n (after bs p ss f ls) self.old.tokens.now) self.new.tokens.now) }
-        ensures shorter { OnOk result (length self.new.tokens.now ≤ length self.old.tokens.now) }
-    {
-        let Some(token) = self.peek() else {
-            return Ok(None);
-        };
-        if let Token::Semicolon(_) = token {
-            self.skip();
-            return Ok(None);
-        }
-        let from = self.port()?;
-        self.arrow()?;
-        let to = self.port()?;
-        Ok(Some(Joint { from, to }))
-    }
-
-    /// An arrow.
-    fn arrow(&mut self) -> Result<(), Stop>
-        ensures goes_on { OnOk result ((n : ℕ) (bs : List Body) (p : Place) (ss : List Statement) (f : Element) (ls : List Link) (from : Option Port) →
-            outcome n (arrow_wanted bs p ss f ls from) self.old.tokens.now ≡ outcome n (port_wanted bs p ss f ls (into from)) self.new.tokens.now) }
-        ensures stops { IfErr result (λ s. (n : ℕ) (bs : List Body) (p : Place) (ss : List Statement) (f : Element) (ls : List Link) (from : Option Port) →
-            Stops s (outcome n (arrow_wanted bs p ss f ls from) self.old.tokens.now) self.new.tokens.now) }
-        ensures shorter { OnOk result (length self.new.tokens.now < length self.old.tokens.now) }
-    {
-        let Some(token) = self.peek() else {
-            return Err(Stop::Unexpected);
-        };
-        let Token::Arrow(_) = token else {
-            return Err(Stop::Unexpected);
-        };
-        self.skip();
-        Ok(())
-    }
-
-    /// A port in brackets, or none.
-    fn port(&mut self) -> Result<Option<Port>, Stop>
-        ensures goes_on { IfOk result (λ q. (n : ℕ) (bs : List Body) (p : Place) (ss : List Statement) (f : Element) (ls : List Link) (side : Side) →
-            outcome n (port_wanted bs p ss f ls side) self.old.tokens.now ≡ outcome n (ported bs p ss f ls side q) self.new.tokens.now) }
-        ensures stops { IfErr result (λ s. (n : ℕ) (bs : List Body) (p : Place) (ss : List Statement) (f : Element) (ls : List Link) (side : Side) →
-            Stops s (outcome n (port_wanted bs p ss f ls side) self.old.tokens.now) self.new.tokens.now) }
-        ensures shorter { OnOk result (length self.new.tokens.now ≤ length self.old.tokens.now) }
-    {
-        let Some(token) = self.peek() else {
-            return Ok(None);
-        };
-        let Token::OpenBracket(bracket) = token else {
-            return Ok(None);
-        };
-        self.skip();
-        let number = self.number()?;
-        let Some(token) = self.peek() else {
-            return Err(Stop::Unexpected);
-        };
-        let Token::CloseBracket(end) = token else {
-            return Err(Stop::Unexpected);
-        };
-        self.skip();
-        let span = Span {
-            start: bracket.start,
-            end: end.end,
-        };
-        Ok(Some(Port { number, span }))
-    }
-
-    /// The number of a port.
-    fn number(&mut self) -> Result<u8, Stop>
-        ensures goes_on { IfOk result (λ m. (n : ℕ) (bs : List Body) (p : Place) (ss : List Statement) (f : Element) (ls : List Link) (side : Side) (a : Span) →
-            outcome n (number_wanted bs p ss f ls side a) self.old.tokens.now ≡ outcome n (close_wanted bs p ss f ls side a m) self.new.tokens.now) }
-        ensures stops { IfErr result (λ s. (n : ℕ) (bs : List Body) (p : Place) (ss : List Statement) (f : Element) (ls : List Link) (side : Side) (a : Span) →
-            Stops s (outcome n (number_wanted bs p ss f ls side a) self.old.tokens.now) self.new.tokens.now) }
-        ensures shorter { OnOk result (length self.new.tokens.now < length self.old.tokens.now) }
-    {
-        let Some(token) = self.peek() else {
-            return Err(Stop::Unexpected);
-        };
-        let Token::Number(number, _) = token else {
-            return Err(Stop::Unexpected);
-        };
-        let Some(number) = number else {
-            return Err(Stop::Unexpected);
-        };
-        self.skip();
-        Ok(number)
-    }
-
     /// An element.
-    fn element(&mut self) -> Result<Element, Stop>
-        ensures goes_on { IfOk result (λ e. (n : ℕ) (bs : List Body) (cx : Context) → outcome n (element_wanted bs cx) self.old.tokens.now ≡ outcome n (grown bs cx e) self.new.tokens.now) }
-        ensures stops { IfErr result (λ s. (n : ℕ) (bs : List Body) (cx : Context) → Stops s (outcome n (element_wanted bs cx) self.old.tokens.now) self.new.tokens.now) }
-        ensures shorter { OnOk result (length self.new.tokens.now < length self.old.tokens.now) }
+    #[cycle(parser)]
+    fn element(&mut self, depth: usize) -> Result<Element, Stop>
+        ensures goes_on { IfOk result (λ e. (cx : Context) →
+            outcome depth (element_wanted self.old.bodies cx) self.old.tokens.items.now ≡ outcome depth (grown self.new.bodies cx e) self.new.tokens.items.now) }
+        ensures stops { IfErr result (λ s. (cx : Context) →
+            Stops s (outcome depth (element_wanted self.old.bodies cx) self.old.tokens.items.now) self.new.tokens.items.now) }
+        ensures shorter { OnOk result (length self.new.tokens.items.now < length self.old.tokens.items.now) }
     {
-        let Some(token) = self.peek() else {
-            return Err(Stop::Unexpected);
-        };
-        let Token::Word(word) = token else {
-            return Err(Stop::Unexpected);
-        };
-        self.skip();
-        let head = self.head(word)?;
-        let text = self.string();
+        let head = self.head(depth)?;
+        let text = self.tokens.string();
         Ok(Element { head, text })
     }
 
-    /// The head that a word begins, behind the word.
-    fn head(&mut self, word: Span) -> Result<Head, Stop>
-        ensures goes_on { IfOk result (λ h. (n : ℕ) (bs : List Body) (cx : Context) → outcome n (word_read bs cx word) self.old.tokens.now ≡ outcome n (head_read bs cx h) self.new.tokens.now) }
-        ensures stops { IfErr result (λ s. (n : ℕ) (bs : List Body) (cx : Context) → Stops s (outcome n (word_read bs cx word) self.old.tokens.now) self.new.tokens.now) }
-        ensures shorter { OnOk result (length self.new.tokens.now ≤ length self.old.tokens.now) }
+    /// What an element begins with.
+    #[cycle(parser)]
+    fn head(&mut self, depth: usize) -> Result<Head, Stop>
+        ensures goes_on { IfOk result (λ h. (cx : Context) →
+            outcome depth (element_wanted self.old.bodies cx) self.old.tokens.items.now ≡ outcome depth (head_read self.new.bodies cx h) self.new.tokens.items.now) }
+        ensures stops { IfErr result (λ s. (cx : Context) →
+            Stops s (outcome depth (element_wanted self.old.bodies cx) self.old.tokens.items.now) self.new.tokens.items.now) }
+        ensures shorter { OnOk result (length self.new.tokens.items.now < length self.old.tokens.items.now) }
     {
-        let Some(token) = self.peek() else {
-            return Ok(Head::Word(word));
+        let Some(token) = self.tokens.peek() else {
+            return Err(Stop::Unexpected);
         };
-        let Token::DoubleColon(_) = token else {
-            return Ok(Head::Word(word));
-        };
-        self.skip();
-        let class = self.class()?;
-        Ok(Head::Declared(word, class))
+        match token {
+            Token::Word(word) => {
+                self.tokens.skip();
+                if !self.tokens.double_colon() {
+                    return Ok(Head::Word(word));
+                }
+                let class = self.class(depth)?;
+                Ok(Head::Declared(word, class))
+            }
+            Token::Open(brace) => {
+                let body = self.body(brace, depth)?;
+                Ok(Head::Compound(body))
+            }
+            _ => Err(Stop::Unexpected),
+        }
     }
 
     /// A class.
-    fn class(&mut self) -> Result<Class, Stop>
-        ensures goes_on { IfOk result (λ c. (n : ℕ) (bs : List Body) (cx : Context) (s : Span) →
-            outcome n (class_wanted bs cx s) self.old.tokens.now ≡ outcome n (head_read bs cx (Head.Declared s c)) self.new.tokens.now) }
-        ensures stops { IfErr result (λ t. (n : ℕ) (bs : List Body) (cx : Context) (s : Span) → Stops t (outcome n (class_wanted bs cx s) self.old.tokens.now) self.new.tokens.now) }
-        ensures shorter { OnOk result (length self.new.tokens.now < length self.old.tokens.now) }
+    #[cycle(parser)]
+    fn class(&mut self, depth: usize) -> Result<Class, Stop>
+        ensures goes_on { IfOk result (λ c. (g : Target) →
+            outcome depth (class_wanted self.old.bodies g) self.old.tokens.items.now ≡ outcome depth (classified self.new.bodies g c) self.new.tokens.items.now) }
+        ensures stops { IfErr result (λ s. (g : Target) →
+            Stops s (outcome depth (class_wanted self.old.bodies g) self.old.tokens.items.now) self.new.tokens.items.now) }
+        ensures shorter { OnOk result (length self.new.tokens.items.now < length self.old.tokens.items.now) }
     {
-        let Some(token) = self.peek() else {
+        let Some(token) = self.tokens.peek() else {
             return Err(Stop::Unexpected);
         };
-        let Token::Word(name) = token else {
-            return Err(Stop::Unexpected);
-        };
-        self.skip();
-        Ok(Class::Named(name))
+        match token {
+            Token::Word(name) => {
+                self.tokens.skip();
+                Ok(Class::Named(name))
+            }
+            Token::Open(brace) => {
+                let body = self.body(brace, depth)?;
+                Ok(Class::Body(body))
+            }
+            _ => Err(Stop::Unexpected),
+        }
     }
 
-    /// A configuration string, or none.
-    fn string(&mut self) -> Option<Span>
-        ensures goes_on { (n : ℕ) (bs : List Body) (cx : Context) (h : Head) → outcome n (head_read bs cx h) self.old.tokens.now ≡ outcome n (grown bs cx (element h result)) self.new.tokens.now }
-        ensures shorter { length self.new.tokens.now ≤ length self.old.tokens.now }
+    /// A body that begins with this brace. Its place among the bodies.
+    #[cycle(parser)]
+    fn body(&mut self, brace: Span, depth: usize) -> Result<usize, Stop>
+        requires { self.old.tokens.items.now ≡ Token.Open brace ∷ drop 1 self.old.tokens.items.now }
+        ensures goes_on { IfOk result (λ at. (s : State) (u : Use) → step s (Token.Open brace) ≡ Some (body_opened self.old.bodies brace u) →
+            outcome depth s self.old.tokens.items.now ≡ outcome depth (used self.new.bodies u at) self.new.tokens.items.now) }
+        ensures stops { IfErr result (λ e. (s : State) (u : Use) → step s (Token.Open brace) ≡ Some (body_opened self.old.bodies brace u) →
+            Stops e (outcome depth s self.old.tokens.items.now) self.new.tokens.items.now) }
+        ensures shorter { OnOk result (length self.new.tokens.items.now < length self.old.tokens.items.now) }
     {
-        let Some(token) = self.peek() else {
-            return None;
+        if depth >= MOST_OPEN {
+            return Err(Stop::TooDeep);
+        }
+        self.tokens.skip();
+        let formals = self.tokens.formals(self.alloc)?;
+        let statements = self.statements(depth + 1)?;
+        let Some(token) = self.tokens.peek() else {
+            return Err(Stop::Unexpected);
         };
-        let Token::String(span) = token else {
-            return None;
+        let Token::Close(close) = token else {
+            return Err(Stop::Unexpected);
         };
-        self.skip();
-        Some(span)
+        self.tokens.skip();
+        let at = self.bodies.len();
+        let span = Span {
+            start: brace.start,
+            end: close.end,
+        };
+        self.bodies.push(Body {
+            span,
+            formals,
+            statements,
+        })?;
+        Ok(at)
     }
 
     /// The fault where the parser stopped.
     fn fault(&self, stop: Stop, size: usize, ending: Ending) -> TextFault
-        ensures { (ts : List Token) → Stops stop (outcome 0 (between [] top []) ts) self.now.tokens.now → IsMemoryOr result (IsFaultAmong size ts ending result) }
+        ensures { (ts : List Token) → Stops stop (outcome 0 (between [] top []) ts) self.now.tokens.items.now → IsMemoryOr result (IsFaultAmong size ts ending result) }
     {
-        let next = self.peek();
+        let next = self.tokens.peek();
         match stop {
             Stop::Memory => TextFault::no_memory(),
             Stop::Unexpected => match next {
                 None => ending.fault(size),
                 Some(token) => TextFault {
                     kind: FaultKind::Unexpected,
+                    span: token.span(),
+                },
+            },
+            Stop::TooDeep => match next {
+                None => ending.fault(size),
+                Some(token) => TextFault {
+                    kind: FaultKind::TooDeep,
                     span: token.span(),
                 },
             },
@@ -298,18 +296,29 @@ pub fn config_of(
     ensures nests { OnOk result (NestsWithin 0 tokens.now) }
     ensures err { IfErr result (λ f. IsMemoryOr f (IsFaultAmong (length text.now) tokens.now ending f)) }
 {
-    let mut parser = Parser { alloc, tokens };
-    let statements = match parser.statements() {
+    let mut parser = Parser {
+        alloc,
+        tokens: Tokens { items: tokens },
+        bodies: Sequence::new(alloc),
+    };
+    let statements = match parser.statements(0) {
         Ok(statements) => statements,
         Err(stop) => return Err(parser.fault(stop, text.len(), ending)),
     };
+    if let Some(token) = parser.tokens.peek() {
+        return Err(TextFault {
+            kind: FaultKind::Unexpected,
+            span: token.span(),
+        });
+    }
     if let Ending::Stuck(fault) = ending {
         return Err(fault);
     }
     let text = Sequence::of(text.to_vec(alloc)?);
+    let Parser { bodies, .. } = parser;
     Ok(Config {
         text,
         statements,
-        bodies: Sequence::new(alloc),
+        bodies,
     })
 }

@@ -71,6 +71,8 @@ pub struct Port {
 pub enum Class {
     /// A word.
     Named(Span),
+    /// The body at that place of the configuration's bodies.
+    Body(usize),
 }
 
 /// What an element of a chain begins with.
@@ -80,6 +82,8 @@ pub enum Head {
     Word(Span),
     /// A name with its class.
     Declared(Span, Class),
+    /// The body at that place of the configuration's bodies.
+    Compound(usize),
 }
 
 /// An element of a chain.
@@ -105,16 +109,35 @@ pub struct Chain {
     pub links: Sequence<Link>,
 }
 
+/// Several names with one class: an element of each name.
+#[derive(Drop)]
+pub struct Declaration {
+    /// At least two.
+    pub names: Sequence<Span>,
+    pub class: Class,
+    /// Their configuration string with the parentheses, where they have one.
+    pub text: Option<Span>,
+}
+
 /// A statement. Empty statements are not kept.
 #[derive(Drop)]
 pub enum Statement {
     Chain(Chain),
+    Declaration(Declaration),
+    /// `elementclass`: a name for the body at that place.
+    Definition { name: Span, body: usize },
+    /// `elementclass`: a name for the class of another one.
+    Synonym { name: Span, class: Span },
+    /// `require`, with its configuration string.
+    Requirement { text: Option<Span> },
 }
 
 /// What stands between two braces, with them.
 #[derive(Drop)]
 pub struct Body {
     pub span: Span,
+    /// The names of its parameters, each with its `$`.
+    pub formals: Sequence<Span>,
     pub statements: Sequence<Statement>,
 }
 

@@ -1,7 +1,7 @@
 use Rattle.std.proofs.Common.{refl}
 use Rattle.click_text.proofs.Takes.{arrowed_by, otherwise}
 use Rattle.click_text.proofs.Steps.{taken, refused, refused_at_end}
-use Rattle.click_text.proofs.parser.Parser.arrow.Goals as goal
+use Rattle.click_text.proofs.tokens.Tokens.arrow.Goals as goal
 
 pub returns-in_default-clause-stops : goal.returns-in_default-clause-stops
 returns-in_default-clause-stops c = λ n bs p ss f ls q. refused_at_end n _ _ c.in_default.ensures refl

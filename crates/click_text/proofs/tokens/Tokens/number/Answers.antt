@@ -1,7 +1,7 @@
 use Rattle.std.proofs.Common.{Some, refl}
 use Rattle.click_text.proofs.Takes.{numbered_by, otherwise}
 use Rattle.click_text.proofs.Steps.{taken, refused, refused_at_end}
-use Rattle.click_text.proofs.parser.Parser.number.Goals as goal
+use Rattle.click_text.proofs.tokens.Tokens.number.Goals as goal
 
 pub returns-in_default-clause-stops : goal.returns-in_default-clause-stops
 returns-in_default-clause-stops c = λ n bs p ss f ls side a. refused_at_end n _ _ c.in_default.ensures refl

@@ -1,0 +1,19 @@
+use Rattle.std.proofs.Common.{refl}
+use Rattle.click_text.proofs.Takes.{formal_by, otherwise}
+use Rattle.click_text.proofs.Steps.{taken, refused, refused_at_end}
+use Rattle.click_text.proofs.tokens.Tokens.formal.Goals as goal
+
+pub returns-in_default-clause-stops : goal.returns-in_default-clause-stops
+returns-in_default-clause-stops c = λ n bs a u fs. refused_at_end n _ _ c.in_default.ensures refl
+
+pub returns-in_default-token : goal.returns-in_default-token
+returns-in_default-token c = record {
+  goes_on = tt;
+  stops = λ n bs a u fs. refused n _ c.in-Some.token _ _ c.in-Some.ensures
+      (otherwise (formal_by bs a u fs c.in-Some.token) (λ w. c.in_default-token.not-Formal w.0 w.1));
+  shorter = tt;
+}
+
+pub returns-clause-goes_on : goal.returns-clause-goes_on
+returns-clause-goes_on c = λ n bs a u fs.
+    (rw c.skip.ensures (taken n n _ _ c.in-Some.token _ _ c.in-Some.ensures (rw c.in-Formal.is refl) (rw c.in-Formal.is refl)))

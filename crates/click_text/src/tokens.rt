@@ -1,0 +1,382 @@
+//! The tokens that are left, and what is read of them that holds no body.
+
+ghost use Rattle.std.specs.Prelude.{◌≡◌, ℕ, ◌<◌, ◌≤◌, ◌++◌, ◌∷◌, [], List, Option, length, drop, OnOk, IfOk, IfErr, MatchOption};
+ghost use Rattle.click_text.specs.declared.syntax.Span.{Span};
+ghost use Rattle.click_text.specs.declared.syntax.Token.{Token};
+ghost use Rattle.click_text.specs.declared.syntax.Port.{Port};
+ghost use Rattle.click_text.specs.declared.syntax.Class.{Class};
+ghost use Rattle.click_text.specs.declared.syntax.Head.{Head};
+ghost use Rattle.click_text.specs.declared.syntax.Element.{Element};
+ghost use Rattle.click_text.specs.declared.syntax.Link.{Link};
+ghost use Rattle.click_text.specs.declared.syntax.Statement.{Statement};
+ghost use Rattle.click_text.specs.declared.syntax.Body.{Body};
+ghost use Rattle.click_text.specs.Grammar.{element, declaration};
+ghost use Rattle.click_text.specs.Machine.{Place, inside, Use, of_names, Context, linked, Side, out, into, outcome, between, name_wanted, name_read, class_wanted, listed_read, define, define_named, required, ending, body_opened, formal_wanted, formal_read, element_wanted, word_read, head_read, after, port_wanted, number_wanted, close_wanted, arrow_wanted, a_requirement, grown, ported, behind, past_word, past_name, past_formal, Stops, Lists};
+
+use crate::sequence::Sequence;
+use crate::syntax::{Port, Span, Token};
+use std::alloc::{AllocError, Global};
+
+/// Why the parser stopped. It stands then before the token that it could not take.
+#[derive(Clone, Copy, Debug, PartialEq, Eq)]
+pub enum Stop {
+    Memory,
+    Unexpected,
+    TooDeep,
+}
+
+impl From<AllocError> for Stop {
+    ghost use Rattle.click_text.specs.declared.tokens.Stop.TheVariants.{Memory};
+
+    ghost from_gives = { λ _ s. s ≡ Memory };
+
+    fn from(_error: AllocError) -> Stop {
+        Stop::Memory
+    }
+}
+
+/// The ports of an arrow.
+#[derive(Clone, Copy, Debug, PartialEq, Eq)]
+pub struct Joint {
+    pub from: Option<Port>,
+    pub to: Option<Port>,
+}
+
+/// The tokens that are left.
+#[derive(Clone, Copy)]
+pub struct Tokens<'a> {
+    pub items: &'a [Token],
+}
+
+impl<'a> Tokens<'a> {
+    /// The next token, which stays.
+    pub fn peek(&self) -> Option<Token>
+        ensures { MatchOption result (self.now.items.now ≡ []) (λ t. self.now.items.now ≡ t ∷ drop 1 self.now.items.now) }
+    {
+        self.items.first().copied()
+    }
+
+    /// Goes past the next token.
+    pub fn skip(&mut self)
+        requires { 0 < length self.old.items.now }
+        ensures { self.new.items.now ≡ drop 1 self.old.items.now }
+    {
+        self.items = &self.items[1..];
+    }
+
+    /// The next token, where names of a declaration stand: the first of them.
+    pub fn first_of_names(&self) -> Option<Span>
+        ensures { MatchOption result ((s : Span) → Lists self.now.items.now s → ⊥) (λ s. Lists self.now.items.now s) }
+    {
+        let Some(token) = self.peek() else {
+            return None;
+        };
+        let Token::Word(first) = token else {
+            return None;
+        };
+        let mut rest = *self;
+        rest.skip();
+        let Some(next) = rest.peek() else {
+            return None;
+        };
+        let Token::Comma(_) = next else {
+            return None;
+        };
+        Some(first)
+    }
+
+    /// The names of a declaration behind the first of them, with the `::` behind them.
+    pub fn names(&mut self, alloc: Global, first: Span) -> Result<Sequence<Span>, Stop>
+        ensures goes_on { IfOk result (λ ns. (n : ℕ) (bs : List Body) (p : Place) (ss : List Statement) →
+            outcome n (name_read bs p ss (first ∷ [])) self.old.items.now ≡ outcome n (class_wanted bs (of_names ns p ss)) self.new.items.now) }
+        ensures stops { IfErr result (λ s. (n : ℕ) (bs : List Body) (p : Place) (ss : List Statement) →
+            Stops s (outcome n (name_read bs p ss (first ∷ [])) self.old.items.now) self.new.items.now) }
+        ensures shorter { OnOk result (length self.new.items.now ≤ length self.old.items.now) }
+    {
+        let mut names = Sequence::new(alloc);
+        names.push(first)?;
+        'names: loop {
+            if !self.more_names()? {
+                return Ok(names);
+            }
+            let name = self.word()?;
+            names.push(name)?;
+        }
+    }
+
+    /// What follows a name of a declaration: whether a further one must come, else their class must.
+    fn more_names(&mut self) -> Result<bool, Stop>
+        ensures goes_on { IfOk result (λ more. (n : ℕ) (bs : List Body) (p : Place) (ss : List Statement) (ns : List Span) →
+            outcome n (name_read bs p ss ns) self.old.items.now ≡ outcome n (past_name more bs p ss ns) self.new.items.now) }
+        ensures stops { IfErr result (λ s. (n : ℕ) (bs : List Body) (p : Place) (ss : List Statement) (ns : List Span) →
+            Stops s (outcome n (name_read bs p ss ns) self.old.items.now) self.new.items.now) }
+        ensures shorter { OnOk result (length self.new.items.now < length self.old.items.now) }
+    {
+        let Some(token) = self.peek() else {
+            return Err(Stop::Unexpected);
+        };
+        match token {
+            Token::Comma(_) => {
+                self.skip();
+                Ok(true)
+            }
+            Token::DoubleColon(_) => {
+                self.skip();
+                Ok(false)
+            }
+            _ => Err(Stop::Unexpected),
+        }
+    }
+
+    /// A further name of a declaration, or the name of a definition.
+    pub fn word(&mut self) -> Result<Span, Stop>
+        ensures goes_on { IfOk result (λ s. (n : ℕ) (bs : List Body) (p : Place) (ss : List Statement) (ns : List Span) →
+            outcome n (name_wanted bs p ss ns) self.old.items.now ≡ outcome n (name_read bs p ss (ns ++ s ∷ [])) self.new.items.now) }
+        ensures stops { IfErr result (λ s. (n : ℕ) (bs : List Body) (p : Place) (ss : List Statement) (ns : List Span) →
+            Stops s (outcome n (name_wanted bs p ss ns) self.old.items.now) self.new.items.now) }
+        ensures defines { IfOk result (λ s. (n : ℕ) (bs : List Body) (p : Place) (ss : List Statement) →
+            outcome n (define bs p ss) self.old.items.now ≡ outcome n (define_named bs p ss s) self.new.items.now) }
+        ensures stops_defining { IfErr result (λ s. (n : ℕ) (bs : List Body) (p : Place) (ss : List Statement) →
+            Stops s (outcome n (define bs p ss) self.old.items.now) self.new.items.now) }
+        ensures shorter { OnOk result (length self.new.items.now < length self.old.items.now) }
+    {
+        let Some(token) = self.peek() else {
+            return Err(Stop::Unexpected);
+        };
+        let Token::Word(name) = token else {
+            return Err(Stop::Unexpected);
+        };
+        self.skip();
+        Ok(name)
+    }
+
+    /// The parameters of a body behind its open brace, with the bar behind them.
+    pub fn formals(&mut self, alloc: Global) -> Result<Sequence<Span>, Stop>
+        ensures goes_on { IfOk result (λ fs. (n : ℕ) (bs : List Body) (a : Span) (u : Use) →
+            outcome n (body_opened bs a u) self.old.items.now ≡ outcome n (between bs (inside a fs u) []) self.new.items.now) }
+        ensures stops { IfErr result (λ s. (n : ℕ) (bs : List Body) (a : Span) (u : Use) →
+            Stops s (outcome n (body_opened bs a u) self.old.items.now) self.new.items.now) }
+        ensures shorter { OnOk result (length self.new.items.now ≤ length self.old.items.now) }
+    {
+        let mut formals = Sequence::new(alloc);
+        let Some(token) = self.peek() else {
+            return Ok(formals);
+        };
+        let Token::Formal(_) = token else {
+            return Ok(formals);
+        };
+        'formals: loop {
+            let formal = self.formal()?;
+            formals.push(formal)?;
+            if !self.more_formals()? {
+                return Ok(formals);
+            }
+        }
+    }
+
+    /// A parameter.
+    fn formal(&mut self) -> Result<Span, Stop>
+        ensures goes_on { IfOk result (λ s. (n : ℕ) (bs : List Body) (a : Span) (u : Use) (fs : List Span) →
+            outcome n (formal_wanted bs a u fs) self.old.items.now ≡ outcome n (formal_read bs a u (fs ++ s ∷ [])) self.new.items.now) }
+        ensures stops { IfErr result (λ s. (n : ℕ) (bs : List Body) (a : Span) (u : Use) (fs : List Span) →
+            Stops s (outcome n (formal_wanted bs a u fs) self.old.items.now) self.new.items.now) }
+        ensures shorter { OnOk result (length self.new.items.now < length self.old.items.now) }
+    {
+        let Some(token) = self.peek() else {
+            return Err(Stop::Unexpected);
+        };
+        let Token::Formal(formal) = token else {
+            return Err(Stop::Unexpected);
+        };
+        self.skip();
+        Ok(formal)
+    }
+
+    /// What follows a parameter: whether a further one must come, else the bar stood there.
+    fn more_formals(&mut self) -> Result<bool, Stop>
+        ensures goes_on { IfOk result (λ more. (n : ℕ) (bs : List Body) (a : Span) (u : Use) (fs : List Span) →
+            outcome n (formal_read bs a u fs) self.old.items.now ≡ outcome n (past_formal more bs a u fs) self.new.items.now) }
+        ensures stops { IfErr result (λ s. (n : ℕ) (bs : List Body) (a : Span) (u : Use) (fs : List Span) →
+            Stops s (outcome n (formal_read bs a u fs) self.old.items.now) self.new.items.now) }
+        ensures shorter { OnOk result (length self.new.items.now < length self.old.items.now) }
+    {
+        let Some(token) = self.peek() else {
+            return Err(Stop::Unexpected);
+        };
+        match token {
+            Token::Comma(_) => {
+                self.skip();
+                Ok(true)
+            }
+            Token::Bar(_) => {
+                self.skip();
+                Ok(false)
+            }
+            _ => Err(Stop::Unexpected),
+        }
+    }
+
+    /// The end of a statement that isn't a chain.
+    pub fn end(&mut self) -> Result<(), Stop>
+        ensures goes_on { OnOk result ((n : ℕ) (bs : List Body) (p : Place) (ss : List Statement) (st : Statement) →
+            outcome n (ending bs p ss st) self.old.items.now ≡ outcome n (between bs p (ss ++ st ∷ [])) self.new.items.now) }
+        ensures stops { IfErr result (λ s. (n : ℕ) (bs : List Body) (p : Place) (ss : List Statement) (st : Statement) →
+            Stops s (outcome n (ending bs p ss st) self.old.items.now) self.new.items.now) }
+        ensures shorter { OnOk result (length self.new.items.now ≤ length self.old.items.now) }
+    {
+        let Some(token) = self.peek() else {
+            return Ok(());
+        };
+        match token {
+            Token::Semicolon(_) => {
+                self.skip();
+                Ok(())
+            }
+            Token::Close(_) => Ok(()),
+            _ => Err(Stop::Unexpected),
+        }
+    }
+
+    /// What follows an element: an arrow with its ports, or the end of the chain.
+    pub fn further(&mut self) -> Result<Option<Joint>, Stop>
+        ensures goes_on { IfOk result (λ joint. (n : ℕ) (bs : List Body) (p : Place) (ss : List Statement) (f : Element) (ls : List Link) →
+            outcome n (after bs p ss f ls) self.old.items.now ≡ outcome n (behind joint bs p ss f ls) self.new.items.now) }
+        ensures stops { IfErr result (λ s. (n : ℕ) (bs : List Body) (p : Place) (ss : List Statement) (f : Element) (ls : List Link) →
+            Stops s (outcome n (after bs p ss f ls) self.old.items.now) self.new.items.now) }
+        ensures shorter { OnOk result (length self.new.items.now ≤ length self.old.items.now) }
+    {
+        let Some(token) = self.peek() else {
+            return Ok(None);
+        };
+        match token {
+            Token::Semicolon(_) => {
+                self.skip();
+                Ok(None)
+            }
+            Token::Close(_) => Ok(None),
+            _ => {
+                let joint = self.joint()?;
+                Ok(Some(joint))
+            }
+        }
+    }
+
+    /// An arrow with its ports.
+    fn joint(&mut self) -> Result<Joint, Stop>
+        ensures goes_on { IfOk result (λ joint. (n : ℕ) (bs : List Body) (p : Place) (ss : List Statement) (f : Element) (ls : List Link) →
+            outcome n (port_wanted bs p ss f ls out) self.old.items.now ≡ outcome n (element_wanted bs (linked p ss f ls joint.from joint.to)) self.new.items.now) }
+        ensures stops { IfErr result (λ s. (n : ℕ) (bs : List Body) (p : Place) (ss : List Statement) (f : Element) (ls : List Link) →
+            Stops s (outcome n (port_wanted bs p ss f ls out) self.old.items.now) self.new.items.now) }
+        ensures shorter { OnOk result (length self.new.items.now < length self.old.items.now) }
+    {
+        let from = self.port()?;
+        self.arrow()?;
+        let to = self.port()?;
+        Ok(Joint { from, to })
+    }
+
+    /// An arrow.
+    fn arrow(&mut self) -> Result<(), Stop>
+        ensures goes_on { OnOk result ((n : ℕ) (bs : List Body) (p : Place) (ss : List Statement) (f : Element) (ls : List Link) (from : Option Port) →
+            outcome n (arrow_wanted bs p ss f ls from) self.old.items.now ≡ outcome n (port_wanted bs p ss f ls (into from)) self.new.items.now) }
+        ensures stops { IfErr result (λ s. (n : ℕ) (bs : List Body) (p : Place) (ss : List Statement) (f : Element) (ls : List Link) (from : Option Port) →
+            Stops s (outcome n (arrow_wanted bs p ss f ls from) self.old.items.now) self.new.items.now) }
+        ensures shorter { OnOk result (length self.new.items.now < length self.old.items.now) }
+    {
+        let Some(token) = self.peek() else {
+            return Err(Stop::Unexpected);
+        };
+        let Token::Arrow(_) = token else {
+            return Err(Stop::Unexpected);
+        };
+        self.skip();
+        Ok(())
+    }
+
+    /// A port in brackets, or none.
+    fn port(&mut self) -> Result<Option<Port>, Stop>
+        ensures goes_on { IfOk result (λ q. (n : ℕ) (bs : List Body) (p : Place) (ss : List Statement) (f : Element) (ls : List Link) (side : Side) →
+            outcome n (port_wanted bs p ss f ls side) self.old.items.now ≡ outcome n (ported bs p ss f ls side q) self.new.items.now) }
+        ensures stops { IfErr result (λ s. (n : ℕ) (bs : List Body) (p : Place) (ss : List Statement) (f : Element) (ls : List Link) (side : Side) →
+            Stops s (outcome n (port_wanted bs p ss f ls side) self.old.items.now) self.new.items.now) }
+        ensures shorter { OnOk result (length self.new.items.now ≤ length self.old.items.now) }
+    {
+        let Some(token) = self.peek() else {
+            return Ok(None);
+        };
+        let Token::OpenBracket(bracket) = token else {
+            return Ok(None);
+        };
+        self.skip();
+        let number = self.number()?;
+        let Some(token) = self.peek() else {
+            return Err(Stop::Unexpected);
+        };
+        let Token::CloseBracket(end) = token else {
+            return Err(Stop::Unexpected);
+        };
+        self.skip();
+        let span = Span {
+            start: bracket.start,
+            end: end.end,
+        };
+        Ok(Some(Port { number, span }))
+    }
+
+    /// The number of a port.
+    fn number(&mut self) -> Result<u8, Stop>
+        ensures goes_on { IfOk result (λ m. (n : ℕ) (bs : List Body) (p : Place) (ss : List Statement) (f : Element) (ls : List Link) (side : Side) (a : Span) →
+            outcome n (number_wanted bs p ss f ls side a) self.old.items.now ≡ outcome n (close_wanted bs p ss f ls side a m) self.new.items.now) }
+        ensures stops { IfErr result (λ s. (n : ℕ) (bs : List Body) (p : Place) (ss : List Statement) (f : Element) (ls : List Link) (side : Side) (a : Span) →
+            Stops s (outcome n (number_wanted bs p ss f ls side a) self.old.items.now) self.new.items.now) }
+        ensures shorter { OnOk result (length self.new.items.now < length self.old.items.now) }
+    {
+        let Some(token) = self.peek() else {
+            return Err(Stop::Unexpected);
+        };
+        let Token::Number(number, _) = token else {
+            return Err(Stop::Unexpected);
+        };
+        let Some(number) = number else {
+            return Err(Stop::Unexpected);
+        };
+        self.skip();
+        Ok(number)
+    }
+
+    /// Whether a name is declared: goes past the `::` where one stands behind it.
+    pub fn double_colon(&mut self) -> bool
+        ensures goes_on { (n : ℕ) (bs : List Body) (cx : Context) (s : Span) →
+            outcome n (word_read bs cx s) self.old.items.now ≡ outcome n (past_word result bs cx s) self.new.items.now }
+        ensures shorter { length self.new.items.now ≤ length self.old.items.now }
+    {
+        let Some(token) = self.peek() else {
+            return false;
+        };
+        let Token::DoubleColon(_) = token else {
+            return false;
+        };
+        self.skip();
+        true
+    }
+
+    /// A configuration string, or none: behind a head, behind the class of names, or behind `require`.
+    pub fn string(&mut self) -> Option<Span>
+        ensures of_head { (n : ℕ) (bs : List Body) (cx : Context) (h : Head) →
+            outcome n (head_read bs cx h) self.old.items.now ≡ outcome n (grown bs cx (element h result)) self.new.items.now }
+        ensures of_names { (n : ℕ) (bs : List Body) (p : Place) (ss : List Statement) (ns : List Span) (c : Class) →
+            outcome n (listed_read bs p ss ns c) self.old.items.now ≡ outcome n (ending bs p ss (declaration ns c result)) self.new.items.now }
+        ensures of_requirement { (n : ℕ) (bs : List Body) (p : Place) (ss : List Statement) →
+            outcome n (required bs p ss) self.old.items.now ≡ outcome n (between bs p (ss ++ a_requirement result ∷ [])) self.new.items.now }
+        ensures shorter { length self.new.items.now ≤ length self.old.items.now }
+    {
+        let Some(token) = self.peek() else {
+            return None;
+        };
+        let Token::String(span) = token else {
+            return None;
+        };
+        self.skip();
+        Some(span)
+    }
+}
