@@ -2,6 +2,7 @@ pub mod Beginnings
 pub mod Closing
 pub mod Equal
 pub mod Given
+pub mod ItemForms
 pub mod Longest
 pub mod OneFault
 pub mod Outcomes

@@ -6,12 +6,16 @@ ghost use Rattle.click_text.specs.declared.syntax.Config.{Config};
 ghost use Rattle.click_text.specs.Faults.{IsMemoryOr};
 ghost use Rattle.click_text.specs.Spelling.{longest_text, too_large, Spells, IsAnswered, IsGiven};
 
+pub mod argument_words;
+pub mod arguments;
+pub mod items;
 pub mod laws;
 pub mod lexer;
 pub mod parser;
 pub mod sequence;
 pub mod strings;
 pub mod syntax;
+pub mod unquote;
 
 use lexer::scan;
 use parser::config_of;
