@@ -1,12 +1,15 @@
 pub mod Beginnings
 pub mod Closing
+pub mod Cutting
 pub mod Equal
 pub mod Given
 pub mod ItemForms
+pub mod ItemReading
 pub mod Longest
 pub mod OneFault
 pub mod Outcomes
 pub mod Reading
 pub mod Steps
 pub mod Takes
+pub mod WordCutting
 pub mod Words
