@@ -2,7 +2,7 @@
 use Rattle.std.proofs.Common.{◌≡◌, ◌≢◌, ℕ, zero, suc, ◌+◌, ◌-◌, ◌<◌, ◌≤◌, List, [], ◌∷◌, ◌++◌, length, take, drop, Bool, true, false, eqb, Option, Some, None, refl, sym, ◌∙◌, ap, subst, arith, inl, inr, ◌⊎◌, append_assoc, length-append}
 use Rattle.std.specs.Prelude.{if◌then◌else◌, ◌&&◌}
 use Rattle.std.specs.List.{list_all}
-use Rattle.std.proofs.lemmas.Bool.{false≢true, cases_Bool, and_parts}
+use Rattle.std.proofs.lemmas.Bool.{cases_Bool, and_parts, eqb-true}
 use Rattle.std.proofs.lemmas.List.{append-nil}
 use Rattle.click_text.specs.declared.syntax.Span.{Span}
 use Rattle.click_text.specs.declared.items.ItemKind.{ItemKind}
@@ -166,6 +166,13 @@ grown_some (Some s) a b h = cc
 snoc_some : (spans : List Span) (s : Span) → spans ++ s ∷ [] ≡ [] → ⊥
 snoc_some [] s h = cc
 snoc_some (t ∷ spans) s h = cc
+
+-- a test outside parentheses
+pub both_false : (depth : ℕ) (b : Bool) → (depth ≡ 0 → b ≡ true → ⊥) → (eqb depth 0 && b) ≡ false
+both_false depth b h = elim (cases_Bool (eqb depth 0 && b)) [
+  | inl e ↦ let x = and_parts (eqb depth 0) b e in absurd (h (eqb-true depth 0 x.0) x.1)
+  | inr e ↦ e
+]
 
 -- a comma outside parentheses
 pub cutting_comma : (text : List ℕ) (at depth : ℕ) (spans : List Span) (found : Option Span) (k : ItemKind) (n : ℕ) → LongestItem (take (length text - at) (drop at text)) k n → depth ≡ 0 → is_comma k ≡ true →

@@ -5,9 +5,11 @@ pub mod Equal
 pub mod Given
 pub mod ItemForms
 pub mod ItemReading
+pub mod ItemsExist
 pub mod Longest
 pub mod OneFault
 pub mod Outcomes
+pub mod Quoting
 pub mod Reading
 pub mod Steps
 pub mod Takes

@@ -1,9 +1,9 @@
-use Rattle.std.proofs.Common.{◌≡◌, ◌∙◌, ℕ, Bool, true, inl, inr, sym, false, eqb, arith, List, [], ◌∷◌, Option, Some, None, length, vec_len, refl}
+use Rattle.std.proofs.Common.{◌≡◌, ◌∙◌, ℕ, Bool, true, sym, false, eqb, arith, List, [], ◌∷◌, Option, Some, None, length, vec_len, refl}
 use Rattle.std.specs.Option.{is_some}
 use Rattle.click_text.specs.declared.syntax.Span.{Span}
 use Rattle.std.specs.Prelude.{◌&&◌, not}
-use Rattle.std.proofs.lemmas.Bool.{cases_Bool, and_parts, eqb-true, false≢true}
-use Rattle.click_text.proofs.Cutting.{cutting_comma, cutting_more, cutting_blank, cutting_all}
+use Rattle.std.proofs.lemmas.Bool.{eqb-true, false≢true}
+use Rattle.click_text.proofs.Cutting.{cutting_comma, both_false, cutting_more, cutting_blank, cutting_all}
 use Rattle.click_text.specs.Arguments.{is_comma}
 use Rattle.click_text.proofs.arguments.spans_of.Goals as goal
 use Rattle.click_text.proofs.arguments.spans_of.Goals.{else-depth-eq0-via-then-depth-eq0+else-is_comma, else-depth-eq0-via-else-depth-eq0, else-is_empty-via-then-is_empty+else-is_none, else-is_empty-via-else-is_empty}
@@ -13,12 +13,6 @@ items-preserved-in_ok-push c =
     let l = c.items in
     rw (c.in_ok-push.ensures.items, c.argument.ensures) (cutting_comma c.args.text.now l.at l.depth l.spans.items l.found c.first_item-kind.result.0 c.first_item-kind.result.1 c.first_item-kind.ensures.longest
       c.if-depth-eq0.true (sym c.is_comma.ensures ∙ c.if-is_comma.true) l.invariant)
-
-both_false : (depth : ℕ) (b : Bool) → (depth ≡ 0 → b ≡ true → ⊥) → (eqb depth 0 && b) ≡ false
-both_false depth b h = elim (cases_Bool (eqb depth 0 && b)) [
-  | inl e ↦ let x = and_parts (eqb depth 0) b e in absurd (h (eqb-true depth 0 x.0) x.1)
-  | inr e ↦ e
-]
 
 pub items-preserved : goal.items-preserved
 items-preserved c =
