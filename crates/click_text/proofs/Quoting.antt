@@ -1,17 +1,28 @@
 -- What an argument stands for, as it is read from the front.
-use Rattle.std.proofs.Common.{◌≡◌, ℕ, zero, suc, ◌+◌, ◌-◌, ◌<◌, ◌≤◌, List, [], ◌∷◌, ◌++◌, length, take, drop, Bool, true, false, eqb, Option, Some, None, refl, sym, ◌∙◌, ap, arith, inl, inr, append_assoc}
+use Rattle.std.proofs.Common.{◌≡◌, ℕ, zero, suc, ◌+◌, ◌-◌, ◌<◌, ◌≤◌, List, [], ◌∷◌, ◌++◌, length, get_or, take, drop, Bool, true, false, eqb, Option, Some, None, refl, sym, ◌∙◌, ap, arith, inl, inr, append_assoc}
 use Rattle.std.specs.Prelude.{if◌then◌else◌, ◌&&◌, option_and_then}
 use Rattle.std.proofs.lemmas.Bool.{cases_Bool}
-use Rattle.std.proofs.lemmas.List.{append-nil}
+use Rattle.std.proofs.lemmas.List.{append-nil, drop_more}
+use Rattle.click_text.specs.declared.unquote.Escape.{Escape}
+use Rattle.click_text.specs.declared.unquote.Step.{Step}
 use Rattle.click_text.specs.declared.items.ItemKind.{ItemKind}
 use Rattle.click_text.specs.Items.{Item, item, LongestItem, AreItems}
-use Rattle.click_text.specs.Unquote.{before, plain_item, plain, StandsFor}
+use Rattle.click_text.specs.Unquote.{before, added, stepped, unescaped, fits_digit, plain_item, plain, StandsFor}
 use Rattle.click_text.proofs.ItemReading.{Behind, behind_more, behind_all, none_behind, bytes_at}
 use Rattle.click_text.proofs.ItemsExist.{reading}
 
 pub before_before : (p q : List ℕ) (o : Option (List ℕ)) → before p (before q o) ≡ before (p ++ q) o
 before_before p q None = refl
 before_before p q (Some r) = rw (append_assoc p q r) refl
+
+-- a byte with escapes before it
+pub unescaped_step : (o : Option (List ℕ)) (s : Escape) (t : Step) (p bytes : List ℕ) (i : ℕ) → i < length bytes → Some t ≡ stepped s (get_or bytes i 0) → o ≡ before p (unescaped s (drop i bytes)) →
+    o ≡ before (p ++ added t.adds) (unescaped t.state (drop (i + 1) bytes))
+unescaped_step o s t p bytes i l h e =
+    let r = drop (i + 1) bytes in
+    let g : unescaped s (get_or bytes i 0 ∷ r) ≡ before (added t.adds) (unescaped t.state r) = rw (← h) refl in
+    let f : o ≡ before p (before (added t.adds) (unescaped t.state r)) = rw (drop_more bytes i 0 l, g) at e in
+    rw before_before at f
 
 -- What the code keeps: `bytes` is what the items before the place stand for.
 pub record Quoting (text : List ℕ) (at : ℕ) (bytes : List ℕ) : Type 0 where
@@ -61,5 +72,5 @@ pub quoting_all : (text : List ℕ) (at : ℕ) (bytes : List ℕ) → length tex
 quoting_all text at bytes h c = record {
   items = c.done;
   read = behind_all text at c.done h c.behind;
-  plain_is = let g = c.goes_on [] in let i : plain c.done ≡ Some bytes = rw append-nil at g in sym i;
+  plain_is = let g = c.goes_on [] in let i : plain c.done ≡ Some bytes = rw (append-nil c.done, append-nil bytes) at g in sym i;
 }

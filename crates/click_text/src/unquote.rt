@@ -1,9 +1,9 @@
 //! What an argument stands for without its quotes.
 
-ghost use Rattle.std.specs.Prelude.{◌≡◌, IfOk, IfErr};
+ghost use Rattle.std.specs.Prelude.{◌≡◌, ◌<◌, IfOk, IfErr, IfSome};
 ghost use Rattle.click_text.specs.Faults.{no_memory};
 ghost use Rattle.click_text.specs.Spans.{without_ends};
-ghost use Rattle.click_text.specs.Unquote.{worth, escaped, to, stepped, is_clear, unescaped, plain_item, IsAdded, IsPlain};
+ghost use Rattle.click_text.specs.Unquote.{worth, escaped, to, stepped, is_clear, fits_digit, unescaped, plain_item, IsAdded, IsPlain};
 
 use crate::items::{ItemKind, first_item};
 use crate::syntax::TextFault;
@@ -39,7 +39,8 @@ impl Step {
 
 /// What a hexadecimal digit is worth.
 fn worth(byte: u8) -> Option<u8>
-    ensures { result ≡ worth byte }
+    ensures value { result ≡ worth byte }
+    ensures small { IfSome result (λ value. value < 16) }
 {
     match byte {
         b'0'..=b'9' => Some(byte - b'0'),
@@ -64,7 +65,9 @@ fn escaped(byte: u8) -> u8
 impl Escape {
     /// What a byte does. None is bad quoting.
     fn after(self, byte: u8) -> Option<Step>
-        ensures { result ≡ stepped self byte }
+        requires { fits_digit self }
+        ensures step { result ≡ stepped self byte }
+        ensures fits { IfSome result (λ step. fits_digit step.state) }
     {
         match self {
             Escape::Clear if byte == b'\\' => Some(Step::to(Escape::Behind, None)),
