@@ -9,7 +9,8 @@ use Rattle.click_text.specs.declared.items.ItemKind.{ItemKind}
 use Rattle.click_text.specs.declared.items.ItemKind.TheVariants as kind
 use Rattle.click_text.specs.Pieces.{span}
 use Rattle.click_text.specs.Items.{Item, item, IsItem, LongestItem, AreItems, bytes_of, size, is_blank, depth_behind, put, parted}
-use Rattle.click_text.specs.Arguments.{is_comma, all_blank, front, without_back, argument, arguments_from, cut, AreArguments, found_or, grown_to, grown}
+use Rattle.click_text.specs.Arguments.{is_comma, all_blank, front, without_back, argument, arguments_from, cut, AreArguments}
+use Rattle.click_text.specs.Kept.{found_or, grown_to, grown}
 use Rattle.click_text.proofs.ItemReading.{Behind, behind_more, behind_all, none_behind, bytes_at, bytes_long, size-append, item_some}
 
 -- what comes of the items left, behind those of which that much was found

@@ -6,6 +6,7 @@ pub mod Given
 pub mod ItemForms
 pub mod ItemReading
 pub mod ItemsExist
+pub mod Joining
 pub mod Longest
 pub mod OneFault
 pub mod Outcomes

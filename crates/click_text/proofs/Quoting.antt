@@ -7,7 +7,7 @@ use Rattle.click_text.specs.declared.unquote.Escape.{Escape}
 use Rattle.click_text.specs.declared.unquote.Step.{Step}
 use Rattle.click_text.specs.declared.items.ItemKind.{ItemKind}
 use Rattle.click_text.specs.Items.{Item, item, LongestItem, AreItems}
-use Rattle.click_text.specs.Unquote.{before, added, stepped, unescaped, fits_digit, plain_item, plain, StandsFor}
+use Rattle.click_text.specs.Unquote.{before, added, stepped, unescaped, plain_item, plain, StandsFor}
 use Rattle.click_text.proofs.ItemReading.{Behind, behind_more, behind_all, none_behind, bytes_at}
 use Rattle.click_text.proofs.ItemsExist.{reading}
 

@@ -1,11 +1,11 @@
 -- The arguments of a configuration string (Click manual, "Configuration strings").
-use Rattle.std.specs.Prelude.{◌≡◌, ℕ, ◌+◌, ◌≤◌, List, [], ◌∷◌, ◌++◌, length, Bool, true, false, ◌&&◌, eqb, Option, Some, None, if◌then◌else◌}
+use Rattle.std.specs.Prelude.{◌≡◌, ◌⊎◌, ℕ, ◌+◌, ◌≤◌, List, [], ◌∷◌, ◌++◌, length, Bool, true, false, ◌&&◌, eqb, if◌then◌else◌}
 use Rattle.std.specs.List.{list_all}
 use Rattle.click_text.specs.declared.syntax.Span.{Span}
 use Rattle.click_text.specs.declared.items.ItemKind.{ItemKind}
 use Rattle.click_text.specs.declared.items.ItemKind.TheVariants as kind
-use Rattle.click_text.specs.Pieces.{span}
-use Rattle.click_text.specs.Items.{Item, item, AreItems, size, is_blank, blank_kind, parted}
+use Rattle.click_text.specs.Pieces.{span, IsBlank}
+use Rattle.click_text.specs.Items.{Item, item, AreItems, size, is_blank, parted}
 
 abbrev pub is_comma : ItemKind → Bool
 is_comma (kind.Byte b) = eqb b 44
@@ -45,17 +45,21 @@ pub record AreArguments (text : List ℕ) (spans : List Span) : Type 0 where
   pub read : AreItems text items
   pub cuts : spans ≡ cut items
 
--- What the code keeps of an argument that it reads: where it stands so far, or nothing where only white space and comments have come.
+-- Laws.
 
--- where an argument stands that ends at a place
-abbrev pub found_or : Option Span → ℕ → Span
-found_or (Some s) at = s
-found_or None at = span at at
+-- spans that stand in order and apart between two places
+abbrev pub InOrder : ℕ → List Span → ℕ → Type 0
+InOrder from [] to = Unit {0}
+InOrder from (s ∷ spans) to = (from ≤ s.start) × (s.start ≤ s.end) × (s.end ≤ to) × InOrder (s.end + 1) spans to
 
-abbrev pub grown_to : Option Span → ℕ → ℕ → Option Span
-grown_to (Some s) a b = Some (span s.start b)
-grown_to None a b = Some (span a b)
+-- Bytes that stand from a place on are what stands at these spans, with white space and comments before and behind each, and a comma between two of them.
+pub data AreJoined : ℕ → List ℕ → List Span → Type 0 where
+  last : (at : ℕ) (before inside after : List ℕ) → IsBlank before → IsBlank after →
+      AreJoined at (before ++ (inside ++ after)) (span (at + length before) (at + length before + length inside) ∷ [])
+  more : (at : ℕ) (before inside after rest : List ℕ) (spans : List Span) → IsBlank before → IsBlank after →
+      AreJoined (at + length before + length inside + length after + 1) rest spans →
+      AreJoined at ((before ++ (inside ++ after)) ++ 44 ∷ rest) (span (at + length before) (at + length before + length inside) ∷ spans)
 
--- where it stands with an item between two places
-abbrev pub grown : Option Span → ItemKind → ℕ → ℕ → Option Span
-grown f k a b = if blank_kind k then f else grown_to f a b
+-- no arguments and nothing but white space and comments, or the arguments joined
+abbrev pub IsTextOf : List ℕ → List Span → Type 0
+IsTextOf text spans = (IsBlank text × (spans ≡ [])) ⊎ AreJoined 0 text spans

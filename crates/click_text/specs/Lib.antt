@@ -2,6 +2,7 @@ pub mod Arguments
 pub mod Faults
 pub mod Grammar
 pub mod Items
+pub mod Kept
 pub mod Machine
 pub mod Marks
 pub mod Pieces

@@ -1,5 +1,5 @@
 -- What an argument stands for without its quotes (Click manual, "Configuration strings").
-use Rattle.std.specs.Prelude.{Vec, ◌≡◌, ℕ, ◌+◌, ◌-◌, ◌*◌, ◌<◌, List, [], ◌∷◌, ◌++◌, Bool, true, false, ◌&&◌, eqb, leb, Option, Some, None, option_and_then, if◌then◌else◌}
+use Rattle.std.specs.Prelude.{Vec, ◌≡◌, ℕ, ◌+◌, ◌-◌, ◌*◌, List, [], ◌∷◌, ◌++◌, Bool, true, false, ◌&&◌, eqb, leb, Option, Some, None, option_and_then, if◌then◌else◌}
 use Rattle.std.specs.declared.alloc.Global.{Global}
 use Rattle.click_text.specs.declared.items.ItemKind.{ItemKind}
 use Rattle.click_text.specs.declared.items.ItemKind.TheVariants as kind
@@ -87,13 +87,3 @@ pub record StandsFor (text : List ℕ) (bytes : Option (List ℕ)) : Type 0 wher
 abbrev pub IsPlain : List ℕ → Option (Vec ℕ Global) → Type 0
 IsPlain text (Some v) = StandsFor text (Some v.items)
 IsPlain text None = StandsFor text None
-
--- a first digit is worth less than 16
-abbrev pub fits_digit : Escape → Type 0
-fits_digit (escape.Half h) = h < 16
-fits_digit _ = Unit {0}
-
--- what the code has done: it has added these bytes to a list, or found none, for bad quoting
-abbrev pub IsAdded : Bool → Option (List ℕ) → List ℕ → List ℕ → Type 0
-IsAdded true bytes old new = (p : List ℕ) × (bytes ≡ Some p) × (new ≡ old ++ p)
-IsAdded false bytes old new = bytes ≡ None

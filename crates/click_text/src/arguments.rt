@@ -2,7 +2,8 @@
 
 ghost use Rattle.std.specs.Prelude.{◌≡◌, ℕ, length, IfOk, IfErr};
 ghost use Rattle.click_text.specs.Faults.{no_memory};
-ghost use Rattle.click_text.specs.Arguments.{is_comma, AreArguments, found_or, grown};
+ghost use Rattle.click_text.specs.Arguments.{is_comma, AreArguments};
+ghost use Rattle.click_text.specs.Kept.{found_or, grown};
 
 use crate::items::{ItemKind, first_item};
 use crate::syntax::{Span, TextFault};

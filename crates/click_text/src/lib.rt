@@ -6,6 +6,7 @@ ghost use Rattle.click_text.specs.declared.syntax.Config.{Config};
 ghost use Rattle.click_text.specs.Faults.{IsMemoryOr};
 ghost use Rattle.click_text.specs.Spelling.{longest_text, too_large, Spells, IsAnswered, IsGiven};
 
+pub mod argument_laws;
 pub mod argument_words;
 pub mod arguments;
 pub mod items;

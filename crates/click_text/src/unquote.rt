@@ -3,7 +3,8 @@
 ghost use Rattle.std.specs.Prelude.{◌≡◌, ◌<◌, IfOk, IfErr, IfSome};
 ghost use Rattle.click_text.specs.Faults.{no_memory};
 ghost use Rattle.click_text.specs.Spans.{without_ends};
-ghost use Rattle.click_text.specs.Unquote.{worth, escaped, to, stepped, is_clear, fits_digit, unescaped, plain_item, IsAdded, IsPlain};
+ghost use Rattle.click_text.specs.Unquote.{worth, escaped, to, stepped, is_clear, unescaped, plain_item, IsPlain};
+ghost use Rattle.click_text.specs.Kept.{fits_digit, IsAdded};
 
 use crate::items::{ItemKind, first_item};
 use crate::syntax::TextFault;
