@@ -13,6 +13,7 @@ pub mod Outcomes
 pub mod Quoting
 pub mod Reading
 pub mod Steps
+pub mod StringTexts
 pub mod Takes
 pub mod WordCutting
 pub mod Words

@@ -8,6 +8,7 @@ pub mod Marks
 pub mod Pieces
 pub mod Spans
 pub mod Spelling
+pub mod StringText
 pub mod Strings
 pub mod Unquote
 pub mod Words

@@ -1,9 +1,10 @@
 //! What holds of the definitions of items, arguments and words, in the language's words.
 
-ghost use Rattle.std.specs.Prelude.{◌≡◌, ℕ, List, Option, length};
+ghost use Rattle.std.specs.Prelude.{◌≡◌, ℕ, List, Option, length, false};
 ghost use Rattle.click_text.specs.declared.syntax.Span.{Span};
 ghost use Rattle.click_text.specs.Items.{Item, AreItems, bytes_of};
 ghost use Rattle.click_text.specs.Arguments.{AreArguments, InOrder, IsTextOf};
+ghost use Rattle.click_text.specs.StringText.{IsStringText, leaves_open};
 ghost use Rattle.click_text.specs.Words.{AreWords};
 ghost use Rattle.click_text.specs.Unquote.{StandsFor};
 
@@ -42,5 +43,11 @@ pub fn arguments_in_order()
 /// The arguments of a text, joined by commas, are the text but for white space and comments.
 pub fn arguments_joined()
     ensures { (text : List ℕ) (spans : List Span) → AreArguments text spans → IsTextOf text spans }
+{
+}
+
+/// In what stands between a configuration string's parentheses no quote and no comment is left open.
+pub fn nothing_open()
+    ensures { (text : List ℕ) (items : List Item) → IsStringText text → AreItems text items → leaves_open items ≡ false }
 {
 }
