@@ -187,9 +187,9 @@ cutting_comma text at depth spans found k n l z h c =
       behind = behind_more text at c.done k n l c.behind;
       shallow = omega arith;
       goes_on = λ items.
-        let g = c.goes_on (i ∷ items) in
-        let s : rest_of at depth found (i ∷ items) ≡ found_or found at ∷ rest_of (at + n) depth None items = rw (z, h, o) refl in
-        rw (append_assoc c.done (i ∷ []) items, g, s, append_assoc spans (found_or found at ∷ [])) refl;
+          let g = c.goes_on (i ∷ items) in
+          let s : rest_of at depth found (i ∷ items) ≡ found_or found at ∷ rest_of (at + n) depth None items = rw (z, h, o) refl in
+          rw (append_assoc c.done (i ∷ []) items, g, s, append_assoc spans (found_or found at ∷ [])) refl;
       blank = λ e. cc;
       solid = λ e f. absurd (snoc_some spans (found_or found at) f);
     }
@@ -205,9 +205,9 @@ cutting_more text at depth spans found k n l h c =
       behind = behind_more text at c.done k n l c.behind;
       shallow = omega (arith, depth_rises k depth, item_some _ k n l, c.shallow);
       goes_on = λ items.
-        let g = c.goes_on (i ∷ items) in
-        let s : rest_of at depth found (i ∷ items) ≡ rest_of (at + n) (depth_behind k depth) (grown found k at (at + n)) items = rw (h, o) refl in
-        rw (append_assoc c.done (i ∷ []) items, g, s) refl;
+          let g = c.goes_on (i ∷ items) in
+          let s : rest_of at depth found (i ∷ items) ≡ rest_of (at + n) (depth_behind k depth) (grown found k at (at + n)) items = rw (h, o) refl in
+          rw (append_assoc c.done (i ∷ []) items, g, s) refl;
       blank = λ e. elim (cases_Bool (is_blank i)) [
         | inl f ↦ let d = c.blank (sym (blank_more c.done i f) ∙ e) in (d.0, rw f d.1)
         | inr f ↦ let d = solid_more c.done i f in cc

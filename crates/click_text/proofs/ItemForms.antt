@@ -162,21 +162,21 @@ double_item text n z e l a =
     let r = drop 1 text in
     let s : 1 + n ≡ suc n = omega arith in
     rw s (subst (λ t. LongestItem t kind.Double (suc n)) (sym (as_one text 34 z e))
-      (long_item_of (34 ∷ r) kind.Double (suc n) refl (omega arith) (omega arith) (take n r, refl, a) (λ m h i p. double_longer r n m a h i p)))
+    (long_item_of (34 ∷ r) kind.Double (suc n) refl (omega arith) (omega arith) (take n r, refl, a) (λ m h i p. double_longer r n m a h i p)))
 
 pub single_item : (text : List ℕ) (n : ℕ) → 0 < length text → get_or text 0 0 ≡ 39 → n ≤ length (drop 1 text) → leaves mode.Single (take n (drop 1 text)) ≡ true → LongestItem text kind.Single (1 + n)
 single_item text n z e l a =
     let r = drop 1 text in
     let s : 1 + n ≡ suc n = omega arith in
     rw s (subst (λ t. LongestItem t kind.Single (suc n)) (sym (as_one text 39 z e))
-      (long_item_of (39 ∷ r) kind.Single (suc n) refl (omega arith) (omega arith) (take n r, refl, a) (λ m h i p. single_longer r n m a h i p)))
+    (long_item_of (39 ∷ r) kind.Single (suc n) refl (omega arith) (omega arith) (take n r, refl, a) (λ m h i p. single_longer r n m a h i p)))
 
 pub angle_item : (text : List ℕ) (n : ℕ) → 1 < length text → get_or text 0 0 ≡ 92 → get_or text 1 0 ≡ 60 → n ≤ length (drop 2 text) → leaves mode.Angle (take n (drop 2 text)) ≡ true → LongestItem text kind.Hexadecimal (2 + n)
 angle_item text n z e f l a =
     let r = drop 2 text in
     let s : 2 + n ≡ suc (suc n) = omega arith in
     rw s (subst (λ t. LongestItem t kind.Hexadecimal (suc (suc n))) (sym (as_two text 92 60 z e f))
-      (long_item_of (92 ∷ 60 ∷ r) kind.Hexadecimal (suc (suc n)) refl (omega arith) (omega arith) (take n r, refl, a) (λ m h i p. angle_longer r n m a h i p)))
+    (long_item_of (92 ∷ 60 ∷ r) kind.Hexadecimal (suc (suc n)) refl (omega arith) (omega arith) (take n r, refl, a) (λ m h i p. angle_longer r n m a h i p)))
 
 abbrev Never : Mode → List ℕ → Type 0
 Never q r = (n : ℕ) → n ≤ length r → leaves q (take n r) ≡ false
@@ -197,17 +197,17 @@ never_angle r (suc (suc m)) g l (s, e, a) = false≢true (sym (g m (omega arith)
 pub no_double : (text : List ℕ) → 0 < length text → get_or text 0 0 ≡ 34 → ((n : ℕ) → n ≤ length (drop 1 text) → leaves mode.Double (take n (drop 1 text)) ≡ false) → NoLongItem text
 no_double text z e g =
     subst (λ t. NoLongItem t) (sym (as_one text 34 z e))
-      (no_item_of (34 ∷ drop 1 text) kind.Double refl (λ m h i p. never_double (drop 1 text) m g i p))
+    (no_item_of (34 ∷ drop 1 text) kind.Double refl (λ m h i p. never_double (drop 1 text) m g i p))
 
 pub no_single : (text : List ℕ) → 0 < length text → get_or text 0 0 ≡ 39 → ((n : ℕ) → n ≤ length (drop 1 text) → leaves mode.Single (take n (drop 1 text)) ≡ false) → NoLongItem text
 no_single text z e g =
     subst (λ t. NoLongItem t) (sym (as_one text 39 z e))
-      (no_item_of (39 ∷ drop 1 text) kind.Single refl (λ m h i p. never_single (drop 1 text) m g i p))
+    (no_item_of (39 ∷ drop 1 text) kind.Single refl (λ m h i p. never_single (drop 1 text) m g i p))
 
 pub no_angle : (text : List ℕ) → 1 < length text → get_or text 0 0 ≡ 92 → get_or text 1 0 ≡ 60 → ((n : ℕ) → n ≤ length (drop 2 text) → leaves mode.Angle (take n (drop 2 text)) ≡ false) → NoLongItem text
 no_angle text z e f g =
     subst (λ t. NoLongItem t) (sym (as_two text 92 60 z e f))
-      (no_item_of (92 ∷ 60 ∷ drop 2 text) kind.Hexadecimal refl (λ m h i p. never_angle (drop 2 text) m g i p))
+    (no_item_of (92 ∷ 60 ∷ drop 2 text) kind.Hexadecimal refl (λ m h i p. never_angle (drop 2 text) m g i p))
 
 -- a byte that stands alone
 pub no_angle_here : (text : List ℕ) → get_or text 0 0 ≡ 92 → get_or text 1 0 ≢ 60 → NoLongItem text
@@ -221,12 +221,16 @@ white_long : (b c : ℕ) → white b ≡ true → long_of b c ≡ None
 white_long b c h = elim (cases_Bool (eqb b 47)) [
   | inl e ↦ let f = rw (eqb-true b 47 e) at h in cc
   | inr e ↦ elim (cases_Bool (eqb b 34)) [
-  | inl f ↦ let g = rw (eqb-true b 34 f) at h in cc
-  | inr f ↦ elim (cases_Bool (eqb b 39)) [
-  | inl g ↦ let i = rw (eqb-true b 39 g) at h in cc
-  | inr g ↦ elim (cases_Bool (eqb b 92)) [
-  | inl i ↦ let j = rw (eqb-true b 92 i) at h in cc
-  | inr i ↦ rw (e, f, g, i) refl ] ] ] ]
+    | inl f ↦ let g = rw (eqb-true b 34 f) at h in cc
+    | inr f ↦ elim (cases_Bool (eqb b 39)) [
+      | inl g ↦ let i = rw (eqb-true b 39 g) at h in cc
+      | inr g ↦ elim (cases_Bool (eqb b 92)) [
+        | inl i ↦ let j = rw (eqb-true b 92 i) at h in cc
+        | inr i ↦ rw (e, f, g, i) refl
+      ]
+    ]
+  ]
+]
 
 pub no_long_white : (text : List ℕ) → white (get_or text 0 0) ≡ true → NoLongItem text
 no_long_white text h = no_long text (white_long (get_or text 0 0) (get_or text 1 0) h)

@@ -56,12 +56,16 @@ whole_item : (x y : ℕ) (r : List ℕ) → is_long x y r ≡ true → AnItem (x
 whole_item x y r h = elim (cases_Bool (eqb x 47)) [
   | inl e ↦ let f = eqb-true x 47 e in rw f (comment_whole y r (rw f at h))
   | inr e ↦ elim (cases_Bool (eqb x 34)) [
-  | inl f ↦ let g = eqb-true x 34 f in let i = rw (e, f) at h in (kind.Double, (y ∷ r, ap (λ b. b ∷ y ∷ r) g, i))
-  | inr f ↦ elim (cases_Bool (eqb x 39)) [
-  | inl g ↦ let i = eqb-true x 39 g in let j = rw (e, f, g) at h in (kind.Single, (y ∷ r, ap (λ b. b ∷ y ∷ r) i, j))
-  | inr g ↦ elim (cases_Bool (eqb x 92)) [
-  | inl i ↦ let j = eqb-true x 92 i in rw j (hexadecimal_whole y r (rw j at h))
-  | inr i ↦ let j = rw (e, f, g, i) at h in absurd (false≢true j) ] ] ] ]
+    | inl f ↦ let g = eqb-true x 34 f in let i = rw (e, f) at h in (kind.Double, (y ∷ r, ap (λ b. b ∷ y ∷ r) g, i))
+    | inr f ↦ elim (cases_Bool (eqb x 39)) [
+      | inl g ↦ let i = eqb-true x 39 g in let j = rw (e, f, g) at h in (kind.Single, (y ∷ r, ap (λ b. b ∷ y ∷ r) i, j))
+      | inr g ↦ elim (cases_Bool (eqb x 92)) [
+        | inl i ↦ let j = eqb-true x 92 i in rw j (hexadecimal_whole y r (rw j at h))
+        | inr i ↦ let j = rw (e, f, g, i) at h in absurd (false≢true j)
+      ]
+    ]
+  ]
+]
 
 -- whether bytes are an item
 some_item : (p : List ℕ) → AnItem p ⊎ (AnItem p → ⊥)

@@ -145,14 +145,14 @@ record Part (at : ℕ) (p : List Item) : Type 0 where
 part : (at : ℕ) (p : List Item) → Own p → Part at p
 part at p r = elim (cases_Bool (all_blank p)) [
   | inl e ↦ record {
-      before = bytes_of p;
-      inside = [];
-      after = [];
-      blank_before = blank_reads 0 r e;
-      blank_after = ends 0;
-      bytes_are = sym (append-nil (bytes_of p));
-      stands = let z : at + size p + 0 ≡ at + size p = omega arith in rw (e, z) refl;
-    }
+    before = bytes_of p;
+    inside = [];
+    after = [];
+    blank_before = blank_reads 0 r e;
+    blank_after = ends 0;
+    bytes_are = sym (append-nil (bytes_of p));
+    stands = let z : at + size p + 0 ≡ at + size p = omega arith in rw (e, z) refl;
+  }
   | inr e ↦
       let m = without_back p in
       let i = behind_front m in

@@ -46,9 +46,9 @@ quoting_more text at bytes k n p l h c =
       done = c.done ++ i ∷ [];
       behind = behind_more text at c.done k n l c.behind;
       goes_on = λ items.
-        let g = c.goes_on (i ∷ items) in
-        let s : plain (i ∷ items) ≡ before p (plain items) = rw h refl in
-        rw (append_assoc c.done (i ∷ []) items, g, s, before_before bytes p (plain items)) refl;
+          let g = c.goes_on (i ∷ items) in
+          let s : plain (i ∷ items) ≡ before p (plain items) = rw h refl in
+          rw (append_assoc c.done (i ∷ []) items, g, s, before_before bytes p (plain items)) refl;
     }
 
 -- one that stands for none: bad quoting, whatever follows
@@ -62,10 +62,10 @@ quoting_bad text at bytes k n l h c =
       items = (c.done ++ i ∷ []) ++ r.0;
       read = b.goes_on r.0 r.1;
       plain_is =
-        let g = c.goes_on (i ∷ r.0) in
-        let s : plain (i ∷ r.0) ≡ None = rw h refl in
-        let t : plain ((c.done ++ i ∷ []) ++ r.0) ≡ None = rw (append_assoc c.done (i ∷ []) r.0, g, s) refl in
-        sym t;
+          let g = c.goes_on (i ∷ r.0) in
+          let s : plain (i ∷ r.0) ≡ None = rw h refl in
+          let t : plain ((c.done ++ i ∷ []) ++ r.0) ≡ None = rw (append_assoc c.done (i ∷ []) r.0, g, s) refl in
+          sym t;
     }
 
 pub quoting_all : (text : List ℕ) (at : ℕ) (bytes : List ℕ) → length text ≤ at → Quoting text at bytes → StandsFor text (Some bytes)

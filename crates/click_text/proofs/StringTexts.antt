@@ -174,12 +174,16 @@ white_plain : (b : ℕ) → white b ≡ true → plain_after b ≡ mode.Plain
 white_plain b h = elim (cases_Bool (eqb b 34)) [
   | inl e ↦ let f = rw (eqb-true b 34 e) at h in cc
   | inr e ↦ elim (cases_Bool (eqb b 39)) [
-  | inl f ↦ let g = rw (eqb-true b 39 f) at h in cc
-  | inr f ↦ elim (cases_Bool (eqb b 47)) [
-  | inl g ↦ let i = rw (eqb-true b 47 g) at h in cc
-  | inr g ↦ elim (cases_Bool (eqb b 92)) [
-  | inl i ↦ let j = rw (eqb-true b 92 i) at h in cc
-  | inr i ↦ rw (e, f, g, i) refl ] ] ] ]
+    | inl f ↦ let g = rw (eqb-true b 39 f) at h in cc
+    | inr f ↦ elim (cases_Bool (eqb b 47)) [
+      | inl g ↦ let i = rw (eqb-true b 47 g) at h in cc
+      | inr g ↦ elim (cases_Bool (eqb b 92)) [
+        | inl i ↦ let j = rw (eqb-true b 92 i) at h in cc
+        | inr i ↦ rw (e, f, g, i) refl
+      ]
+    ]
+  ]
+]
 
 -- what holds behind an item: the text ends, or it is closed from there on
 abbrev Goes : List ℕ → Type 0
@@ -267,20 +271,24 @@ byte_step b rest g h = elim (cases_Bool (eqb b 34)) [
       let j : is_outside (modes mode.Double rest) ≡ true = rw f at h in
       absurd (false≢true (sym (never_left mode.Double rest refl (never_double rest i)) ∙ j))
   | inr e ↦ elim (cases_Bool (eqb b 39)) [
-  | inl f ↦
-      let k = eqb-true b 39 f in
-      let i : NoLonger 39 rest = rw k at g in
-      let j : is_outside (modes mode.Single rest) ≡ true = rw k at h in
-      absurd (false≢true (sym (never_left mode.Single rest refl (never_single rest i)) ∙ j))
-  | inr f ↦ elim (cases_Bool (eqb b 92)) [
-  | inl i ↦
-      let k = eqb-true b 92 i in
-      let s = backslash_step rest (rw k at g) (rw k at h) in (s.0, rw (e, f, i) s.1)
-  | inr i ↦ elim (cases_Bool (eqb b 47)) [
-  | inl j ↦
-      let k = eqb-true b 47 j in
-      let s = slash_step rest (rw k at g) (rw k at h) in (s.0, rw (e, f, i, j) s.1)
-  | inr j ↦ let k : is_outside (modes mode.Plain rest) ≡ true = rw (e, f, j, i) at h in (inr k, rw (e, f, i, j) refl) ] ] ] ]
+    | inl f ↦
+        let k = eqb-true b 39 f in
+        let i : NoLonger 39 rest = rw k at g in
+        let j : is_outside (modes mode.Single rest) ≡ true = rw k at h in
+        absurd (false≢true (sym (never_left mode.Single rest refl (never_single rest i)) ∙ j))
+    | inr f ↦ elim (cases_Bool (eqb b 92)) [
+      | inl i ↦
+          let k = eqb-true b 92 i in
+          let s = backslash_step rest (rw k at g) (rw k at h) in (s.0, rw (e, f, i) s.1)
+      | inr i ↦ elim (cases_Bool (eqb b 47)) [
+        | inl j ↦
+            let k = eqb-true b 47 j in
+            let s = slash_step rest (rw k at g) (rw k at h) in (s.0, rw (e, f, i, j) s.1)
+        | inr j ↦ let k : is_outside (modes mode.Plain rest) ≡ true = rw (e, f, j, i) at h in (inr k, rw (e, f, i, j) refl)
+      ]
+    ]
+  ]
+]
 
 abbrev Longest_of : List ℕ → List ℕ → Type 0
 Longest_of p rest = (j : ItemKind) (m : ℕ) → length p < m → m ≤ length (p ++ rest) → IsItem j (take m (p ++ rest)) → ⊥

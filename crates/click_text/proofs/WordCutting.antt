@@ -78,9 +78,9 @@ words_end text at depth words word k n l z h c =
       behind = behind_more text at c.done k n l c.behind;
       shallow = omega arith;
       goes_on = λ items.
-        let g = c.goes_on (i ∷ items) in
-        let s : rest_of depth word (spaced (i ∷ items)) ≡ word_before word (rest_of depth [] (spaced items)) = rw (z, spaced_kind k i.bytes, h) refl in
-        rw (append_assoc c.done (i ∷ []) items, g, s, before_append word (rest_of depth [] (spaced items)), append_assoc) refl;
+          let g = c.goes_on (i ∷ items) in
+          let s : rest_of depth word (spaced (i ∷ items)) ≡ word_before word (rest_of depth [] (spaced items)) = rw (z, spaced_kind k i.bytes, h) refl in
+          rw (append_assoc c.done (i ∷ []) items, g, s, before_append word (rest_of depth [] (spaced items)), append_assoc) refl;
     }
 
 -- another item
@@ -93,9 +93,9 @@ words_more text at depth words word k n l h c =
       behind = behind_more text at c.done k n l c.behind;
       shallow = omega (arith, depth_rises k depth, item_some _ k n l, c.shallow);
       goes_on = λ items.
-        let g = c.goes_on (i ∷ items) in
-        let s : rest_of depth word (spaced (i ∷ items)) ≡ rest_of (depth_behind k depth) (word ++ (spaced_as k i.bytes).bytes) (spaced items) = rw (spaced_kind k i.bytes, h, spaced_depth k i.bytes depth) refl in
-        rw (append_assoc c.done (i ∷ []) items, g, s) refl;
+          let g = c.goes_on (i ∷ items) in
+          let s : rest_of depth word (spaced (i ∷ items)) ≡ rest_of (depth_behind k depth) (word ++ (spaced_as k i.bytes).bytes) (spaced items) = rw (spaced_kind k i.bytes, h, spaced_depth k i.bytes depth) refl in
+          rw (append_assoc c.done (i ∷ []) items, g, s) refl;
     }
 
 pub words_all : (text : List ℕ) (at depth : ℕ) (words : List (List ℕ)) (word : List ℕ) → length text ≤ at → WordCutting text at depth words word → AreWords text (words ++ word_before word [])

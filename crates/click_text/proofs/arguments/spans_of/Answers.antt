@@ -12,7 +12,7 @@ pub items-preserved-in_ok-push : goal.items-preserved-in_ok-push
 items-preserved-in_ok-push c =
     let l = c.items in
     rw (c.in_ok-push.ensures.items, c.argument.ensures) (cutting_comma c.args.text.now l.at l.depth l.spans.items l.found c.first_item-kind.result.0 c.first_item-kind.result.1 c.first_item-kind.ensures.longest
-      c.if-depth-eq0.true (sym c.is_comma.ensures ∙ c.if-is_comma.true) l.invariant)
+    c.if-depth-eq0.true (sym c.is_comma.ensures ∙ c.if-is_comma.true) l.invariant)
 
 pub items-preserved : goal.items-preserved
 items-preserved c =
