@@ -138,13 +138,14 @@ comma_solid kind.Single p h = refl
 comma_solid kind.Hexadecimal p h = refl
 comma_solid (kind.Byte b) p h = refl
 
-one_byte : (p : List ℕ) (k : ItemKind) → is_comma k ≡ true → IsItem k p → length p ≡ 1
-one_byte p kind.White h f = cc
-one_byte p kind.Comment h f = cc
-one_byte p kind.Double h f = cc
-one_byte p kind.Single h f = cc
-one_byte p kind.Hexadecimal h f = cc
-one_byte p (kind.Byte b) h (w, e) = rw e refl
+-- a comma is that byte
+pub comma_form : (k : ItemKind) (p : List ℕ) → is_comma k ≡ true → IsItem k p → p ≡ 44 ∷ []
+comma_form kind.White p h f = cc
+comma_form kind.Comment p h f = cc
+comma_form kind.Double p h f = cc
+comma_form kind.Single p h f = cc
+comma_form kind.Hexadecimal p h f = cc
+comma_form (kind.Byte b) p h (w, e) = rw (e, eqb-true b 44 h) refl
 
 pub depth_rises : (k : ItemKind) (depth : ℕ) → depth_behind k depth ≤ depth + 1
 depth_rises kind.White depth = omega arith
@@ -181,7 +182,7 @@ pub cutting_comma : (text : List ℕ) (at depth : ℕ) (spans : List Span) (foun
 cutting_comma text at depth spans found k n l z h c =
     let i = item k (bytes_at text at n) in
     let b = solid_more c.done i (comma_solid k i.bytes h) in
-    let o : n ≡ 1 = sym (bytes_long text at k n l) ∙ one_byte i.bytes k h l.form in
+    let o : n ≡ 1 = sym (bytes_long text at k n l) ∙ ap length (comma_form k i.bytes h l.form) in
     record {
       done = c.done ++ i ∷ [];
       behind = behind_more text at c.done k n l c.behind;

@@ -15,6 +15,7 @@ use Rattle.click_text.specs.Items.{is_plain, leaves, IsItem, LongestItem, NoLong
 use Rattle.click_text.proofs.Beginnings.{family, begins, begins_as, alone}
 use Rattle.click_text.proofs.Words.{front_splits}
 use Rattle.click_text.proofs.Longest.{as_one, as_two}
+use Rattle.click_text.proofs.Reading.{equal_by}
 
 -- what leads out of a quote does so nowhere before
 pub leaves_once : (m : Mode) (p : List ℕ) (y : ℕ) (ys : List ℕ) → leaves m p ≡ true → leaves m (p ++ y ∷ ys) ≡ false
@@ -178,7 +179,8 @@ angle_item text n z e f l a =
     rw s (subst (λ t. LongestItem t kind.Hexadecimal (suc (suc n))) (sym (as_two text 92 60 z e f))
     (long_item_of (92 ∷ 60 ∷ r) kind.Hexadecimal (suc (suc n)) refl (omega arith) (omega arith) (take n r, refl, a) (λ m h i p. angle_longer r n m a h i p)))
 
-abbrev Never : Mode → List ℕ → Type 0
+-- nothing leads out of the quote
+abbrev pub Never : Mode → List ℕ → Type 0
 Never q r = (n : ℕ) → n ≤ length r → leaves q (take n r) ≡ false
 
 never_double : (r : List ℕ) (m : ℕ) → Never mode.Double r → m ≤ length (34 ∷ r) → IsItem kind.Double (take m (34 ∷ r)) → ⊥
@@ -247,9 +249,6 @@ pub byte_item : (text : List ℕ) → 0 < length text → white (get_or text 0 0
 byte_item text z h g = let s = short_item text z g in rw h at s
 
 -- the longest item is one
-equal_by : (a b : ℕ) → (a < b → ⊥) → (b < a → ⊥) → a ≡ b
-equal_by a b h k = omega arith
-
 pub same_len : (text : List ℕ) (k j : ItemKind) (n m : ℕ) → LongestItem text k n → LongestItem text j m → n ≡ m
 same_len text k j n m l r = equal_by n m (λ h. l.longest j m h r.within r.form) (λ h. r.longest k n h l.within l.form)
 

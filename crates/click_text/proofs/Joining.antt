@@ -2,7 +2,7 @@
 use Rattle.std.proofs.Common.{◌≡◌, ◌≢◌, ℕ, zero, suc, ◌+◌, ◌-◌, ◌<◌, ◌≤◌, List, [], ◌∷◌, ◌++◌, length, take, drop, Bool, true, false, eqb, refl, sym, ◌∙◌, ap, subst, arith, inl, inr, ◌⊎◌, append_assoc, length-append, length-take, Some}
 use Rattle.std.specs.Prelude.{if◌then◌else◌, ◌&&◌}
 use Rattle.std.specs.List.{list_all}
-use Rattle.std.proofs.lemmas.Bool.{cases_Bool, and_parts, eqb-true}
+use Rattle.std.proofs.lemmas.Bool.{cases_Bool, and_parts}
 use Rattle.std.proofs.lemmas.List.{append-nil, take-append-drop, take-append-le}
 use Rattle.click_text.specs.declared.syntax.Span.{Span}
 use Rattle.click_text.specs.declared.syntax.Ending.TheVariants as ending
@@ -16,7 +16,7 @@ use Rattle.click_text.specs.Arguments.{is_comma, all_blank, front, without_back,
 use Rattle.click_text.proofs.Beginnings.{family, begins, begins_as, kind_from}
 use Rattle.click_text.proofs.Longest.{longest_blank}
 use Rattle.click_text.proofs.ItemReading.{items_once, items_are_text, item_some, bytes_of-append, size-append}
-use Rattle.click_text.proofs.Cutting.{all_put, all_put-put, nothing_put}
+use Rattle.click_text.proofs.Cutting.{all_put, all_put-put, nothing_put, comma_form}
 
 take_own : (a b : List ℕ) → take (length a) (a ++ b) ≡ a
 take_own [] b = refl
@@ -180,14 +180,6 @@ joined_more at p rest spans r s =
     let h = part at p r in
     let z : at + size p ≡ at + length h.before + length h.inside + length h.after = omega (arith, ap length h.bytes_are, length-append h.before (h.inside ++ h.after), length-append h.inside h.after) in
     rw (h.stands, h.bytes_are) (more at h.before h.inside h.after rest spans h.blank_before h.blank_after (rw z at s))
-
-comma_form : (k : ItemKind) (p : List ℕ) → is_comma k ≡ true → IsItem k p → p ≡ 44 ∷ []
-comma_form kind.White p h f = cc
-comma_form kind.Comment p h f = cc
-comma_form kind.Double p h f = cc
-comma_form kind.Single p h f = cc
-comma_form kind.Hexadecimal p h f = cc
-comma_form (kind.Byte b) p h (w, e) = rw (e, eqb-true b 44 h) refl
 
 comma_bytes : {text : List ℕ} {items : List Item} (i : Item) (rest : List Item) → AreItems text items → items ≡ i ∷ rest → is_comma i.kind ≡ true → i.bytes ≡ 44 ∷ []
 comma_bytes i rest ended e h = cc

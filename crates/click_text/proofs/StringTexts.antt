@@ -13,6 +13,8 @@ use Rattle.click_text.specs.Strings.{mode_after, plain_after, is_outside, depth_
 use Rattle.click_text.specs.Pieces.{white, ends_comment, IsPiece}
 use Rattle.click_text.specs.Items.{is_plain, leaves, IsItem, LongestItem, Item, item, AreItems, ended, next, bytes_of}
 use Rattle.click_text.specs.StringText.{IsStringText, begins_with, opens, leaves_open}
+use Rattle.click_text.proofs.Longest.{in_line}
+use Rattle.click_text.proofs.ItemForms.{Never}
 use Rattle.click_text.proofs.ItemReading.{items_are_text, items_once}
 
 -- the mode behind some bytes
@@ -74,9 +76,6 @@ ended_plain (b ∷ c ∷ d ∷ r) h = elim (cases_Bool (eqb b 42)) [
 ]
 
 -- a line goes on up to its end
-abbrev in_line : ℕ → Bool
-in_line b = if eqb b 10 then false else true
-
 not_line_feed : (b : ℕ) → in_line b ≡ true → eqb b 10 ≡ false
 not_line_feed b h = elim (cases_Bool (eqb b 10)) [ inl e ↦ let g = rw e at h in absurd (false≢true g) | inr e ↦ e ]
 
@@ -126,9 +125,6 @@ inside_after mode.Angle b h g = elim (cases_Bool (eqb b 62)) [
 inside_after mode.Line b h g = cc
 inside_after mode.Block b h g = cc
 inside_after mode.Star b h g = cc
-
-abbrev Never : Mode → List ℕ → Type 0
-Never m r = (n : ℕ) → n ≤ length r → leaves m (take n r) ≡ false
 
 never_more : (m : Mode) (b : ℕ) (r : List ℕ) → is_plain (mode_after m b) ≡ false → Never m (b ∷ r) → Never (mode_after m b) r
 never_more m b r e h zero l = refl

@@ -1,5 +1,5 @@
 -- What the code keeps while it reads a configuration string. Its private contracts speak of it.
-use Rattle.std.specs.Prelude.{◌≡◌, ℕ, ◌<◌, List, ◌++◌, Bool, true, false, Option, Some, None, if◌then◌else◌}
+use Rattle.std.specs.Prelude.{◌≡◌, ℕ, ◌<◌, List, ◌++◌, length, eqb, Bool, true, false, Option, Some, None, if◌then◌else◌}
 use Rattle.click_text.specs.declared.syntax.Span.{Span}
 use Rattle.click_text.specs.declared.items.ItemKind.{ItemKind}
 use Rattle.click_text.specs.declared.unquote.Escape.{Escape}
@@ -19,6 +19,11 @@ grown_to None a b = Some (span a b)
 -- what was found of it with an item between two places
 abbrev pub grown : Option Span → ItemKind → ℕ → ℕ → Option Span
 grown f k a b = if blank_kind k then f else grown_to f a b
+
+-- no argument has come, and nothing was found of one
+abbrev pub is_nothing : List Span → Option Span → Bool
+is_nothing spans None = eqb (length spans) 0
+is_nothing spans (Some s) = false
 
 -- a first digit is worth less than 16
 abbrev pub fits_digit : Escape → Type 0

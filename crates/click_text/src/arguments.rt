@@ -3,7 +3,7 @@
 ghost use Rattle.std.specs.Prelude.{◌≡◌, ℕ, length, IfOk, IfErr};
 ghost use Rattle.click_text.specs.Faults.{no_memory};
 ghost use Rattle.click_text.specs.Arguments.{is_comma, AreArguments};
-ghost use Rattle.click_text.specs.Kept.{found_or, grown};
+ghost use Rattle.click_text.specs.Kept.{found_or, grown, is_nothing};
 
 use crate::items::{ItemKind, first_item};
 use crate::syntax::{Span, TextFault};
@@ -44,6 +44,16 @@ fn grown(found: Option<Span>, kind: ItemKind, start: usize, end: usize) -> Optio
     }
 }
 
+/// No argument has come, and nothing was found of one.
+fn is_nothing(spans: &[Span], found: Option<Span>) -> bool
+    ensures { result ≡ is_nothing spans.now found }
+{
+    match found {
+        None => spans.is_empty(),
+        Some(_) => false,
+    }
+}
+
 /// The arguments of a configuration string.
 fn spans_of(alloc: Global, text: &[u8]) -> Result<Vec<Span>, AllocError>
     ensures { IfOk result (λ spans. AreArguments text.now spans.items) }
@@ -64,7 +74,7 @@ fn spans_of(alloc: Global, text: &[u8]) -> Result<Vec<Span>, AllocError>
         }
         at = end;
     }
-    if spans.is_empty() && found.is_none() {
+    if is_nothing(spans.as_slice(), found) {
         return Ok(spans);
     }
     spans.push(argument(found, at))?;
