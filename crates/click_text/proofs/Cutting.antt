@@ -1,14 +1,12 @@
 -- The arguments of a text, as they are read from the front.
-use Rattle.std.proofs.Common.{◌≡◌, ◌≢◌, ℕ, zero, suc, ◌+◌, ◌-◌, ◌<◌, ◌≤◌, List, [], ◌∷◌, ◌++◌, length, take, drop, Bool, true, false, eqb, Option, Some, None, refl, sym, ◌∙◌, ap, subst, arith, inl, inr, ◌⊎◌, append_assoc, length-append}
+use Rattle.std.proofs.Common.{◌≡◌, ℕ, ◌+◌, ◌-◌, ◌≤◌, List, [], ◌∷◌, ◌++◌, length, take, drop, Bool, true, false, eqb, Option, Some, None, refl, sym, ◌∙◌, ap, arith, inl, inr, append_assoc}
 use Rattle.std.specs.Prelude.{if◌then◌else◌, ◌&&◌}
-use Rattle.std.specs.List.{list_all}
 use Rattle.std.proofs.lemmas.Bool.{cases_Bool, and_parts, eqb-true}
 use Rattle.std.proofs.lemmas.List.{append-nil}
 use Rattle.click_text.specs.declared.syntax.Span.{Span}
 use Rattle.click_text.specs.declared.items.ItemKind.{ItemKind}
 use Rattle.click_text.specs.declared.items.ItemKind.TheVariants as kind
-use Rattle.click_text.specs.Pieces.{span}
-use Rattle.click_text.specs.Items.{Item, item, IsItem, LongestItem, AreItems, bytes_of, size, is_blank, depth_behind, put, parted}
+use Rattle.click_text.specs.Items.{Item, item, IsItem, LongestItem, size, is_blank, depth_behind, put, parted}
 use Rattle.click_text.specs.Arguments.{is_comma, all_blank, front, without_back, argument, arguments_from, cut, AreArguments}
 use Rattle.click_text.specs.Kept.{found_or, grown_to, grown}
 use Rattle.click_text.proofs.ItemReading.{Behind, behind_more, behind_all, none_behind, bytes_at, bytes_long, size-append, item_some}

@@ -1,14 +1,12 @@
 -- Each text has a list of items.
-use Rattle.std.proofs.Common.{◌≡◌, ◌≢◌, ℕ, zero, suc, ◌+◌, ◌-◌, ◌<◌, ◌≤◌, List, [], ◌∷◌, ◌++◌, length, get_or, take, drop, Bool, true, false, eqb, Option, Some, None, refl, sym, ◌∙◌, ap, subst, arith, inl, inr, ◌⊎◌, length-take, length-drop}
+use Rattle.std.proofs.Common.{◌≡◌, ℕ, zero, suc, ◌<◌, ◌≤◌, List, [], ◌∷◌, length, take, drop, Bool, true, false, eqb, refl, sym, ◌∙◌, ap, subst, arith, inl, inr, ◌⊎◌, length-drop}
 use Rattle.std.specs.Prelude.{if◌then◌else◌}
 use Rattle.std.specs.List.{list_all}
 use Rattle.std.proofs.lemmas.Bool.{false≢true, cases_Bool, eqb-true}
 use Rattle.click_text.specs.declared.items.ItemKind.{ItemKind}
 use Rattle.click_text.specs.declared.items.ItemKind.TheVariants as kind
-use Rattle.click_text.specs.declared.lexer.Piece.TheVariants as piece
-use Rattle.click_text.specs.declared.strings.Mode.{Mode}
 use Rattle.click_text.specs.declared.strings.Mode.TheVariants as mode
-use Rattle.click_text.specs.Pieces.{ends_comment, IsPiece}
+use Rattle.click_text.specs.Pieces.{ends_comment}
 use Rattle.click_text.specs.Items.{leaves, IsItem, LongestItem, Item, item, AreItems, ended, next}
 use Rattle.click_text.proofs.ItemForms.{no_bytes, short_of, short_form}
 use Rattle.click_text.proofs.ItemReading.{item_some}

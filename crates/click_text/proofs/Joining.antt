@@ -1,7 +1,6 @@
 -- The arguments of a text, joined by commas, are the text but for white space and comments.
-use Rattle.std.proofs.Common.{◌≡◌, ◌≢◌, ℕ, zero, suc, ◌+◌, ◌-◌, ◌<◌, ◌≤◌, List, [], ◌∷◌, ◌++◌, length, take, drop, Bool, true, false, eqb, refl, sym, ◌∙◌, ap, subst, arith, inl, inr, ◌⊎◌, append_assoc, length-append, length-take, Some}
+use Rattle.std.proofs.Common.{◌≡◌, ◌≢◌, ℕ, ◌+◌, ◌≤◌, List, [], ◌∷◌, ◌++◌, length, take, drop, true, false, eqb, refl, sym, ◌∙◌, ap, subst, arith, inl, inr, append_assoc, length-append, length-take, Some}
 use Rattle.std.specs.Prelude.{if◌then◌else◌, ◌&&◌}
-use Rattle.std.specs.List.{list_all}
 use Rattle.std.proofs.lemmas.Bool.{cases_Bool, and_parts}
 use Rattle.std.proofs.lemmas.List.{append-nil, take-append-drop, take-append-le}
 use Rattle.click_text.specs.declared.syntax.Span.{Span}
@@ -11,11 +10,10 @@ use Rattle.click_text.specs.declared.items.ItemKind.TheVariants as kind
 use Rattle.click_text.specs.declared.lexer.Piece.{Piece}
 use Rattle.click_text.specs.declared.lexer.Piece.TheVariants as piece
 use Rattle.click_text.specs.Pieces.{span, Longest, IsPiece, Reads, ends, passes, IsBlank}
-use Rattle.click_text.specs.Items.{Item, item, IsItem, LongestItem, AreItems, ended, next, bytes_of, size, is_blank, depth_behind, put, parted}
+use Rattle.click_text.specs.Items.{Item, item, IsItem, LongestItem, AreItems, ended, next, bytes_of, size, is_blank, depth_behind, parted}
 use Rattle.click_text.specs.Arguments.{is_comma, all_blank, front, without_back, argument, arguments_from, cut, AreArguments, InOrder, AreJoined, last, more, IsTextOf}
 use Rattle.click_text.proofs.Beginnings.{family, begins, begins_as, kind_from}
-use Rattle.click_text.proofs.Longest.{longest_blank}
-use Rattle.click_text.proofs.ItemReading.{items_once, items_are_text, item_some, bytes_of-append, size-append}
+use Rattle.click_text.proofs.ItemReading.{items_are_text, bytes_of-append, size-append}
 use Rattle.click_text.proofs.Cutting.{all_put, all_put-put, nothing_put, comma_form}
 
 take_own : (a b : List ℕ) → take (length a) (a ++ b) ≡ a

@@ -1,12 +1,10 @@
 -- What an argument stands for, as it is read from the front.
-use Rattle.std.proofs.Common.{◌≡◌, ℕ, zero, suc, ◌+◌, ◌-◌, ◌<◌, ◌≤◌, List, [], ◌∷◌, ◌++◌, length, get_or, take, drop, Bool, true, false, eqb, Option, Some, None, refl, sym, ◌∙◌, ap, arith, inl, inr, append_assoc}
-use Rattle.std.specs.Prelude.{if◌then◌else◌, ◌&&◌, option_and_then}
-use Rattle.std.proofs.lemmas.Bool.{cases_Bool}
+use Rattle.std.proofs.Common.{◌≡◌, ℕ, ◌+◌, ◌-◌, ◌<◌, ◌≤◌, List, [], ◌∷◌, ◌++◌, length, get_or, take, drop, Option, Some, None, refl, sym, append_assoc}
 use Rattle.std.proofs.lemmas.List.{append-nil, drop_more}
 use Rattle.click_text.specs.declared.unquote.Escape.{Escape}
 use Rattle.click_text.specs.declared.unquote.Step.{Step}
 use Rattle.click_text.specs.declared.items.ItemKind.{ItemKind}
-use Rattle.click_text.specs.Items.{Item, item, LongestItem, AreItems}
+use Rattle.click_text.specs.Items.{Item, item, LongestItem}
 use Rattle.click_text.specs.Unquote.{before, added, stepped, unescaped, plain_item, plain, StandsFor}
 use Rattle.click_text.proofs.ItemReading.{Behind, behind_more, behind_all, none_behind, bytes_at}
 use Rattle.click_text.proofs.ItemsExist.{reading}

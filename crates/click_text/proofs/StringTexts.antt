@@ -1,8 +1,8 @@
 -- In the text of a configuration string no quote and no comment is left open.
-use Rattle.std.proofs.Common.{◌≡◌, ◌≢◌, ℕ, zero, suc, ◌+◌, ◌-◌, ◌<◌, ◌≤◌, List, [], ◌∷◌, ◌++◌, length, get_or, take, drop, Bool, true, false, eqb, refl, sym, ◌∙◌, ap, subst, arith, inl, inr, ◌⊎◌, length-take, length-append}
-use Rattle.std.specs.Prelude.{if◌then◌else◌, ◌&&◌}
+use Rattle.std.proofs.Common.{◌≡◌, ℕ, zero, suc, ◌<◌, ◌≤◌, List, [], ◌∷◌, ◌++◌, length, take, drop, Bool, true, false, eqb, refl, sym, ◌∙◌, ap, arith, inl, inr, ◌⊎◌, length-take, length-append}
+use Rattle.std.specs.Prelude.{◌&&◌}
 use Rattle.std.specs.List.{list_all}
-use Rattle.std.proofs.lemmas.Bool.{false≢true, cases_Bool, and_parts, eqb-true, ne_eqb, false_from_ne_true}
+use Rattle.std.proofs.lemmas.Bool.{false≢true, cases_Bool, and_parts, eqb-true, false_from_ne_true}
 use Rattle.std.proofs.lemmas.List.{take-append-drop}
 use Rattle.click_text.specs.declared.strings.Mode.{Mode}
 use Rattle.click_text.specs.declared.strings.Mode.TheVariants as mode
@@ -11,7 +11,7 @@ use Rattle.click_text.specs.declared.items.ItemKind.{ItemKind}
 use Rattle.click_text.specs.declared.items.ItemKind.TheVariants as kind
 use Rattle.click_text.specs.Strings.{mode_after, plain_after, is_outside, depth_after, is_last, closes}
 use Rattle.click_text.specs.Pieces.{white, ends_comment, IsPiece}
-use Rattle.click_text.specs.Items.{is_plain, leaves, IsItem, LongestItem, Item, item, AreItems, ended, next, bytes_of}
+use Rattle.click_text.specs.Items.{is_plain, leaves, IsItem, LongestItem, Item, AreItems, ended, next, bytes_of}
 use Rattle.click_text.specs.StringText.{IsStringText, begins_with, opens, leaves_open}
 use Rattle.click_text.proofs.Longest.{in_line}
 use Rattle.click_text.proofs.ItemForms.{Never}

@@ -1,11 +1,11 @@
 -- The words of an argument, as they are read from the front.
-use Rattle.std.proofs.Common.{◌≡◌, ℕ, zero, suc, ◌+◌, ◌-◌, ◌<◌, ◌≤◌, List, [], ◌∷◌, ◌++◌, length, take, drop, Bool, true, false, eqb, refl, sym, ◌∙◌, ap, arith, inl, inr, append_assoc}
+use Rattle.std.proofs.Common.{◌≡◌, ℕ, ◌+◌, ◌-◌, ◌≤◌, List, [], ◌∷◌, ◌++◌, length, take, drop, true, false, eqb, refl, sym, ◌∙◌, arith, inl, inr, append_assoc}
 use Rattle.std.specs.Prelude.{if◌then◌else◌, ◌&&◌}
 use Rattle.std.proofs.lemmas.Bool.{cases_Bool}
 use Rattle.std.proofs.lemmas.List.{append-nil}
 use Rattle.click_text.specs.declared.items.ItemKind.{ItemKind}
 use Rattle.click_text.specs.declared.items.ItemKind.TheVariants as kind
-use Rattle.click_text.specs.Items.{Item, item, LongestItem, AreItems, bytes_of, blank_kind, depth_behind, parted}
+use Rattle.click_text.specs.Items.{Item, item, LongestItem, bytes_of, blank_kind, depth_behind, parted}
 use Rattle.click_text.specs.Words.{spaced_as, spaced, is_space, word_before, words_among, words_of, AreWords}
 use Rattle.click_text.proofs.ItemReading.{Behind, behind_more, behind_all, none_behind, bytes_at, bytes_of-append, item_some}
 use Rattle.click_text.proofs.Cutting.{all_put, all_put-put, nothing_put, depth_rises}

@@ -1,11 +1,11 @@
 -- The arguments of a configuration string (Click manual, "Configuration strings").
-use Rattle.std.specs.Prelude.{◌≡◌, ◌⊎◌, ℕ, ◌+◌, ◌≤◌, List, [], ◌∷◌, ◌++◌, length, Bool, true, false, ◌&&◌, eqb, if◌then◌else◌}
+use Rattle.std.specs.Prelude.{◌≡◌, ◌⊎◌, ℕ, ◌+◌, ◌≤◌, List, [], ◌∷◌, ◌++◌, length, Bool, false, eqb, if◌then◌else◌}
 use Rattle.std.specs.List.{list_all}
 use Rattle.click_text.specs.declared.syntax.Span.{Span}
 use Rattle.click_text.specs.declared.items.ItemKind.{ItemKind}
 use Rattle.click_text.specs.declared.items.ItemKind.TheVariants as kind
 use Rattle.click_text.specs.Pieces.{span, IsBlank}
-use Rattle.click_text.specs.Items.{Item, item, AreItems, size, is_blank, parted}
+use Rattle.click_text.specs.Items.{Item, AreItems, size, is_blank, parted}
 
 abbrev pub is_comma : ItemKind → Bool
 is_comma (kind.Byte b) = eqb b 44

@@ -1,6 +1,5 @@
 -- The text of a configuration string as a list of items (Click manual, "Configuration strings"), each the longest that begins there.
 use Rattle.std.specs.Prelude.{◌≡◌, ◌⊎◌, ℕ, ◌+◌, ◌-◌, ◌<◌, ◌≤◌, List, [], ◌∷◌, ◌++◌, length, take, drop, Bool, true, false, ◌&&◌, eqb, if◌then◌else◌}
-use Rattle.std.specs.List.{list_all}
 use Rattle.click_text.specs.declared.items.ItemKind.{ItemKind}
 use Rattle.click_text.specs.declared.items.ItemKind.TheVariants as kind
 use Rattle.click_text.specs.declared.lexer.Piece.TheVariants as piece

@@ -8,7 +8,7 @@ use Rattle.click_text.specs.declared.unquote.Escape.{Escape}
 use Rattle.click_text.specs.declared.unquote.Escape.TheVariants as escape
 use Rattle.click_text.specs.Pieces.{digit}
 use Rattle.click_text.specs.Spans.{without_ends}
-use Rattle.click_text.specs.Items.{Item, item, AreItems}
+use Rattle.click_text.specs.Items.{Item, AreItems}
 
 -- what a hexadecimal digit is worth
 abbrev pub worth : ℕ → Option ℕ

@@ -1,7 +1,6 @@
-use Rattle.std.proofs.Common.{◌≡◌, ◌∙◌, ℕ, Bool, true, sym, false, eqb, arith, List, [], ◌∷◌, Option, Some, None, length, vec_len, refl}
-use Rattle.std.specs.Option.{is_some}
+use Rattle.std.proofs.Common.{◌≡◌, ◌∙◌, true, sym, false, eqb, arith, List, [], ◌∷◌, Option, Some, None, length, refl}
 use Rattle.click_text.specs.declared.syntax.Span.{Span}
-use Rattle.std.specs.Prelude.{◌&&◌, not}
+use Rattle.std.specs.Prelude.{◌&&◌}
 use Rattle.std.proofs.lemmas.Bool.{eqb-true, false≢true}
 use Rattle.click_text.specs.Kept.{is_nothing}
 use Rattle.click_text.proofs.Cutting.{cutting_comma, both_false, cutting_more, cutting_blank, cutting_all}

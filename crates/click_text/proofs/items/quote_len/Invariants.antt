@@ -1,4 +1,4 @@
-use Rattle.std.proofs.Common.{◌≡◌, ℕ, ◌≤◌, ◌++◌, List, ◌∷◌, length, take, false}
+use Rattle.std.proofs.Common.{◌≡◌, ℕ, ◌≤◌, ◌++◌, List, ◌∷◌, take, false}
 use Rattle.click_text.specs.Items.{leaves}
 use Rattle.click_text.proofs.items.quote_len.Given as goal
 

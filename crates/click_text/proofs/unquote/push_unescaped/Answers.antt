@@ -1,4 +1,4 @@
-use Rattle.std.proofs.Common.{◌≡◌, ◌∙◌, ◌++◌, refl, append_assoc}
+use Rattle.std.proofs.Common.{◌++◌, refl, append_assoc}
 use Rattle.std.proofs.lemmas.List.{append-nil}
 use Rattle.click_text.specs.declared.unquote.Escape.TheVariants as escape
 use Rattle.click_text.specs.Unquote.{unescaped, added}
