@@ -207,7 +207,7 @@ no_string text z e g =
     (none_of (40 ∷ drop 1 text) piece.String refl (λ x. cc) (λ m l. never_closed (drop 1 text) m g l))
 
 -- comments up to the end of the line
-abbrev in_line : ℕ → Bool
+abbrev pub in_line : ℕ → Bool
 in_line b = if eqb b 10 then false else true
 
 line_longer : (r : List ℕ) (n m : ℕ) → (n < length r → get_or r n 0 ≡ 10) → suc (suc n) < m → m ≤ length (47 ∷ 47 ∷ r) → IsPiece piece.LineComment (take m (47 ∷ 47 ∷ r)) → ⊥

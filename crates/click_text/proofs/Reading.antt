@@ -25,7 +25,7 @@ pub some_text : (text : List ℕ) (k : Piece) (n : ℕ) → Longest text k n →
 some_text [] k n h = absurd (no_empty k n h.form)
 some_text (x ∷ r) k n h = omega arith
 
-equal_by : (a b : ℕ) → (a < b → ⊥) → (b < a → ⊥) → a ≡ b
+pub equal_by : (a b : ℕ) → (a < b → ⊥) → (b < a → ⊥) → a ≡ b
 equal_by a b h k = omega arith
 
 pub same_len : (text : List ℕ) (k j : Piece) (n m : ℕ) → Longest text k n → Longest text j m → n ≡ m

@@ -1,8 +1,14 @@
+pub mod Arguments
 pub mod Faults
 pub mod Grammar
+pub mod Items
+pub mod Kept
 pub mod Machine
 pub mod Marks
 pub mod Pieces
 pub mod Spans
 pub mod Spelling
+pub mod StringText
 pub mod Strings
+pub mod Unquote
+pub mod Words

@@ -68,7 +68,7 @@ impl Piece {
     }
 }
 
-fn is_white(byte: u8) -> bool
+pub(crate) fn is_white(byte: u8) -> bool
     ensures { result ≡ white byte }
 {
     byte == b' ' || (9 <= byte && byte <= 13)
@@ -220,7 +220,7 @@ fn mark(byte: u8) -> Option<Piece>
 }
 
 /// The comment that begins a text, which begins with `/`.
-fn comment(text: &[u8]) -> Option<(Piece, usize)>
+pub(crate) fn comment(text: &[u8]) -> Option<(Piece, usize)>
     requires some { 0 < length text.now }
     requires first { slice_index text.now 0 ≡ 47 }
     ensures some { IfSome result (λ found. Longest text.now found.0 found.1) }

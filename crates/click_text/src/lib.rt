@@ -6,6 +6,10 @@ ghost use Rattle.click_text.specs.declared.syntax.Config.{Config};
 ghost use Rattle.click_text.specs.Faults.{IsMemoryOr};
 ghost use Rattle.click_text.specs.Spelling.{longest_text, too_large, Spells, IsAnswered, IsGiven};
 
+pub mod argument_laws;
+pub mod argument_words;
+pub mod arguments;
+pub mod items;
 pub mod laws;
 pub mod lexer;
 pub mod parser;
@@ -15,6 +19,7 @@ pub mod syntax;
 #[cfg(test)]
 mod tests;
 pub mod tokens;
+pub mod unquote;
 
 use lexer::scan;
 use parser::config_of;

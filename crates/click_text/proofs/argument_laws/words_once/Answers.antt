@@ -1,0 +1,7 @@
+use Rattle.std.proofs.Common.{◌∙◌, sym, ap}
+use Rattle.click_text.specs.Words.{words_of}
+use Rattle.click_text.proofs.ItemReading.{items_once}
+use Rattle.click_text.proofs.argument_laws.words_once.Goals as goal
+
+pub returns : goal.returns
+returns c = λ text a b h k. h.cuts ∙ ap words_of (items_once h.read k.read) ∙ sym k.cuts

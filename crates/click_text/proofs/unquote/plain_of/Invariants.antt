@@ -1,0 +1,9 @@
+use Rattle.std.proofs.Common.{◌-◌, length}
+use Rattle.click_text.proofs.Quoting.{Quoting}
+use Rattle.click_text.proofs.unquote.plain_of.Given as goal
+
+abbrev pub invariant-items : goal.invariant-items
+invariant-items l = Quoting l.argument l.at l.bytes.items
+
+abbrev pub decreases-items : goal.decreases-items
+decreases-items l = length l.argument - l.at

@@ -1,0 +1,10 @@
+use Rattle.std.proofs.Common.{◌≡◌, ℕ, ◌++◌, List, drop}
+use Rattle.click_text.specs.declared.unquote.Escape.TheVariants as escape
+use Rattle.click_text.specs.Unquote.{unescaped, before}
+use Rattle.click_text.specs.Kept.{fits_digit}
+use Rattle.click_text.proofs.unquote.push_unescaped.Given as goal
+
+-- what was added is what the bytes so far stand for, and the others go on from here
+abbrev pub invariant-loop-byte : goal.invariant-loop-byte
+invariant-loop-byte l =
+    (p : List ℕ) × (l.to.items ≡ l.initial.to.items ++ p) × (unescaped escape.Clear l.bytes ≡ before p (unescaped l.escape (drop l.byte-index l.bytes))) × fits_digit l.escape

@@ -1,0 +1,177 @@
+//! The arguments of a configuration string.
+
+ghost use Rattle.std.specs.Prelude.{◌≡◌, ℕ, length, IfOk, IfErr};
+ghost use Rattle.click_text.specs.Faults.{no_memory};
+ghost use Rattle.click_text.specs.Arguments.{is_comma, AreArguments};
+ghost use Rattle.click_text.specs.Kept.{found_or, grown, is_nothing};
+
+use crate::items::{ItemKind, first_item};
+use crate::syntax::{Span, TextFault};
+use std::alloc::{AllocError, Global};
+
+fn is_comma(kind: ItemKind) -> bool
+    ensures { result ≡ is_comma kind }
+{
+    match kind {
+        ItemKind::Byte(byte) => byte == b',',
+        _ => false,
+    }
+}
+
+/// Where an argument stands that ends at a place, where that much of it was found.
+fn argument(found: Option<Span>, end: usize) -> Span
+    ensures { result ≡ found_or found end }
+{
+    match found {
+        Some(span) => span,
+        None => Span { start: end, end },
+    }
+}
+
+/// Where what was found stands with an item, which begins at a place and ends at another.
+fn grown(found: Option<Span>, kind: ItemKind, start: usize, end: usize) -> Option<Span>
+    ensures { result ≡ grown found kind start end }
+{
+    if kind.is_blank() {
+        return found;
+    }
+    match found {
+        Some(span) => Some(Span {
+            start: span.start,
+            end,
+        }),
+        None => Some(Span { start, end }),
+    }
+}
+
+/// No argument has come, and nothing was found of one.
+fn is_nothing(spans: &[Span], found: Option<Span>) -> bool
+    ensures { result ≡ is_nothing spans.now found }
+{
+    match found {
+        None => spans.is_empty(),
+        Some(_) => false,
+    }
+}
+
+/// The arguments of a configuration string.
+fn spans_of(alloc: Global, text: &[u8]) -> Result<Vec<Span>, AllocError>
+    ensures { IfOk result (λ spans. AreArguments text.now spans.items) }
+{
+    let mut spans = Vec::new(alloc);
+    let mut depth = 0;
+    let mut found = None;
+    let mut at = 0;
+    'items: while at < text.len() {
+        let (kind, len) = first_item(&text[at..]);
+        let end = at + len;
+        if depth == 0 && is_comma(kind) {
+            spans.push(argument(found, at))?;
+            found = None;
+        } else {
+            found = grown(found, kind, at, end);
+            depth = kind.depth_after(depth);
+        }
+        at = end;
+    }
+    if is_nothing(spans.as_slice(), found) {
+        return Ok(spans);
+    }
+    spans.push(argument(found, at))?;
+    Ok(spans)
+}
+
+/// The arguments of a configuration string: what stands between the commas outside quotes, comments and parentheses, without the white space and the comments at its ends (Click manual, "Configuration strings"). An empty argument stands at the comma that closes it, or at the end of the text. A text of white space and comments alone has no arguments.
+pub fn arguments(alloc: Global, text: &[u8]) -> Result<Vec<Span>, TextFault>
+    ensures ok { IfOk result (λ spans. AreArguments text.now spans.items) }
+    // Nothing but want of memory stops it.
+    ensures err { IfErr result (λ f. f ≡ no_memory) }
+{
+    Ok(spans_of(alloc, text)?)
+}
+
+#[cfg(test)]
+mod tests {
+    use super::*;
+    use std::test::Fail;
+
+    /// Each argument's bytes, joined by `|`.
+    fn shown(alloc: Global, text: &[u8]) -> Result<Vec<u8>, TextFault> {
+        let spans = arguments(alloc, text)?;
+        let mut bytes = Vec::new(alloc);
+        for span in spans.as_slice() {
+            bytes.extend_from_slice(span.of(text))?;
+            bytes.extend_from_slice(b"|".as_slice())?;
+        }
+        Ok(bytes)
+    }
+
+    #[test]
+    fn places(rt: HostRuntime) -> Result<(), Fail> {
+        let alloc = rt.alloc();
+        let two = arguments(alloc, b"a, (b, c)".as_slice())?;
+        assert_eq!(rt;
+            two.as_slice(),
+            [Span { start: 0, end: 1 }, Span { start: 3, end: 9 }].as_slice()
+        );
+        let last = arguments(alloc, b"a,".as_slice())?;
+        assert_eq!(rt;
+            last.as_slice(),
+            [Span { start: 0, end: 1 }, Span { start: 2, end: 2 }].as_slice()
+        );
+        let empty = arguments(alloc, b",".as_slice())?;
+        assert_eq!(rt;
+            empty.as_slice(),
+            [Span { start: 0, end: 0 }, Span { start: 1, end: 1 }].as_slice()
+        );
+        Ok(())
+    }
+
+    #[test]
+    fn cuts(rt: HostRuntime) -> Result<(), Fail> {
+        let alloc = rt.alloc();
+        assert_eq!(rt; shown(alloc, b"".as_slice())?.as_slice(), b"".as_slice());
+        assert_eq!(rt;
+            shown(alloc, b" /*c*/ ".as_slice())?.as_slice(),
+            b"".as_slice()
+        );
+        assert_eq!(rt; shown(alloc, b"a".as_slice())?.as_slice(), b"a|".as_slice());
+        assert_eq!(rt;
+            shown(alloc, b" , ".as_slice())?.as_slice(),
+            b"||".as_slice()
+        );
+        assert_eq!(rt;
+            shown(alloc, b" a /*x*/ b , c ".as_slice())?.as_slice(),
+            b"a /*x*/ b|c|".as_slice()
+        );
+        assert_eq!(rt;
+            shown(alloc, b"\"a,b\", 'c,d', (e,f), \\<2c>".as_slice())?.as_slice(),
+            b"\"a,b\"|'c,d'|(e,f)|\\<2c>|".as_slice()
+        );
+        assert_eq!(rt;
+            shown(alloc, b"(a , b)".as_slice())?.as_slice(),
+            b"(a , b)|".as_slice()
+        );
+        assert_eq!(rt;
+            shown(alloc, b"(a".as_slice())?.as_slice(),
+            b"(a|".as_slice()
+        );
+        assert_eq!(rt;
+            shown(alloc, b"b), c".as_slice())?.as_slice(),
+            b"b)|c|".as_slice()
+        );
+        assert_eq!(rt;
+            shown(alloc, b"a // x\n, b".as_slice())?.as_slice(),
+            b"a|b|".as_slice()
+        );
+        assert_eq!(rt;
+            shown(alloc, b"\"a\\\",b\", c".as_slice())?.as_slice(),
+            b"\"a\\\",b\"|c|".as_slice()
+        );
+        assert_eq!(rt;
+            shown(alloc, b"\"a, b".as_slice())?.as_slice(),
+            b"\"a|b|".as_slice()
+        );
+        Ok(())
+    }
+}

@@ -1,0 +1,117 @@
+//! The items of a configuration string: white space, comments, quotes and other bytes.
+
+ghost use Rattle.std.specs.Prelude.{◌≡◌, ◌<◌, ◌≤◌, ◌+◌, ◌^◌, ℕ, length, take, IfSome, IfNone, true, false};
+ghost use Rattle.click_text.specs.Items.{is_plain, leaves, LongestItem, NoLongItem, blank_kind, depth_behind};
+
+use crate::lexer::{comment, is_white};
+use crate::strings::Mode;
+
+/// What an item is.
+#[derive(Clone, Copy, Debug, PartialEq, Eq)]
+pub enum ItemKind {
+    /// A byte of white space.
+    White,
+    /// A comment, up to the next LF or to the next `*/`.
+    Comment,
+    /// `".."`.
+    Double,
+    /// `'..'`.
+    Single,
+    /// `\<..>`.
+    Hexadecimal,
+    /// Another byte.
+    Byte(u8),
+}
+
+impl ItemKind {
+    /// White space or a comment.
+    pub fn is_blank(self) -> bool
+        ensures { result ≡ blank_kind self }
+    {
+        match self {
+            ItemKind::White | ItemKind::Comment => true,
+            _ => false,
+        }
+    }
+
+    /// How many parentheses are open behind the item. One that closes none is passed over.
+    pub fn depth_after(self, depth: usize) -> usize
+        requires { depth + 1 < 2 ^ 64 }
+        ensures { result ≡ depth_behind self depth }
+    {
+        match self {
+            ItemKind::Byte(b'(') => depth + 1,
+            ItemKind::Byte(b')') => depth.saturating_sub(1),
+            _ => depth,
+        }
+    }
+}
+
+/// Neither a quote nor a comment is open.
+fn is_plain(mode: Mode) -> bool
+    ensures { result ≡ is_plain mode }
+{
+    match mode {
+        Mode::Plain => true,
+        _ => false,
+    }
+}
+
+/// How many bytes end with the first that leads out of a quote.
+fn quote_len(quote: Mode, text: &[u8]) -> Option<usize>
+    ensures within { IfSome result (λ len. len ≤ length text.now) }
+    ensures ends { IfSome result (λ len. leaves quote (take len text.now) ≡ true) }
+    ensures never { IfNone result ((n : ℕ) → n ≤ length text.now → leaves quote (take n text.now) ≡ false) }
+{
+    let mut mode = quote;
+    for (i, byte) in text.iter().enumerate() {
+        mode = mode.after(*byte);
+        if is_plain(mode) {
+            return Some(i + 1);
+        }
+    }
+    None
+}
+
+/// The comment or the quote that begins a text, and its length.
+fn long_item(text: &[u8]) -> Option<(ItemKind, usize)>
+    requires { 0 < length text.now }
+    ensures some { IfSome result (λ found. LongestItem text.now found.0 found.1) }
+    ensures none { IfNone result (NoLongItem text.now) }
+    ensures progress { IfSome result (λ found. 0 < found.1) }
+{
+    match text[0] {
+        b'/' => {
+            let (_, len) = comment(text)?;
+            Some((ItemKind::Comment, len))
+        }
+        b'"' => {
+            let len = quote_len(Mode::Double, &text[1..])?;
+            Some((ItemKind::Double, 1 + len))
+        }
+        b'\'' => {
+            let len = quote_len(Mode::Single, &text[1..])?;
+            Some((ItemKind::Single, 1 + len))
+        }
+        b'\\' if text.len() > 1 && text[1] == b'<' => {
+            let len = quote_len(Mode::Angle, &text[2..])?;
+            Some((ItemKind::Hexadecimal, 2 + len))
+        }
+        _ => None,
+    }
+}
+
+/// The longest item that begins a text, and its length.
+pub(crate) fn first_item(text: &[u8]) -> (ItemKind, usize)
+    requires { 0 < length text.now }
+    ensures longest { LongestItem text.now result.0 result.1 }
+    ensures progress { 0 < result.1 }
+{
+    if is_white(text[0]) {
+        return (ItemKind::White, 1);
+    }
+    match long_item(text) {
+        Some(found) => found,
+        None => (ItemKind::Byte(text[0]), 1),
+    }
+}
