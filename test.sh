@@ -1,9 +1,12 @@
 #!/usr/bin/env bash
-# Runs the examples and the refusals of memory through the program, and then the gate: every proof from nothing, the must-fail edits, the tests and
-# the stored run.
+# Runs the examples and the refusals of memory through the programs, and then the gate: every proof from nothing, the must-fail edits, the tests and
+# the stored runs.
 set -eu
 cd "$(dirname "$0")"
 (cd crates/click_prog && rt run -- -e 'Idle' < /dev/null > /dev/null)
+(cd crates/click_bench && rt run < /dev/null > /dev/null)
 examples/run.sh
+tools/language_examples.sh
 tools/refuse_each.sh
+tools/refuse_parse.sh
 exec rt ci

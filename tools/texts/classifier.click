@@ -1,0 +1,1 @@
+FromDevice(a) -> k :: Classifier(12/0800, !12/08??, -) -> c0 :: Counter -> Discard; k [1] -> c1 :: Counter -> Discard; k [2] -> c2 :: Counter -> Discard;
