@@ -5,7 +5,7 @@ use Rattle.std.specs.Str.{bytes_eq}
 use Rattle.std.proofs.lemmas.List.{take_more, map_push}
 use Rattle.std.proofs.lemmas.List.Elements.{filter_map-append}
 use Rattle.std.proofs.lemmas.Slice.Eq.{bytes_eq-Decides}
-use Rattle.click_text.specs.declared.syntax.Element.{Element}
+use Rattle.click_router.specs.declared.expand.Written.{Written}
 use Rattle.click_router.specs.declared.expand.Step.{Step}
 use Rattle.click_router.specs.Expand.{element_of, declared_name, declared_names, has_name}
 
@@ -35,7 +35,7 @@ module _ (text : List ℕ) where
   abbrev pub declared_by : List Step → ℕ → List (List ℕ)
   declared_by ss i = declared_names text (map element_of (take i ss))
 
-  declared_by-more : (ss : List Step) (i : ℕ) (d : Step) (e : Element) → i < length ss → e ≡ element_of (get_or ss i d) →
+  declared_by-more : (ss : List Step) (i : ℕ) (d : Step) (e : Written) → i < length ss → e ≡ element_of (get_or ss i d) →
       declared_by ss (i + 1) ≡ declared_by ss i ++ cons_option (declared_name text e) []
   declared_by-more ss i d e l is =
       ap (λ xs. declared_names text (map element_of xs)) (take_more ss i d l)
@@ -43,10 +43,10 @@ module _ (text : List ℕ) where
       ∙ filter_map-append (declared_name text) (map element_of (take i ss)) (element_of (get_or ss i d) ∷ [])
       ∙ ap (λ f. declared_by ss i ++ cons_option (declared_name text f) []) (sym is)
 
-  pub declared_by-yes : (ss : List Step) (i : ℕ) (d : Step) (e : Element) (n : List ℕ) → i < length ss → e ≡ element_of (get_or ss i d) → declared_name text e ≡ Some n →
+  pub declared_by-yes : (ss : List Step) (i : ℕ) (d : Step) (e : Written) (n : List ℕ) → i < length ss → e ≡ element_of (get_or ss i d) → declared_name text e ≡ Some n →
       declared_by ss (i + 1) ≡ declared_by ss i ++ n ∷ []
   declared_by-yes ss i d e n l is h = declared_by-more ss i d e l is ∙ ap (λ o. declared_by ss i ++ cons_option o []) h
 
-  pub declared_by-no : (ss : List Step) (i : ℕ) (d : Step) (e : Element) → i < length ss → e ≡ element_of (get_or ss i d) → declared_name text e ≡ None →
+  pub declared_by-no : (ss : List Step) (i : ℕ) (d : Step) (e : Written) → i < length ss → e ≡ element_of (get_or ss i d) → declared_name text e ≡ None →
       declared_by ss (i + 1) ≡ declared_by ss i ++ []
   declared_by-no ss i d e l is h = declared_by-more ss i d e l is ∙ ap (λ o. declared_by ss i ++ cons_option o []) h

@@ -13,7 +13,7 @@ use Rattle.click_router.specs.declared.expand.Connection.{Connection}
 use Rattle.click_router.specs.Expand.{Wire, Joins, flat_names, has_name, declared_names, is_declared, element_of, steps, written_elements, expand_from, expanded, wires_from, wires, InOrder, IsFlat}
 use Rattle.click_router.specs.Joined.{join, joined}
 use Rattle.click_router.specs.Sound.{AreSound}
-use Rattle.click_router.proofs.Sound.{place_is, AreSound-from_expanded}
+use Rattle.click_router.proofs.Sound.{place_is, AreClosed-written, AreSound-from_expanded}
 
 -- two functions with the same values are the same
 pub same_function : {A B : Type 0} {f g : A → B} → ((x : A) → f x ≡ g x) → f ≡ g
@@ -115,7 +115,7 @@ module _ (config : Config) (text : List ℕ) (declared : List (List ℕ)) (first
       IsFlat config flat
   is_flat second third names es cs flat second_is third_is made named joins elements_are order same =
       let made' : expanded config ≡ Ok flat.elements = sym (expanded_is second second_is) ∙ made ∙ ap Ok (sym elements_are) in
-      let sound = AreSound-from_expanded config.text (is_declared config) (written_elements config) [] 0 flat.elements made' in
+      let sound = AreSound-from_expanded config.text (is_declared config) (written_elements config) (AreClosed-written config) [] 0 flat.elements made' in
       let joins' : cs ≡ filter_map (joined (flat_names flat.elements)) (wires config) =
       joins ∙ ap (λ ns. filter_map (joined ns) (wires_from text (λ name. has_name name declared) 0 None third)) (named ∙ ap flat_names (sym elements_are))
       ∙ ap (filter_map (joined (flat_names flat.elements))) (wires_are third third_is) in

@@ -5,9 +5,9 @@ use Rattle.std.specs.Str.{bytes_eq}
 use Rattle.std.proofs.lemmas.Bool.{cond_both}
 use Rattle.std.proofs.lemmas.List.{append-nil, at_drop_all, at_drop_more}
 use Rattle.std.proofs.lemmas.List.Elements.{filter_map-append}
-use Rattle.click_text.specs.declared.syntax.Element.{Element}
-use Rattle.click_text.specs.declared.syntax.Link.{Link}
+use Rattle.click_router.specs.declared.expand.Written.{Written}
 use Rattle.click_router.specs.declared.expand.Connection.{Connection}
+use Rattle.click_router.specs.declared.expand.Joint.{Joint}
 use Rattle.click_router.specs.declared.expand.Step.{Step}
 use Rattle.click_router.specs.declared.expand.Step.TheVariants as step
 use Rattle.click_router.specs.Expand.{element_of, makes, name_of, number_behind, port_number, wires_at, wires_from}
@@ -18,7 +18,7 @@ abbrev pub place_named : List (List ℕ) → Option (List ℕ) → Option ℕ
 place_named names None = None
 place_named names (Some name) = position (bytes_eq name) names
 
-by_places : (l : Link) (from to : Option ℕ) → cons_option (join from (port_number l.from) to (port_number l.to)) [] ≡ link_joins l from to
+by_places : (l : Joint) (from to : Option ℕ) → cons_option (join from (port_number l.from) to (port_number l.to)) [] ≡ link_joins l from to
 by_places l (Some from) (Some to) = refl
 by_places l (Some from) None = refl
 by_places l None to = refl
@@ -57,14 +57,14 @@ module _ (text : List ℕ) (declared : List ℕ → Bool) (names : List (List �
       ∙ ap (λ ds. cs ++ ds) (joined-step n before (get_or ss i d) (drop (i + 1) ss))
       ∙ sym (append_assoc cs _ _)
 
-  pub joined-next : (all cs cs' : List Connection) (n n' : ℕ) (before : Option (List ℕ)) (ss : List Step) (i : ℕ) (d : Step) (e : Element) (name : List ℕ) (from to : Option ℕ) →
+  pub joined-next : (all cs cs' : List Connection) (n n' : ℕ) (before : Option (List ℕ)) (ss : List Step) (i : ℕ) (d : Step) (e : Written) (name : List ℕ) (from to : Option ℕ) →
       i < length ss → e ≡ element_of (get_or ss i d) → from ≡ place_named names before → name ≡ name_of text declared n e → to ≡ position (bytes_eq name) names →
       cs' ≡ cs ++ joined_at (get_or ss i d) from to → n' ≡ number_behind text declared n e →
       all ≡ cs ++ joined_from n before (drop i ss) → all ≡ cs' ++ joined_from n' (Some name) (drop (i + 1) ss)
   joined-next all cs cs' n n' before ss i d e name from to l is pf pn pt pc pk h =
       rw (pc, pk, pt, pn, pf, is) (joined-more all cs n before ss i d l h)
 
-  pub number_behind-le : (n : ℕ) (e : Element) → number_behind text declared n e ≤ n + 1
+  pub number_behind-le : (n : ℕ) (e : Written) → number_behind text declared n e ≤ n + 1
   number_behind-le n e = cond_both (makes text declared e) (n + 1) n (λ m. m ≤ n + 1) (λ _. omega arith) (λ _. omega arith)
 
   pub joined-all : (all cs : List Connection) (n : ℕ) (before : Option (List ℕ)) (ss : List Step) (i : ℕ) → length ss ≤ i →

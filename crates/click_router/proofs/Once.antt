@@ -19,10 +19,10 @@ use Rattle.click_router.specs.Opened.{IsFresh, AreFresh, OpensAs, IsOpened, of_n
 use Rattle.click_router.specs.Opened.IsFirstFault.{misnamed, unfit, unlawful}
 use Rattle.click_router.specs.Refused.{IsConfigFault}
 use Rattle.click_router.proofs.Fresh.{blank_all}
-use Rattle.click_router.proofs.Sound.{AreSound-from_expanded}
+use Rattle.click_router.proofs.Sound.{AreClosed-written, AreSound-from_expanded}
 
 pub AreSound-from_flat : (config : Config) (flat : Flat) → IsFlat config flat → AreSound [] flat.elements
-AreSound-from_flat config flat h = AreSound-from_expanded config.text (is_declared config) (written_elements config) [] 0 flat.elements h.elements
+AreSound-from_flat config flat h = AreSound-from_expanded config.text (is_declared config) (written_elements config) (AreClosed-written config) [] 0 flat.elements h.elements
 
 pub length_fresh : (es : List FlatElement) (qs : List State) → AreFresh es qs → length qs ≡ length es
 length_fresh [] [] h = refl

@@ -1,14 +1,20 @@
-//! The elements and connections of a configuration. It has one scope: there are no compounds.
+//! The elements and connections of a configuration. It has one scope.
+//!
+//! Compounds and synonyms are not expanded: a body is a class that is not known, at its open brace, and a class that
+//! `elementclass` names is not known, at that name. So a configuration that has one is refused there, if not before, and
+//! nothing inside a body is looked at. `require` has no effect.
 
 ghost use Rattle.std.specs.Prelude.{◌≡◌, ◌⊎◌, ◌↔◌, ℕ, ◌<◌, List, [], ◌∷◌, ◌++◌, map, filter_map, Contains, true, Some, None, Ok, Err, IfOk, IfErr, OnOk};
 ghost use Rattle.click_router.specs.Expand as spec;
-ghost use Rattle.click_router.specs.Expand.{has_name, declared_names, chain_steps, element_of, element_fault, expand_from, expanded, flat_names, wires_from, InOrder, IsFlat};
+ghost use Rattle.click_router.specs.Expand.{has_name, declared_names, chain_steps, declaration_steps, statement_steps, element_of, element_fault, expand_from, expanded, flat_names, wires_from, InOrder, IsFlat};
 ghost use Rattle.click_router.specs.Joined.{joined, joined_at};
 
 use crate::classes::class_of;
 use crate::names::Names;
 use click_text::sequence::Sequence;
-use click_text::syntax::{Chain, Class, Config, Element, Head, Link, Port, Span, Statement};
+use click_text::syntax::{
+    Body, Chain, Class, Config, Declaration, Element, Head, Link, Port, Span, Statement,
+};
 use itoa::Buffer;
 use std::alloc::{AllocError, Global};
 
@@ -65,33 +71,206 @@ impl From<AllocError> for ExpandFault {
     }
 }
 
-/// An element as it is written: the first of a chain, or one behind the link that joins it to the element before it.
+/// What an element begins with. A body is a class that is not known.
 #[derive(Clone, Copy)]
-pub enum Step {
-    First(Element),
-    Next(Link),
+pub enum Mark {
+    /// A word: an element's name, or a class.
+    Word(Span),
+    /// A name with the word for its class.
+    Declared(Span, Span),
+    /// A name with its class, before which further names stand: the last of them has the class looked at.
+    Listed(Span, Span),
+    /// A name with a class that is not known.
+    Bodied(Span, Span),
+    /// A class that is not known.
+    Unknown(Span),
 }
 
-impl Step {
-    fn element(&self) -> Element
-        ensures { result ≡ element_of self.now }
+/// An element as it is written.
+#[derive(Clone, Copy)]
+pub struct Written {
+    pub mark: Mark,
+    /// Its configuration string with the parentheses, where it has one.
+    pub text: Option<Span>,
+}
+
+/// A further element of a chain, with the ports that it is joined by.
+#[derive(Clone, Copy)]
+pub struct Joint {
+    pub from: Option<Port>,
+    pub to: Option<Port>,
+    pub element: Written,
+}
+
+/// An element with no link before it, or one behind the link that joins it to the element before it.
+#[derive(Clone, Copy)]
+pub enum Step {
+    First(Written),
+    Next(Joint),
+}
+
+impl Mark {
+    /// The name that is declared.
+    fn name(&self) -> Option<Span>
+        ensures { result ≡ spec.declared_span self.now }
     {
         match *self {
-            Step::First(element) => element,
-            Step::Next(link) => link.element,
+            Mark::Declared(name, _) => Some(name),
+            Mark::Listed(name, _) => Some(name),
+            Mark::Bodied(name, _) => Some(name),
+            Mark::Word(_) => None,
+            Mark::Unknown(_) => None,
         }
     }
 }
 
-/// Adds the elements of a chain.
-fn push_chain(steps: &mut Vec<Step>, chain: &Chain) -> Result<(), AllocError>
-    ensures { OnOk result (steps.new.items ≡ steps.old.items ++ chain_steps (Statement.Chain chain.now)) }
+impl Step {
+    fn element(&self) -> Written
+        ensures { result ≡ element_of self.now }
+    {
+        match *self {
+            Step::First(element) => element,
+            Step::Next(joint) => joint.element,
+        }
+    }
+}
+
+/// The first byte of a span.
+fn first_byte(span: Span) -> Span
+    ensures { result ≡ spec.first_byte span }
 {
-    steps.push(Step::First(chain.first))?;
+    if span.start < span.end {
+        Span {
+            start: span.start,
+            end: span.start + 1,
+        }
+    } else {
+        span
+    }
+}
+
+/// The open brace of the body at that place.
+fn brace(bodies: &[Body], place: usize) -> Span
+    ensures { result ≡ spec.brace bodies.now place }
+{
+    match bodies.get(place) {
+        None => Span { start: 0, end: 0 },
+        Some(body) => first_byte(body.span),
+    }
+}
+
+/// Where the class begins: its word, or its open brace.
+fn class_place(bodies: &[Body], class: Class) -> Span
+    ensures { result ≡ spec.class_place bodies.now class }
+{
+    match class {
+        Class::Named(word) => word,
+        Class::Body(body) => brace(bodies, body),
+    }
+}
+
+/// A name with its class.
+fn declared_mark(bodies: &[Body], name: Span, class: Class) -> Mark
+    ensures { result ≡ spec.declared_mark bodies.now name class }
+{
+    match class {
+        Class::Named(word) => Mark::Declared(name, word),
+        Class::Body(body) => Mark::Bodied(name, brace(bodies, body)),
+    }
+}
+
+/// What an element of a chain begins with.
+fn mark_of(bodies: &[Body], head: Head) -> Mark
+    ensures { result ≡ spec.mark_of bodies.now head }
+{
+    match head {
+        Head::Word(word) => Mark::Word(word),
+        Head::Declared(name, class) => declared_mark(bodies, name, class),
+        Head::Compound(body) => Mark::Unknown(brace(bodies, body)),
+    }
+}
+
+/// An element of a chain.
+fn written_of(bodies: &[Body], element: Element) -> Written
+    ensures { result ≡ spec.written_of bodies.now element }
+{
+    Written {
+        mark: mark_of(bodies, element.head),
+        text: element.text,
+    }
+}
+
+/// A further element of a chain.
+fn joint_of(bodies: &[Body], link: Link) -> Joint
+    ensures { result ≡ spec.joint_of bodies.now link }
+{
+    Joint {
+        from: link.from,
+        to: link.to,
+        element: written_of(bodies, link.element),
+    }
+}
+
+/// Adds the elements of a chain.
+fn push_chain(steps: &mut Vec<Step>, bodies: &[Body], chain: &Chain) -> Result<(), AllocError>
+    ensures { OnOk result (steps.new.items ≡ steps.old.items ++ chain_steps bodies.now chain.now) }
+{
+    steps.push(Step::First(written_of(bodies, chain.first)))?;
     for link in chain.links.as_slice() {
-        steps.push(Step::Next(*link))?;
+        steps.push(Step::Next(joint_of(bodies, *link)))?;
     }
     Ok(())
+}
+
+/// Adds an element of each name.
+fn push_declaration(
+    steps: &mut Vec<Step>,
+    bodies: &[Body],
+    declaration: &Declaration,
+) -> Result<(), AllocError>
+    ensures { OnOk result (steps.new.items ≡ steps.old.items ++ declaration_steps bodies.now declaration.now) }
+{
+    let class = declaration.class;
+    let text = declaration.text;
+    let names = declaration.names.as_slice();
+    let last = names.len().saturating_sub(1);
+    for name in &names[..last] {
+        let mark = Mark::Listed(*name, class_place(bodies, class));
+        steps.push(Step::First(Written { mark, text }))?;
+    }
+    for name in &names[last..] {
+        let mark = declared_mark(bodies, *name, class);
+        steps.push(Step::First(Written { mark, text }))?;
+    }
+    Ok(())
+}
+
+/// Adds a class that is not known.
+fn push_unknown(steps: &mut Vec<Step>, class: Span) -> Result<(), AllocError>
+    ensures { OnOk result (steps.new.items ≡ steps.old.items ++ spec.unknown_step class ∷ []) }
+{
+    steps.push(Step::First(Written {
+        mark: Mark::Unknown(class),
+        text: None,
+    }))?;
+    Ok(())
+}
+
+/// Adds the elements of a statement.
+fn push_statement(
+    steps: &mut Vec<Step>,
+    bodies: &[Body],
+    statement: &Statement,
+) -> Result<(), AllocError>
+    ensures { OnOk result (steps.new.items ≡ steps.old.items ++ statement_steps bodies.now statement.now) }
+{
+    match statement {
+        Statement::Chain(chain) => push_chain(steps, bodies, chain),
+        Statement::Declaration(declaration) => push_declaration(steps, bodies, declaration),
+        Statement::Definition { name, .. } => push_unknown(steps, *name),
+        Statement::Synonym { name, .. } => push_unknown(steps, *name),
+        Statement::Requirement { .. } => Ok(()),
+    }
 }
 
 /// All elements in the order of the text.
@@ -100,8 +279,7 @@ fn steps_of(alloc: Global, config: &Config) -> Result<Vec<Step>, AllocError>
 {
     let mut steps = Vec::new(alloc);
     for statement in config.statements.as_slice() {
-        let Statement::Chain(chain) = statement;
-        push_chain(&mut steps, chain)?;
+        push_statement(&mut steps, config.bodies.as_slice(), statement)?;
     }
     Ok(steps)
 }
@@ -112,7 +290,7 @@ fn declared_of(alloc: Global, text: &[u8], steps: &[Step]) -> Result<Names, Allo
 {
     let mut names = Names::new(alloc);
     for step in steps {
-        if let Head::Declared(name, _) = step.element().head {
+        if let Some(name) = step.element().mark.name() {
             names.add(alloc, name.of(text))?;
         }
     }
@@ -120,11 +298,11 @@ fn declared_of(alloc: Global, text: &[u8], steps: &[Step]) -> Result<Names, Allo
 }
 
 /// Writing the element makes one. Only a bare word that is declared means another.
-fn makes(text: &[u8], declared: &Names, element: Element) -> bool
+fn makes(text: &[u8], declared: &Names, element: Written) -> bool
     ensures { result ≡ spec.makes text.now (λ name. has_name name declared.now) element }
 {
-    match (element.head, element.text) {
-        (Head::Word(word), None) => !declared.has(word.of(text)),
+    match (element.mark, element.text) {
+        (Mark::Word(word), None) => !declared.has(word.of(text)),
         _ => true,
     }
 }
@@ -147,14 +325,17 @@ fn name_of(
     text: &[u8],
     declared: &Names,
     before: usize,
-    element: Element,
+    element: Written,
 ) -> Result<Vec<u8>, AllocError>
     requires { before < usize.MAX }
     ensures { IfOk result (λ v. v.items ≡ spec.name_of text.now (λ name. has_name name declared.now) before element) }
 {
-    match element.head {
-        Head::Declared(name, _) => Vec::from_slice(alloc, name.of(text)),
-        Head::Word(word) => {
+    match element.mark {
+        Mark::Declared(name, _) => Vec::from_slice(alloc, name.of(text)),
+        Mark::Listed(name, _) => Vec::from_slice(alloc, name.of(text)),
+        Mark::Bodied(name, _) => Vec::from_slice(alloc, name.of(text)),
+        Mark::Unknown(_) => Ok(Vec::new(alloc)),
+        Mark::Word(word) => {
             if makes(text, declared, element) {
                 numbered(alloc, word.of(text), before)
             } else {
@@ -164,13 +345,16 @@ fn name_of(
     }
 }
 
-/// The word for the element's class.
-fn class_span(head: Head) -> Span
-    ensures { result ≡ spec.class_span head }
+/// Where the element's class stands.
+fn class_span(mark: Mark) -> Span
+    ensures { result ≡ spec.class_span mark }
 {
-    match head {
-        Head::Word(word) => word,
-        Head::Declared(_, Class::Named(class)) => class,
+    match mark {
+        Mark::Word(word) => word,
+        Mark::Declared(_, class) => class,
+        Mark::Listed(_, class) => class,
+        Mark::Bodied(_, class) => class,
+        Mark::Unknown(class) => class,
     }
 }
 
@@ -185,22 +369,29 @@ fn text_of<'a>(text: &'a [u8], string: Option<Span>) -> &'a [u8]
 }
 
 /// What is wrong with an element, where its name may be taken and its class known.
-fn fault_of(element: Element, taken: bool, known: bool) -> Option<ExpandFault>
-    ensures { result ≡ spec.fault_by element.head element.text taken known }
+fn fault_of(element: Written, taken: bool, known: bool) -> Option<ExpandFault>
+    ensures { result ≡ spec.fault_by element.mark element.text taken known }
 {
-    match (element.head, element.text) {
-        (Head::Declared(name, _), _) if taken => {
+    match (element.mark, element.text) {
+        (Mark::Declared(name, _), _) if taken => {
             Some(ExpandFault::Name(NameFault::DeclaredTwice, name))
         }
-        (Head::Word(word), _) if known && taken => {
+        (Mark::Listed(name, _), _) if taken => {
+            Some(ExpandFault::Name(NameFault::DeclaredTwice, name))
+        }
+        (Mark::Bodied(name, _), _) if taken => {
+            Some(ExpandFault::Name(NameFault::DeclaredTwice, name))
+        }
+        (Mark::Word(word), _) if known && taken => {
             Some(ExpandFault::Name(NameFault::DeclaredTwice, word))
         }
+        (Mark::Listed(_, _), _) => None,
+        (Mark::Bodied(_, class), _) => Some(ExpandFault::Name(NameFault::UnknownClass, class)),
+        (Mark::Unknown(class), _) => Some(ExpandFault::Name(NameFault::UnknownClass, class)),
         _ if known => None,
-        (Head::Declared(_, Class::Named(class)), _) => {
-            Some(ExpandFault::Name(NameFault::UnknownClass, class))
-        }
-        (Head::Word(word), None) => Some(ExpandFault::Name(NameFault::UnknownName, word)),
-        (Head::Word(word), Some(_)) => Some(ExpandFault::Name(NameFault::UnknownClass, word)),
+        (Mark::Declared(_, class), _) => Some(ExpandFault::Name(NameFault::UnknownClass, class)),
+        (Mark::Word(word), None) => Some(ExpandFault::Name(NameFault::UnknownName, word)),
+        (Mark::Word(word), Some(_)) => Some(ExpandFault::Name(NameFault::UnknownClass, word)),
     }
 }
 
@@ -211,7 +402,7 @@ fn flat_element(
     declared: &Names,
     before: &Names,
     number: usize,
-    element: Element,
+    element: Written,
 ) -> Result<FlatElement, ExpandFault>
     requires room { number < usize.MAX }
     requires made { spec.makes text.now (λ name. has_name name declared.now) element ≡ true }
@@ -220,7 +411,7 @@ fn flat_element(
     ensures err { IfErr result (λ f. (f ≡ ExpandFault.NoMemory) ⊎ (element_fault text.now (λ name. has_name name declared.now) before.now number element ≡ Some f)) }
 {
     let name = name_of(alloc, text, declared, number, element)?;
-    let class = class_span(element.head).of(text);
+    let class = class_span(element.mark).of(text);
     let known = class_of(class).is_some();
     if let Some(fault) = fault_of(element, before.has(name.as_slice()), known) {
         return Err(fault);
@@ -283,19 +474,19 @@ fn push_joined(
 ) -> Result<(), AllocError>
     ensures { OnOk result (connections.new.items ≡ connections.old.items ++ joined_at step from to) }
 {
-    if let (Step::Next(link), Some(from), Some(to)) = (step, from, to) {
+    if let (Step::Next(joint), Some(from), Some(to)) = (step, from, to) {
         connections.push(Connection {
             from,
-            out_port: port_number(link.from),
+            out_port: port_number(joint.from),
             to,
-            in_port: port_number(link.to),
+            in_port: port_number(joint.to),
         })?;
     }
     Ok(())
 }
 
 /// How many elements there are behind one before which so many stand.
-fn number_behind(text: &[u8], declared: &Names, number: usize, element: Element) -> usize
+fn number_behind(text: &[u8], declared: &Names, number: usize, element: Written) -> usize
     requires { number < usize.MAX }
     ensures { result ≡ spec.number_behind text.now (λ name. has_name name declared.now) number element }
 {
