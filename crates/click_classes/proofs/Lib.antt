@@ -1,0 +1,10 @@
+pub mod Numbers
+pub mod Groups
+pub mod Ring
+pub mod Tables
+pub mod Lists
+pub mod Clauses
+pub mod Given
+pub mod Makes
+pub mod OneReading
+pub mod OneState

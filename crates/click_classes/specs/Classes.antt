@@ -1,0 +1,42 @@
+-- The classes (Click element reference): names, counts of ports, and kinds of ports.
+use Rattle.std.specs.Prelude.{ℕ, List, codes, find, Option}
+use Rattle.std.specs.Str.{bytes_eq}
+use Rattle.click_classes.specs.declared.class.TheConstants.{CLASSES}
+use Rattle.click_classes.specs.declared.class.Class.{Class}
+use Rattle.click_classes.specs.declared.class.Class.TheVariants as class
+
+abbrev pub name : Class → List ℕ
+name class.Queue = codes "Queue"
+name class.FrontDropQueue = codes "FrontDropQueue"
+name class.Unqueue = codes "Unqueue"
+name class.Counter = codes "Counter"
+name class.Switch = codes "Switch"
+name class.PullSwitch = codes "PullSwitch"
+name class.RoundRobinSwitch = codes "RoundRobinSwitch"
+name class.RoundRobinSched = codes "RoundRobinSched"
+name class.PrioSched = codes "PrioSched"
+name class.Tee = codes "Tee"
+name class.PullTee = codes "PullTee"
+name class.Idle = codes "Idle"
+name class.Discard = codes "Discard"
+name class.Null = codes "Null"
+name class.PushNull = codes "PushNull"
+name class.PullNull = codes "PullNull"
+name class.Suppressor = codes "Suppressor"
+name class.Paint = codes "Paint"
+name class.PaintTee = codes "PaintTee"
+name class.Strip = codes "Strip"
+name class.CheckLength = codes "CheckLength"
+name class.Classifier = codes "Classifier"
+name class.GetIPAddress = codes "GetIPAddress"
+name class.StaticIPLookup = codes "StaticIPLookup"
+name class.CheckIPHeader = codes "CheckIPHeader"
+name class.DecIPTTL = codes "DecIPTTL"
+name class.EtherEncap = codes "EtherEncap"
+name class.InfiniteSource = codes "InfiniteSource"
+name class.FromDevice = codes "FromDevice"
+name class.ToDevice = codes "ToDevice"
+
+-- the class of that name
+unfoldable pub class_of : List ℕ → Option Class
+class_of text = find (λ c. bytes_eq (name c) text) CLASSES

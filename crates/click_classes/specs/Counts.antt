@@ -1,0 +1,58 @@
+-- How many ports an element may have (Click element reference).
+use Rattle.std.specs.Prelude.{ℕ, ◌+◌, List, [], ◌∷◌, length, Bool, true, false, Option, Some, None, min, max}
+use Rattle.click_classes.specs.declared.ports.Counts.{Counts}
+use Rattle.click_classes.specs.declared.values.entry.Entry.{Entry}
+use Rattle.click_classes.specs.declared.state.State.{State}
+use Rattle.click_classes.specs.declared.state.State.TheVariants as state
+
+-- from a to b inputs, and from c to d outputs
+abbrev pub ports : ℕ → ℕ → ℕ → ℕ → Counts
+ports a b c d = record { inputs = (a, b); outputs = (c, d); equal = false }
+
+-- how many ports a switch needs that uses this one
+abbrev pub at_least : Option ℕ → ℕ
+at_least None = 0
+at_least (Some k) = k + 1
+
+-- as many as an argument says, else 1 to 256
+abbrev pub up_to_256 : Option ℕ → ℕ × ℕ
+up_to_256 None = (1, 256)
+up_to_256 (Some n) = (n, n)
+
+-- how many outputs the entries of a table name
+abbrev pub outputs_for : List Entry → ℕ
+outputs_for [] = 0
+outputs_for (e ∷ es) = max (e.output + 1) (outputs_for es)
+
+abbrev pub counts : State → Counts
+counts (state.Queue q d h) = ports 1 1 1 1
+counts (state.FrontDropQueue q d h) = ports 1 1 1 1
+counts state.Unqueue = ports 1 1 1 1
+counts (state.Counter n b) = ports 1 1 1 1
+counts (state.Switch k) = ports 1 1 (at_least k) 256
+counts (state.PullSwitch k) = ports (at_least k) 256 1 1
+counts (state.RoundRobinSwitch n) = ports 1 1 1 256
+counts (state.RoundRobinSched n) = ports 1 256 1 1
+counts state.PrioSched = ports 1 256 1 1
+counts (state.Tee n) = ports 1 1 (up_to_256 n).0 (up_to_256 n).1
+counts (state.PullTee n) = ports 1 1 (up_to_256 n).0 (up_to_256 n).1
+counts state.Idle = ports 0 256 0 256
+counts state.Discard = ports 1 1 0 0
+counts state.Null = ports 1 1 1 1
+counts state.PushNull = ports 1 1 1 1
+counts state.PullNull = ports 1 1 1 1
+counts (state.Suppressor a) = record (ports 1 16 1 16) { equal = true }
+counts (state.Paint c) = ports 1 1 1 1
+counts (state.PaintTee c) = ports 1 1 1 2
+counts (state.Strip n) = ports 1 1 1 1
+counts (state.CheckLength n) = ports 1 1 1 2
+-- 65,535 is the greatest number that a count can tell, and no element has so many patterns
+counts (state.Classifier ps) = ports 1 1 (min (length ps) 65535) (min (length ps) 65535)
+counts (state.GetIPAddress n) = ports 1 1 1 1
+counts (state.StaticIPLookup es) = ports 1 1 (outputs_for es) 256
+counts (state.CheckIPHeader rs) = ports 1 1 1 2
+counts state.DecIPTTL = ports 1 1 1 2
+counts (state.EtherEncap t s d) = ports 1 1 1 1
+counts (state.InfiniteSource b l u a n) = ports 0 0 1 1
+counts (state.FromDevice d) = ports 0 0 1 1
+counts (state.ToDevice d) = ports 1 1 0 0

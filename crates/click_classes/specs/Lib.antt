@@ -1,0 +1,11 @@
+pub mod Classes
+pub mod Codes
+pub mod Counts
+pub mod Entries
+pub mod Fresh
+pub mod Made
+pub mod PacketList
+pub mod Patterns
+pub mod State
+pub mod Steps
+pub mod Values

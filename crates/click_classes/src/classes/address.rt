@@ -1,0 +1,26 @@
+//! Elements that set the destination of packets.
+
+ghost use Rattle.std.specs.Prelude.{◌≡◌};
+ghost use Rattle.click_classes.specs.Fresh.{get_ip_address};
+
+use crate::arguments::Arguments;
+use crate::fault::ArgFault;
+use crate::state::State;
+
+/// GetIPAddress(OFFSET): reads the destination out of packets.
+///
+/// - Arguments: OFFSET, a number from 0 to 1,596.
+/// - Ports: one agnostic input, one agnostic output.
+/// - The packet's destination becomes the four bytes from OFFSET on, 0.0.0.0 where the packet is shorter.
+/// - Handlers: none.
+///
+/// Example: `FromDevice(a) -> GetIPAddress(16) -> StaticIPLookup(0.0.0.0/0 0) -> Discard;`
+#[tactic(auto, unfolding(crate::specs::Fresh::get_ip_address))]
+pub fn make_get_ip_address(arguments: &Arguments) -> Result<State, ArgFault>
+    ensures { result ≡ get_ip_address arguments.now }
+{
+    let offset = arguments.only_number(1_596)?;
+    Ok(State::GetIPAddress {
+        offset: offset as u16,
+    })
+}

@@ -1,0 +1,89 @@
+//! Elements that look at the internet header.
+
+ghost use Rattle.std.specs.Prelude.{◌≡◌, ◌==◌, [], Ok, length, slice_index_or, if◌then◌else◌};
+ghost use Rattle.click_classes.specs.Values.{address};
+ghost use Rattle.click_classes.specs.Fresh.{addresses, check_ip_header, plain};
+ghost use Rattle.click_classes.specs.Made.{ByWords};
+ghost use Rattle.click_classes.specs.Steps.{each, IsOrNoMemory, OrNoMemory};
+
+use crate::arguments::Arguments;
+use crate::classes::plain::plain;
+use crate::fault::ArgFault;
+use crate::state::State;
+use crate::values::address::address;
+use click_text::sequence::Sequence;
+use std::alloc::Global;
+
+/// The address of each word.
+fn each_address(alloc: Global, words: &[Sequence<u8>]) -> Result<Sequence<[u8; 4]>, ArgFault>
+    ensures { IsOrNoMemory (each address words.now) result }
+{
+    let mut list = Sequence::new(alloc);
+    for word in words {
+        let octets = address(word.as_slice())?;
+        list.push(octets)?;
+    }
+    Ok(list)
+}
+
+/// Up to 64 addresses.
+#[tactic(auto, unfolding(crate::specs::Fresh::addresses))]
+fn addresses(alloc: Global, words: &[Sequence<u8>]) -> Result<Sequence<[u8; 4]>, ArgFault>
+    ensures { IsOrNoMemory (addresses words.now) result }
+{
+    if words.len() > 64 {
+        return Err(ArgFault::OutOfRange);
+    }
+    each_address(alloc, words)
+}
+
+/// The addresses of the argument, if it is there.
+pub fn refused(
+    alloc: Global,
+    arguments: &[Sequence<Sequence<u8>>],
+) -> Result<Sequence<[u8; 4]>, ArgFault>
+    ensures { IsOrNoMemory (if length arguments.now == 0 then Ok [] else addresses (slice_index_or arguments.now 0 [])) result }
+{
+    if arguments.is_empty() {
+        return Ok(Sequence::new(alloc));
+    }
+    addresses(alloc, arguments[0].as_slice())
+}
+
+/// CheckIPHeader([ADDRESSES]): sorts out packets with a bad internet header (RFC 791, section 3.1).
+///
+/// - Arguments: ADDRESSES, up to 64 addresses with spaces between them; else none.
+/// - Ports: one agnostic input; an agnostic output, and maybe a push output after it.
+/// - A packet passes where its header is good: it begins at the first byte, has version 4, fits the packet, and sums to
+///   ffff, and its source is none of ADDRESSES. Others are pushed to output 1 where that is connected, else dropped; where
+///   such a one was pulled, the pull gives none.
+/// - Handlers: none.
+///
+/// Example: `FromDevice(a) -> c :: CheckIPHeader(0.0.0.0 255.255.255.255) -> Discard; c [1] -> Discard;`
+#[tactic(auto, unfolding(crate::specs::Fresh::check_ip_header))]
+pub fn make_check_ip_header(alloc: Global, arguments: &Arguments) -> Result<State, ArgFault>
+    ensures { OrNoMemory (ByWords 0 1 check_ip_header arguments.now) result }
+{
+    if !arguments.are(0, 1) {
+        return Err(ArgFault::ArgumentCount);
+    }
+    let words = arguments.words(alloc)?;
+    let refused = refused(alloc, words.as_slice())?;
+    Ok(State::CheckIPHeader { refused })
+}
+
+/// DecIPTTL: counts the time to live down (RFC 791, section 3.1).
+///
+/// - Arguments: none.
+/// - Ports: one agnostic input; an agnostic output, and maybe a push output after it.
+/// - The packet's time to live is less by one and its checksum is set anew. A packet without a whole header, or with a time to
+///   live of 0 or 1, stays as it is; it is pushed to output 1 where that is connected, else dropped, and where such a one was
+///   pulled, the pull gives none.
+/// - Handlers: none.
+///
+/// Example: `FromDevice(a) -> d :: DecIPTTL -> Discard; d [1] -> Discard;`
+pub fn make_dec_ip_ttl(arguments: &Arguments) -> Result<State, ArgFault>
+    ensures { result ≡ plain State.DecIPTTL arguments.now }
+{
+    plain(State::DecIPTTL, arguments)
+}

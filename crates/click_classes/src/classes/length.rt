@@ -1,0 +1,43 @@
+//! Elements that change or test the length of packets.
+
+ghost use Rattle.std.specs.Prelude.{◌≡◌};
+ghost use Rattle.click_classes.specs.Fresh.{strip, check_length};
+
+use crate::arguments::Arguments;
+use crate::fault::ArgFault;
+use crate::state::State;
+
+/// Strip(N): takes bytes off the front of packets.
+///
+/// - Arguments: N, a number from 0 to 1,600.
+/// - Ports: one agnostic input, one agnostic output.
+/// - N bytes are taken off the packet's front, all where there are fewer.
+/// - Handlers: none.
+///
+/// Example: `FromDevice(a) -> Strip(14) -> CheckIPHeader -> Discard;`
+#[tactic(auto, unfolding(crate::specs::Fresh::strip))]
+pub fn make_strip(arguments: &Arguments) -> Result<State, ArgFault>
+    ensures { result ≡ strip arguments.now }
+{
+    let count = arguments.only_number(1_600)?;
+    Ok(State::Strip {
+        count: count as u16,
+    })
+}
+
+/// CheckLength(MAX): sorts out long packets.
+///
+/// - Arguments: MAX, a number from 0 to 65,535.
+/// - Ports: one agnostic input; an agnostic output, and maybe a push output after it.
+/// - Packets of at most MAX bytes pass. Longer ones are pushed to output 1 where that is connected, else dropped; where
+///   such a one was pulled, the pull gives none.
+/// - Handlers: none.
+///
+/// Example: `FromDevice(a) -> l :: CheckLength(1500) -> Discard; l [1] -> Discard;`
+#[tactic(auto, unfolding(crate::specs::Fresh::check_length))]
+pub fn make_check_length(arguments: &Arguments) -> Result<State, ArgFault>
+    ensures { result ≡ check_length arguments.now }
+{
+    let max = arguments.only_number(65_535)?;
+    Ok(State::CheckLength { max: max as u16 })
+}

@@ -1,0 +1,124 @@
+//! Classes without arguments.
+
+ghost use Rattle.std.specs.Prelude.{◌≡◌};
+ghost use Rattle.click_classes.specs.Fresh.{plain};
+
+use crate::arguments::Arguments;
+use crate::fault::ArgFault;
+use crate::state::State;
+
+/// This state, where there is no argument.
+#[tactic(auto, unfolding(crate::specs::Fresh::plain))]
+pub fn plain(state: State, arguments: &Arguments) -> Result<State, ArgFault>
+    ensures { result ≡ plain state arguments.now }
+{
+    if arguments.are(0, 0) {
+        Ok(state)
+    } else {
+        Err(ArgFault::ArgumentCount)
+    }
+}
+
+/// Unqueue: moves packets from a queue on.
+///
+/// - Arguments: none.
+/// - Ports: one pull input, one push output.
+/// - Each run of its task pulls one packet and pushes it.
+/// - Handlers: none.
+///
+/// Example: `FromDevice(a) -> Queue -> Unqueue -> Discard;`
+pub fn make_unqueue(arguments: &Arguments) -> Result<State, ArgFault>
+    ensures { result ≡ plain State.Unqueue arguments.now }
+{
+    plain(State::Unqueue, arguments)
+}
+
+/// Counter: counts packets and bytes.
+///
+/// - Arguments: none.
+/// - Ports: one agnostic input, one agnostic output.
+/// - The count grows by one and the count of bytes by the packet's length, neither past 2^64 - 1; the packet passes.
+/// - Read handlers: count, byte_count. Write handlers: reset_counts.
+///
+/// Example: `FromDevice(a) -> c :: Counter -> Discard;`
+pub fn make_counter(arguments: &Arguments) -> Result<State, ArgFault>
+    ensures { result ≡ plain (State.Counter 0 0) arguments.now }
+{
+    plain(
+        State::Counter {
+            count: 0,
+            byte_count: 0,
+        },
+        arguments,
+    )
+}
+
+/// Idle: neither takes nor gives packets.
+///
+/// - Arguments: none.
+/// - Ports: any number of agnostic inputs and outputs.
+/// - It drops what is pushed to it, gives no packet, and never pulls.
+/// - Handlers: none.
+///
+/// Example: `Idle -> Discard;`
+pub fn make_idle(arguments: &Arguments) -> Result<State, ArgFault>
+    ensures { result ≡ plain State.Idle arguments.now }
+{
+    plain(State::Idle, arguments)
+}
+
+/// Discard: drops packets.
+///
+/// - Arguments: none.
+/// - Ports: one agnostic input, no output.
+/// - It drops what is pushed to it. With a pull input each run of its task pulls one packet and drops it.
+/// - Handlers: none.
+///
+/// Example: `FromDevice(a) -> Discard;`
+pub fn make_discard(arguments: &Arguments) -> Result<State, ArgFault>
+    ensures { result ≡ plain State.Discard arguments.now }
+{
+    plain(State::Discard, arguments)
+}
+
+/// Null: passes packets.
+///
+/// - Arguments: none.
+/// - Ports: one agnostic input, one agnostic output.
+/// - Packets pass.
+/// - Handlers: none.
+///
+/// Example: `FromDevice(a) -> Null -> Discard;`
+pub fn make_null(arguments: &Arguments) -> Result<State, ArgFault>
+    ensures { result ≡ plain State.Null arguments.now }
+{
+    plain(State::Null, arguments)
+}
+
+/// PushNull: passes packets that are pushed.
+///
+/// - Arguments: none.
+/// - Ports: one push input, one push output.
+/// - Packets pass.
+/// - Handlers: none.
+///
+/// Example: `FromDevice(a) -> PushNull -> Discard;`
+pub fn make_push_null(arguments: &Arguments) -> Result<State, ArgFault>
+    ensures { result ≡ plain State.PushNull arguments.now }
+{
+    plain(State::PushNull, arguments)
+}
+
+/// PullNull: passes packets that are pulled.
+///
+/// - Arguments: none.
+/// - Ports: one pull input, one pull output.
+/// - Packets pass.
+/// - Handlers: none.
+///
+/// Example: `FromDevice(a) -> Queue -> PullNull -> ToDevice(b);`
+pub fn make_pull_null(arguments: &Arguments) -> Result<State, ArgFault>
+    ensures { result ≡ plain State.PullNull arguments.now }
+{
+    plain(State::PullNull, arguments)
+}

@@ -1,0 +1,82 @@
+//! Queues.
+
+ghost use Rattle.std.specs.Prelude.{◌≡◌, ◌≤◌, [], Ok, IfOk};
+ghost use Rattle.click_classes.specs.Fresh.{capacity, queue, front_drop_queue};
+ghost use Rattle.click_classes.specs.Steps.{IsOrNoMemory};
+
+use crate::arguments::Arguments;
+use crate::fault::ArgFault;
+use crate::packet_list::PacketList;
+use crate::state::State;
+use crate::values::number::number_in;
+use std::alloc::Global;
+
+/// How many packets there is room for.
+#[tactic(auto, unfolding(crate::specs::Fresh::capacity))]
+fn capacity(arguments: &Arguments) -> Result<u64, ArgFault>
+    ensures value { result ≡ capacity arguments.now }
+    ensures bound { IfOk result (λ n. n ≤ 10000) }
+{
+    if !arguments.are(0, 1) {
+        return Err(ArgFault::ArgumentCount);
+    }
+    match arguments.get(0) {
+        Some(bytes) => number_in(bytes, 1, 10_000),
+        None => Ok(1_000),
+    }
+}
+
+/// An empty list with room for that many packets.
+fn list(alloc: Global, capacity: u64) -> Result<PacketList, ArgFault>
+    requires { capacity ≤ 10000 }
+    ensures { IsOrNoMemory (Ok (record { packets = []; capacity = capacity })) result }
+{
+    match PacketList::with_capacity(alloc, capacity as usize) {
+        Ok(list) => Ok(list),
+        Err(_) => Err(ArgFault::NoMemory),
+    }
+}
+
+/// Queue([CAPACITY]): stores packets and gives them first in, first out.
+///
+/// - Arguments: CAPACITY, a number from 1 to 10,000, else 1,000.
+/// - Ports: one push input, one pull output.
+/// - A packet that comes is stored last; when CAPACITY packets are stored it is dropped and counted in `drops`. A pull
+///   takes the first.
+/// - Read handlers: length, highwater_length, drops, capacity. Write handlers: capacity, reset_counts, reset.
+///
+/// Example: `FromDevice(a) -> q :: Queue(64) -> ToDevice(b);`
+#[tactic(auto, unfolding(crate::specs::Fresh::queue))]
+pub fn make_queue(alloc: Global, arguments: &Arguments) -> Result<State, ArgFault>
+    ensures { IsOrNoMemory (queue arguments.now) result }
+{
+    let capacity = capacity(arguments)?;
+    let list = list(alloc, capacity)?;
+    Ok(State::Queue {
+        list,
+        drops: 0,
+        highest: 0,
+    })
+}
+
+/// FrontDropQueue([CAPACITY]): stores packets and gives them first in, first out; the oldest makes room.
+///
+/// - Arguments: as of Queue.
+/// - Ports: one push input, one pull output.
+/// - A packet that comes is stored last; when CAPACITY packets are stored the first is dropped and counted in `drops`. A
+///   pull takes the first.
+/// - Handlers: as of Queue.
+///
+/// Example: `FromDevice(a) -> q :: FrontDropQueue(2) -> ToDevice(b);`
+#[tactic(auto, unfolding(crate::specs::Fresh::front_drop_queue))]
+pub fn make_front_drop_queue(alloc: Global, arguments: &Arguments) -> Result<State, ArgFault>
+    ensures { IsOrNoMemory (front_drop_queue arguments.now) result }
+{
+    let capacity = capacity(arguments)?;
+    let list = list(alloc, capacity)?;
+    Ok(State::FrontDropQueue {
+        list,
+        drops: 0,
+        highest: 0,
+    })
+}

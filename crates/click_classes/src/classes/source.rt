@@ -1,0 +1,94 @@
+//! Elements that make packets.
+
+ghost use Rattle.std.specs.Prelude.{◌≡◌, ◌-◌, ◌^◌, None, true, slice_get};
+ghost use Rattle.click_classes.specs.Values.{number_in, number_or_minus_one, truth};
+ghost use Rattle.click_classes.specs.Fresh.{optional, infinite_source};
+ghost use Rattle.click_classes.specs.Made.{AreBytes, ByFirst};
+ghost use Rattle.click_classes.specs.Steps.{OrNoMemory};
+
+use crate::arguments::Arguments;
+use crate::fault::ArgFault;
+use crate::state::State;
+use crate::values::number::{number_in, number_or_minus_one};
+use crate::values::truth::truth;
+use click_text::sequence::Sequence;
+use click_text::unquote::unquote;
+use std::alloc::Global;
+
+/// The bytes of a packet.
+fn source_bytes(alloc: Global, arguments: &Arguments) -> Result<Sequence<u8>, ArgFault>
+    ensures { OrNoMemory (AreBytes (slice_get arguments.now 0)) result }
+{
+    let Some(first) = arguments.get(0) else {
+        let zeros = vec![in alloc; 0; 64]?;
+        return Ok(Sequence::of(zeros));
+    };
+    let Some(bytes) = unquote(alloc, first)? else {
+        return Err(ArgFault::BadText);
+    };
+    if bytes.len() > 1_600 {
+        return Err(ArgFault::OutOfRange);
+    }
+    Ok(Sequence::of(bytes))
+}
+
+/// How many packets there will be, if that has an end.
+fn limit(arguments: &Arguments) -> Result<Option<u64>, ArgFault>
+    ensures { result ≡ optional arguments.now 1 None (number_or_minus_one (2 ^ 64 - 1)) }
+{
+    match arguments.get(1) {
+        Some(bytes) => number_or_minus_one(bytes, u64::MAX),
+        None => Ok(None),
+    }
+}
+
+/// How many packets one run of the task gives.
+fn burst(arguments: &Arguments) -> Result<u8, ArgFault>
+    ensures { result ≡ optional arguments.now 2 1 (number_in 1 64) }
+{
+    let Some(bytes) = arguments.get(2) else {
+        return Ok(1);
+    };
+    let burst = number_in(bytes, 1, 64)?;
+    Ok(burst as u8)
+}
+
+/// Whether there are packets from the beginning on.
+fn active(arguments: &Arguments) -> Result<bool, ArgFault>
+    ensures { result ≡ optional arguments.now 3 true truth }
+{
+    match arguments.get(3) {
+        Some(bytes) => truth(bytes),
+        None => Ok(true),
+    }
+}
+
+/// InfiniteSource([BYTES [, LIMIT [, BURST [, ACTIVE]]]]): makes packets.
+///
+/// - Arguments: BYTES, at most 1,600 bytes without their quotes, else 64 zero bytes; LIMIT, a number from 0 to 2^64 - 1, or
+///   -1 for none, which is the default; BURST, a number from 1 to 64, else 1; ACTIVE, a truth value, else true.
+/// - Ports: no input, one push output.
+/// - While it is active, each run of its task pushes up to BURST packets of BYTES and counts each. With a LIMIT there are
+///   none once the count has reached it.
+/// - Read handlers: active, count. Write handlers: active, reset.
+///
+/// Example: `InfiniteSource("ab", 5, 2) -> Discard;`
+#[tactic(auto, unfolding(crate::specs::Fresh::infinite_source))]
+pub fn make_infinite_source(alloc: Global, arguments: &Arguments) -> Result<State, ArgFault>
+    ensures { OrNoMemory (ByFirst 4 infinite_source arguments.now) result }
+{
+    if !arguments.are(0, 4) {
+        return Err(ArgFault::ArgumentCount);
+    }
+    let bytes = source_bytes(alloc, arguments)?;
+    let limit = limit(arguments)?;
+    let burst = burst(arguments)?;
+    let active = active(arguments)?;
+    Ok(State::InfiniteSource {
+        bytes,
+        limit,
+        burst,
+        active,
+        count: 0,
+    })
+}

@@ -1,0 +1,78 @@
+//! Entries of StaticIPLookup.
+
+ghost use Rattle.std.specs.Prelude.{◌≡◌, []};
+ghost use Rattle.click_classes.specs.Entries.{entry, same_prefix, has_prefix, table};
+ghost use Rattle.click_classes.specs.Steps.{IsOrNoMemory};
+
+use crate::fault::ArgFault;
+use crate::values::address::address;
+use crate::values::number::number_in;
+use crate::values::prefix::{Prefix, read_prefix};
+use click_text::sequence::Sequence;
+use std::alloc::Global;
+
+/// Where packets go whose destination the prefix has.
+#[derive(Clone, Copy, Debug, PartialEq, Eq)]
+pub struct Entry {
+    pub prefix: Prefix,
+    pub gateway: Option<[u8; 4]>,
+    pub output: u8,
+}
+
+/// A prefix, maybe a gateway, and an output from 0 to 255.
+#[tactic(auto, unfolding(crate::specs::Entries::entry))]
+pub fn read_entry(words: &[Sequence<u8>]) -> Result<Entry, ArgFault>
+    ensures { result ≡ entry words.now }
+{
+    if words.len() == 2 {
+        let prefix = read_prefix(words[0].as_slice())?;
+        let output = number_in(words[1].as_slice(), 0, 255)?;
+        return Ok(Entry {
+            prefix,
+            gateway: None,
+            output: output as u8,
+        });
+    }
+    if words.len() == 3 {
+        let prefix = read_prefix(words[0].as_slice())?;
+        let gateway = address(words[1].as_slice())?;
+        let output = number_in(words[2].as_slice(), 0, 255)?;
+        return Ok(Entry {
+            prefix,
+            gateway: Some(gateway),
+            output: output as u8,
+        });
+    }
+    Err(ArgFault::BadEntry)
+}
+
+fn is_same(a: Prefix, b: Prefix) -> bool
+    ensures { result ≡ same_prefix a b }
+{
+    a.len == b.len && a.network == b.network
+}
+
+/// Whether an entry has the prefix.
+fn has_prefix(entries: &[Entry], prefix: Prefix) -> bool
+    ensures { result ≡ has_prefix entries.now prefix }
+{
+    entries.iter().any(|entry| is_same(entry.prefix, prefix))
+}
+
+/// The entries that arguments spell, which are given by their words; no two have one prefix.
+pub fn read_table(
+    alloc: Global,
+    arguments: &[Sequence<Sequence<u8>>],
+) -> Result<Sequence<Entry>, ArgFault>
+    ensures { IsOrNoMemory (table [] arguments.now) result }
+{
+    let mut entries = Sequence::new(alloc);
+    for words in arguments {
+        let entry = read_entry(words.as_slice())?;
+        if has_prefix(entries.as_slice(), entry.prefix) {
+            return Err(ArgFault::BadEntry);
+        }
+        entries.push(entry)?;
+    }
+    Ok(entries)
+}

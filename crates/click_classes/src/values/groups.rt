@@ -1,0 +1,64 @@
+//! Groups of digits with a byte between two of them.
+
+ghost use Rattle.std.specs.Prelude.{◌≡◌, ◌==◌, ◌<◌, length, position, Some, None, IfSome, MatchBool};
+ghost use Rattle.click_classes.specs.Values.{group, joined};
+
+use crate::values::number::{decimal_in, hexadecimal_in};
+
+/// What a group is.
+#[derive(Clone, Copy)]
+pub enum Group {
+    /// One to three decimal digits that spell at most 255.
+    Octet,
+    /// One or two hexadecimal digits.
+    Pair,
+}
+
+impl Group {
+    /// The byte that the digits spell, if they are such a group.
+    #[tactic(auto, unfolding(crate::specs::Values::group))]
+    pub fn read(self, bytes: &[u8]) -> Option<u8>
+        ensures { result ≡ group self bytes.now }
+    {
+        let number = match self {
+            Group::Octet if bytes.len() <= 3 => decimal_in(bytes, 255)?,
+            Group::Pair if bytes.len() <= 2 => hexadecimal_in(bytes, 255)?,
+            _ => return None,
+        };
+        Some(number as u8)
+    }
+}
+
+/// Where the byte stands first.
+pub fn place(bytes: &[u8], byte: u8) -> Option<usize>
+    ensures value { result ≡ position (λ b. b == byte) bytes.now }
+    ensures within { IfSome result (λ at. (at < length bytes.now) × (at < usize.MAX)) }
+{
+    bytes.iter().position(|b| *b == byte)
+}
+
+/// Reads as many groups as `values` has places, with a separator between two of them, and says whether it could.
+pub fn read_joined(bytes: &[u8], separator: u8, kind: Group, values: &mut [u8]) -> bool
+    requires { 0 < length values.old }
+    ensures { MatchBool result
+        (joined kind separator (length values.old) bytes.now ≡ Some values.new)
+        (joined kind separator (length values.old) bytes.now ≡ None) }
+{
+    let mut rest = bytes;
+    let last = values.len() - 1;
+    for i in 0..last {
+        let Some(at) = place(rest, separator) else {
+            return false;
+        };
+        let Some(value) = kind.read(&rest[..at]) else {
+            return false;
+        };
+        values[i] = value;
+        rest = &rest[at + 1..];
+    }
+    let Some(value) = kind.read(rest) else {
+        return false;
+    };
+    values[last] = value;
+    true
+}

@@ -1,0 +1,148 @@
+//! Numbers: decimal digits, or `0x` and hexadecimal digits (Click element reference, "unsigned integer").
+
+ghost use Rattle.std.specs.Prelude.{◌≡◌, ◌<◌, ◌≤◌, ◌+◌, ◌*◌, IfOk, IfSome};
+ghost use Rattle.std.specs.List.{list_all};
+ghost use Rattle.click_text.specs.Pieces.{digit};
+ghost use Rattle.click_classes.specs.Values.{hex_digit, digit_value, is_run, spelled, at_most, decimal_in, hexadecimal_in, number_in, number_or_minus_one};
+
+use crate::fault::ArgFault;
+
+/// Whether the byte is a decimal digit.
+fn is_digit(byte: u8) -> bool
+    ensures { result ≡ digit byte }
+{
+    byte.is_ascii_digit()
+}
+
+/// Whether the byte is a hexadecimal digit.
+pub fn is_hex_digit(byte: u8) -> bool
+    ensures { result ≡ hex_digit byte }
+{
+    byte.is_ascii_hexdigit()
+}
+
+/// What a hexadecimal digit is worth.
+pub fn digit_value(byte: u8) -> u8
+    ensures value { result ≡ digit_value byte }
+    ensures small { result < 16 }
+{
+    match byte {
+        b'0'..=b'9' => byte - b'0',
+        b'A'..=b'F' => byte - b'A' + 10,
+        b'a'..=b'f' => byte - b'a' + 10,
+        _ => 0,
+    }
+}
+
+/// Decimal digits alone.
+fn all_digits(bytes: &[u8]) -> bool
+    ensures { result ≡ list_all digit bytes.now }
+{
+    bytes.iter().all(|byte| is_digit(*byte))
+}
+
+/// Hexadecimal digits alone.
+pub fn all_hex_digits(bytes: &[u8]) -> bool
+    ensures { result ≡ list_all hex_digit bytes.now }
+{
+    bytes.iter().all(|byte| is_hex_digit(*byte))
+}
+
+/// One or more decimal digits.
+fn are_decimal(bytes: &[u8]) -> bool
+    ensures { result ≡ is_run digit bytes.now }
+{
+    !bytes.is_empty() && all_digits(bytes)
+}
+
+/// One or more hexadecimal digits.
+fn are_hexadecimal(bytes: &[u8]) -> bool
+    ensures { result ≡ is_run hex_digit bytes.now }
+{
+    !bytes.is_empty() && all_hex_digits(bytes)
+}
+
+/// A number with a further digit, if that is at most `high`.
+fn with_digit(number: u64, base: u64, digit: u64, high: u64) -> Option<u64>
+    ensures { result ≡ at_most high (base * number + digit) }
+{
+    let more = base.checked_mul(number)?.checked_add(digit)?;
+    (more <= high).then_some(more)
+}
+
+/// The number that digits spell, if it is at most `high`. There may be any number of digits.
+fn spelled(digits: &[u8], base: u64, high: u64) -> Option<u64>
+    requires { 0 < base }
+    ensures { result ≡ at_most high (spelled base 0 digits.now) }
+{
+    let mut number: u64 = 0;
+    for digit in digits {
+        // Further digits make it no smaller.
+        let Some(more) = with_digit(number, base, u64::from(digit_value(*digit)), high) else {
+            return None;
+        };
+        number = more;
+    }
+    Some(number)
+}
+
+/// What decimal digits alone spell, up to `high`.
+#[tactic(auto, unfolding(crate::specs::Values::decimal_in))]
+pub fn decimal_in(bytes: &[u8], high: u64) -> Option<u64>
+    ensures value { result ≡ decimal_in high bytes.now }
+    ensures bound { IfSome result (λ n. n ≤ high) }
+{
+    if are_decimal(bytes) {
+        spelled(bytes, 10, high)
+    } else {
+        None
+    }
+}
+
+/// What hexadecimal digits alone spell, up to `high`.
+#[tactic(auto, unfolding(crate::specs::Values::hexadecimal_in))]
+pub fn hexadecimal_in(bytes: &[u8], high: u64) -> Option<u64>
+    ensures value { result ≡ hexadecimal_in high bytes.now }
+    ensures bound { IfSome result (λ n. n ≤ high) }
+{
+    if are_hexadecimal(bytes) {
+        spelled(bytes, 16, high)
+    } else {
+        None
+    }
+}
+
+/// A number from `low` to `high`.
+#[tactic(auto, unfolding(crate::specs::Values::number_in))]
+pub fn number_in(bytes: &[u8], low: u64, high: u64) -> Result<u64, ArgFault>
+    ensures value { result ≡ number_in low high bytes.now }
+    ensures bound { IfOk result (λ n. n ≤ high) }
+{
+    let number = if are_decimal(bytes) {
+        spelled(bytes, 10, high)
+    } else if bytes.len() > 2
+        && bytes[0] == b'0'
+        && bytes[1] == b'x'
+        && are_hexadecimal(&bytes[2..])
+    {
+        spelled(&bytes[2..], 16, high)
+    } else {
+        return Err(ArgFault::BadNumber);
+    };
+    match number {
+        Some(number) if low <= number => Ok(number),
+        _ => Err(ArgFault::OutOfRange),
+    }
+}
+
+/// A number from 0 to `high`, or `-1`, which is None.
+#[tactic(auto, unfolding(crate::specs::Values::number_or_minus_one))]
+pub fn number_or_minus_one(bytes: &[u8], high: u64) -> Result<Option<u64>, ArgFault>
+    ensures value { result ≡ number_or_minus_one high bytes.now }
+    ensures bound { IfOk result (λ number. IfSome number (λ n. n ≤ high)) }
+{
+    if bytes == b"-1".as_slice() {
+        return Ok(None);
+    }
+    Ok(Some(number_in(bytes, 0, high)?))
+}
