@@ -1,7 +1,7 @@
 -- The grammar of configurations (Click manual, "The Click language"), by cases over the list of tokens.
 -- `IsX ts bs x ts' bs'`: from the tokens ts on an X stands, with the tree x, and ts' follows it.
 -- bs are the bodies that are closed before it, bs' those after it: a body is named by its place among them.
-use Rattle.std.specs.Prelude.{◌≡◌, ℕ, ◌+◌, ◌-◌, ◌<◌, List, [], ◌∷◌, ◌++◌, length, Option, Some, None}
+use Rattle.std.specs.Prelude.{ℕ, ◌+◌, ◌-◌, ◌<◌, List, [], ◌∷◌, ◌++◌, length, Option, Some, None}
 use Rattle.click_text.specs.declared.syntax.Span.{Span}
 use Rattle.click_text.specs.declared.syntax.Token.{Token}
 use Rattle.click_text.specs.declared.syntax.Token.TheVariants as token
