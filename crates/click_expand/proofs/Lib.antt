@@ -1,0 +1,12 @@
+pub mod Places
+pub mod Showing
+pub mod Making
+pub mod Keeping
+pub mod Nesting
+pub mod Once
+pub mod Walking
+pub mod Locating
+pub mod Ordered
+pub mod Least
+pub mod Finding
+pub mod ReadsBack

@@ -1,0 +1,12 @@
+use Rattle.std.proofs.Common.{List}
+use Rattle.click_text.specs.declared.syntax.Statement.{Statement}
+use Rattle.click_expand.specs.Tables.{Shows, IsMore}
+use Rattle.click_expand.proofs.Keeping.{Kept}
+use Rattle.click_expand.proofs.scopes.written_of.Given as goal
+
+abbrev pub invariant-loop-statement : goal.invariant-loop-statement
+invariant-loop-statement l = record {
+  grows : IsMore l.fn.entries.items l.entries.items;
+  kept : (visible : List Statement) → Shows l.text l.fn.entries.items l.fn.outside visible →
+      Kept l.text l.entries.items l.scope l.top l.written.items l.fn.roots.items l.roots.items visible l.statement-index l.statements;
+}

@@ -1,0 +1,127 @@
+-- The flat form of a configuration, or its first fault.
+use Rattle.std.specs.Prelude.{◌≡◌, ◌⊎◌, ℕ, ◌<◌, ◌≤◌, List, [], ◌∷◌, ◌++◌, length, map, slice_get, sum_by, Contains, All, Bool, true, false, Option, Some, None, Result, Ok, Err}
+use Rattle.click_text.specs.declared.strings.Mode.TheVariants as mode
+use Rattle.click_text.specs.declared.syntax.Span.{Span}
+use Rattle.click_text.specs.declared.syntax.Config.{Config}
+use Rattle.click_text.specs.Strings.{closes}
+use Rattle.click_expand.specs.Faults.{IsFirstWrong, IsSound}
+use Rattle.click_expand.specs.Instances.{Leaf, LeavesOf}
+use Rattle.click_expand.specs.Connections.{output_of, input_of, Leads}
+use Rattle.click_expand.specs.declared.flat.FlatElement.{FlatElement}
+use Rattle.click_expand.specs.declared.flat.Connection.{Connection}
+use Rattle.click_expand.specs.declared.flat.Flat.{Flat}
+use Rattle.click_expand.specs.declared.fault.FaultKind.{FaultKind}
+use Rattle.click_expand.specs.declared.fault.FaultKind.TheVariants as kind
+use Rattle.click_expand.specs.declared.fault.ExpandFault.{ExpandFault}
+
+-- the limits
+abbrev pub most_elements : ℕ
+most_elements = 4096
+
+abbrev pub most_paths : ℕ
+most_paths = 16384
+
+abbrev pub most_connections : ℕ
+most_connections = 16384
+
+abbrev pub most_text : ℕ
+most_text = 1048576
+
+-- the local names on a path, with `/` between two of them
+abbrev pub flat_name : List (List ℕ) → List ℕ
+flat_name [] = []
+flat_name (n ∷ []) = n
+flat_name (n ∷ m ∷ ns) = n ++ 47 ∷ flat_name (m ∷ ns)
+
+abbrev pub flat_element : Leaf → FlatElement
+flat_element l = record { name = flat_name l.path; class = l.class; text = l.text }
+
+-- a connection between two leaves by their places
+pub record Joins (c : Config) (leaves : List Leaf) (k : Connection) : Type 0 where
+  pub from : Leaf
+  pub from_there : slice_get leaves k.from ≡ Some from
+  pub to : Leaf
+  pub to_there : slice_get leaves k.to ≡ Some to
+  pub leads : Leads c (output_of from.path k.out_port) (input_of to.path k.in_port)
+
+-- one connection stands before another: by from-element, from-port, to-element, to-port
+abbrev pub Before : Connection → Connection → Type 0
+Before c d =
+    (c.from < d.from) ⊎ ((c.from ≡ d.from) × ((c.out_port < d.out_port) ⊎ ((c.out_port ≡ d.out_port) ×
+    ((c.to < d.to) ⊎ ((c.to ≡ d.to) × (c.in_port < d.in_port))))))
+
+abbrev pub InOrder : List Connection → Type 0
+InOrder [] = Unit {0}
+InOrder (c ∷ cs) = All (Before c) cs × InOrder cs
+
+-- the connections of leaves: each joined pair once, in order
+pub record AreConnections (c : Config) (leaves : List Leaf) (ks : List Connection) : Type 0 where
+  pub sound : (k : Connection) → Contains ks k → Joins c leaves k
+  pub complete : (k : Connection) → Joins c leaves k → Contains ks k
+  pub in_order : InOrder ks
+
+abbrev pub text_size : List Leaf → ℕ
+text_size leaves = sum_by (λ (l : Leaf). length l.text) leaves
+
+pub record WithinLimits (leaves : List Leaf) (paths : ℕ) (ks : List Connection) : Type 0 where
+  pub elements : length leaves ≤ most_elements
+  pub all_paths : paths ≤ most_paths
+  pub connections : length ks ≤ most_connections
+  pub text : text_size leaves ≤ most_text
+
+-- a text that, set in parentheses, is one token
+abbrev pub is_whole : List ℕ → Bool
+is_whole text = closes mode.Plain 1 (text ++ 41 ∷ [])
+
+-- the flat names of leaves
+abbrev pub flat_names : List Leaf → List (List ℕ)
+flat_names leaves = map (λ (l : Leaf). flat_name l.path) leaves
+
+-- no two of the names are equal
+abbrev pub AreDistinct : List (List ℕ) → Type 0
+AreDistinct [] = Unit {0}
+AreDistinct (n ∷ ns) = (Contains ns n → ⊥) × AreDistinct ns
+
+-- what a sound configuration stands for: its elements by their paths, how many paths there are, and its connections
+pub record Meant (c : Config) (leaves : List Leaf) (paths : ℕ) (ks : List Connection) : Type 0 where
+  pub sound : IsSound c
+  pub elements : LeavesOf c leaves paths
+  pub connections : AreConnections c leaves ks
+
+-- the flat form of a configuration
+pub record IsFlat (c : Config) (f : Flat) : Type 0 where
+  pub leaves : List Leaf
+  pub paths : ℕ
+  pub meant : Meant c leaves paths f.connections
+  pub limits : WithinLimits leaves paths f.connections
+  pub distinct : AreDistinct (flat_names leaves)
+  pub texts : All (λ (l : Leaf). is_whole l.text ≡ true) leaves
+  pub elements : f.elements ≡ map flat_element leaves
+
+abbrev pub expand_fault : FaultKind → Option Span → List ℕ → ExpandFault
+expand_fault k s name = record { kind = k; span = s; name = name }
+
+-- The first fault: a wrong use of a name, class, parameter or port; else a limit that is passed; else the first element whose flat name an earlier
+-- one has; else the first text that is no longer one string.
+pub data IsFlatFault (c : Config) : ExpandFault → Type 0 where
+  wrong : (k : FaultKind) (s : Span) → IsFirstWrong c k s → IsFlatFault c (expand_fault k (Some s) [])
+  too_many : (leaves : List Leaf) (paths : ℕ) (ks : List Connection) → Meant c leaves paths ks → (WithinLimits leaves paths ks → ⊥) →
+      IsFlatFault c (expand_fault kind.TooMany None [])
+  repeated : (leaves front back : List Leaf) (l : Leaf) (paths : ℕ) (ks : List Connection) → Meant c leaves paths ks → WithinLimits leaves paths ks →
+      leaves ≡ front ++ l ∷ back → AreDistinct (flat_names front) → Contains (flat_names front) (flat_name l.path) →
+      IsFlatFault c (expand_fault kind.DeclaredTwice (Some l.first) [])
+  broken : (leaves front back : List Leaf) (l : Leaf) (paths : ℕ) (ks : List Connection) → Meant c leaves paths ks → WithinLimits leaves paths ks →
+      AreDistinct (flat_names leaves) → leaves ≡ front ++ l ∷ back → All (λ (k : Leaf). is_whole k.text ≡ true) front → is_whole l.text ≡ false →
+      IsFlatFault c (expand_fault kind.BrokenText None (flat_name l.path))
+
+-- want of memory
+abbrev pub no_memory : ExpandFault
+no_memory = expand_fault kind.NoMemory None []
+
+abbrev pub IsMemoryOr : ExpandFault → Type 0 → Type 0
+IsMemoryOr f P = (f ≡ no_memory) ⊎ P
+
+-- that flat form, unless memory ran out
+abbrev pub IsGiven : Result Flat ExpandFault → Flat → Type 0
+IsGiven (Ok g) f = g ≡ f
+IsGiven (Err e) f = e ≡ no_memory

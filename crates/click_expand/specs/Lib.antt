@@ -1,0 +1,16 @@
+pub mod Scopes
+pub mod Classes
+pub mod Elements
+pub mod Faults
+pub mod Parameters
+pub mod Instances
+pub mod Connections
+pub mod Flat
+pub mod FlatText
+pub mod Tables
+pub mod Standing
+pub mod Nesting
+pub mod Scoped
+pub mod Located
+pub mod Wrongs
+pub mod Found

@@ -1,0 +1,29 @@
+//! A configuration without scopes.
+
+use click_text::sequence::Sequence;
+
+/// An element under its flat name.
+#[derive(Drop)]
+pub struct FlatElement {
+    pub name: Sequence<u8>,
+    /// The name of one of the router's classes.
+    pub class: Sequence<u8>,
+    /// Its configuration string, without the parentheses.
+    pub text: Sequence<u8>,
+}
+
+/// An output joined to an input. Elements are named by their places, from 0.
+#[derive(Clone, Copy, Debug, PartialEq, Eq, PartialOrd, Ord)]
+pub struct Connection {
+    pub from: usize,
+    pub out_port: u8,
+    pub to: usize,
+    pub in_port: u8,
+}
+
+/// Elements in the order of the text, connections in their own order, each once.
+#[derive(Drop)]
+pub struct Flat {
+    pub elements: Sequence<FlatElement>,
+    pub connections: Sequence<Connection>,
+}

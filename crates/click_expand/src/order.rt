@@ -1,0 +1,17 @@
+//! The order of connections.
+
+ghost use Rattle.std.specs.Prelude.{◌↔◌, Contains};
+ghost use Rattle.click_expand.specs.declared.flat.Connection.{Connection as Joined};
+ghost use Rattle.click_expand.specs.Flat.{InOrder};
+
+use crate::flat::Connection;
+
+/// The connections in their order, each once.
+pub fn in_order(mut connections: Vec<Connection>) -> Vec<Connection>
+    ensures order { InOrder result.items }
+    ensures same { (c : Joined) → Contains result.items c ↔ Contains connections.items c }
+{
+    connections.sort_unstable();
+    connections.dedup();
+    connections
+}
