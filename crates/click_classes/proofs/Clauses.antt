@@ -1,11 +1,11 @@
 -- Lemmas about the clauses of patterns.
-use Rattle.std.proofs.Common.{◌≡◌, ◌==◌, ℕ, ◌+◌, ◌<◌, ◌≤◌, ◌%◌, List, length, take, drop, Bool, true, false, Some, None, Err, refl, ap, ◌∙◌, arith}
+use Rattle.std.proofs.Common.{◌≡◌, ◌==◌, ℕ, ◌+◌, ◌<◌, ◌%◌, List, length, take, drop, Bool, true, false, Some, None, Err, refl, arith}
 use Rattle.std.specs.Prelude.{◌&&◌, nat_le, position, replicate}
 use Rattle.std.specs.List.{list_all}
 use Rattle.std.proofs.lemmas.Bool.Decides.{nat_tests}
 use Rattle.click_classes.specs.declared.fault.ArgFault.TheVariants as fault
 use Rattle.click_classes.specs.Values.{decimal_in}
-use Rattle.click_classes.specs.Patterns.{are_digits, is_mask, pattern_digit, clause_of, unsigned}
+use Rattle.click_classes.specs.Patterns.{are_digits, pattern_digit, clause_of, unsigned}
 
 and_false : (a b : Bool) → ((a && false) && b) ≡ false
 and_false true b = refl

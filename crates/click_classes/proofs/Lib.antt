@@ -8,3 +8,6 @@ pub mod Given
 pub mod Makes
 pub mod OneReading
 pub mod OneState
+pub mod Bits
+pub mod Uses
+pub mod OneRoute

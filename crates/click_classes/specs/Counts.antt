@@ -1,5 +1,5 @@
 -- How many ports an element may have (Click element reference).
-use Rattle.std.specs.Prelude.{ℕ, ◌+◌, List, [], ◌∷◌, length, Bool, true, false, Option, Some, None, min, max}
+use Rattle.std.specs.Prelude.{ℕ, ◌+◌, List, [], ◌∷◌, length, true, false, Option, Some, None, min, max}
 use Rattle.click_classes.specs.declared.ports.Counts.{Counts}
 use Rattle.click_classes.specs.declared.values.entry.Entry.{Entry}
 use Rattle.click_classes.specs.declared.state.State.{State}

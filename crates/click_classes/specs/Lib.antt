@@ -4,8 +4,11 @@ pub mod Counts
 pub mod Entries
 pub mod Fresh
 pub mod Made
+pub mod Matches
 pub mod PacketList
 pub mod Patterns
+pub mod Routes
 pub mod State
 pub mod Steps
+pub mod Uses
 pub mod Values

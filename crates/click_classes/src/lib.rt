@@ -6,6 +6,7 @@ pub mod class;
 pub mod classes;
 pub mod codes;
 pub mod fault;
+pub mod laws;
 pub mod making;
 pub mod packet_list;
 pub mod port_counts;

@@ -2,7 +2,7 @@ use Rattle.std.proofs.Common.{rules, arith}
 use Rattle.std.proofs.lemmas.Grind.{common_steps}
 use Rattle.click_classes.specs.Made.{IsMade}
 use Rattle.click_classes.specs.Steps.{OrNoMemory}
-use Rattle.click_classes.proofs.OneState.{made_by, only_made}
+use Rattle.click_classes.proofs.OneState.{only_made}
 use Rattle.click_classes.proofs.making.make.Goals as goal
 
 pub returns-clause-only : goal.returns-clause-only

@@ -1,4 +1,4 @@
-use Rattle.std.proofs.Common.{◌≡◌, ◌+◌, max, drop, arith}
+use Rattle.std.proofs.Common.{arith}
 use Rattle.click_classes.proofs.Tables.{blank, outputs_more}
 use Rattle.click_classes.proofs.port_counts.outputs_for.Goals as goal
 use Rattle.click_classes.proofs.port_counts.outputs_for.Goals.{then-most-outputs, else-most-outputs}

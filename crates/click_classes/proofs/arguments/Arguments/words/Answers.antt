@@ -1,4 +1,4 @@
-use Rattle.std.proofs.Common.{sym, arith}
+use Rattle.std.proofs.Common.{arith}
 use Rattle.click_classes.proofs.Given.{words_more}
 use Rattle.click_classes.proofs.arguments.Arguments.words.Goals as goal
 

@@ -1,7 +1,6 @@
-use Rattle.std.proofs.Common.{◌≡◌, ◌==◌, ◌<◌, ◌+◌, ◌-◌, length, take, drop, Some, None, sym, ◌∙◌, suc, arith, length-set}
+use Rattle.std.proofs.Common.{◌≡◌, ◌+◌, ◌-◌, length, sym, ◌∙◌, suc, arith, length-set}
 use Rattle.std.proofs.lemmas.List.{take_rest}
-use Rattle.click_classes.specs.Values.{group, joined}
-use Rattle.click_classes.proofs.Groups.{behind, behind_none, joined_unseparated, joined_broken, joined_broken_last, joined_step, joined_end}
+use Rattle.click_classes.proofs.Groups.{behind_none, joined_unseparated, joined_broken, joined_broken_last, joined_step, joined_end}
 use Rattle.click_classes.proofs.values.groups.read_joined.Goals as goal
 
 pub returns-in_default : goal.returns-in_default

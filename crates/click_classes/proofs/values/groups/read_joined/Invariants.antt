@@ -1,4 +1,4 @@
-use Rattle.std.proofs.Common.{◌≡◌, ◌-◌, ◌≤◌, length, take}
+use Rattle.std.proofs.Common.{◌≡◌, ◌-◌, length, take}
 use Rattle.click_classes.specs.Values.{joined}
 use Rattle.click_classes.proofs.Groups.{behind}
 use Rattle.click_classes.proofs.values.groups.read_joined.Given as goal

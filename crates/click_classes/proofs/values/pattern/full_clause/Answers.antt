@@ -1,7 +1,5 @@
-use Rattle.std.proofs.Common.{◌≡◌, ℕ, length, take, replicate, inr, refl, arith, sym}
+use Rattle.std.proofs.Common.{◌≡◌, ℕ, length, take, replicate, inr, arith}
 use Rattle.std.proofs.lemmas.List.{take-replicate}
-use Rattle.click_classes.specs.Patterns.{clause_of}
-use Rattle.click_classes.specs.Steps.{IsOrNoMemory}
 use Rattle.click_classes.proofs.Clauses.{clause_of-long}
 use Rattle.click_classes.proofs.values.pattern.full_clause.Goals as goal
 

@@ -1,0 +1,268 @@
+-- A first state is of its class, and its counts allow some use.
+use Rattle.std.proofs.Common.{◌≡◌, ℕ, ◌+◌, ◌≤◌, List, [], ◌∷◌, ◌++◌, ◌==◌, length, max, Bool, true, false, Option, Some, None, Result, Ok, Err, refl, sym, arith, inl, inr}
+use Rattle.std.specs.Prelude.{MatchBool, if◌then◌else◌, ◌&&◌, ◌-◌, ◌^◌, nat_le, slice_get, slice_index_or, codes}
+use Rattle.std.specs.Str.{bytes_eq}
+use Rattle.std.proofs.lemmas.Bool.{cases_Bool}
+use Rattle.std.proofs.lemmas.Bool.Decides.{nat_tests}
+use Rattle.std.specs.List.{AllZip}
+use Rattle.click_text.specs.Words.{AreWords}
+use Rattle.click_classes.specs.declared.class.Class.{Class}
+use Rattle.click_classes.specs.declared.class.Class.TheVariants as is
+use Rattle.click_classes.specs.declared.fault.ArgFault.{ArgFault}
+use Rattle.click_classes.specs.declared.fault.ArgFault.TheVariants as fault
+use Rattle.click_classes.specs.declared.state.State.{State}
+use Rattle.click_classes.specs.declared.state.State.TheVariants as state
+use Rattle.click_classes.specs.declared.values.entry.Entry.{Entry}
+use Rattle.click_classes.specs.Counts.{ports, at_least, up_to_256, outputs_for, counts}
+use Rattle.click_classes.specs.Entries.{word, entry_of, entry, has_prefix, with_entry, table}
+use Rattle.click_classes.specs.Fresh.{argument, or_else, optional, addresses, source_bytes, plain, suppressor, capacity, empty, queue, front_drop_queue, port, switch, pull_switch, copies, tee, pull_tee, only_number, paint, paint_tee, strip, check_length, get_ip_address, ether_encap, device, from_device, to_device, classifier, static_ip_lookup, check_ip_header, infinite_source}
+use Rattle.click_classes.specs.Made.{IsGiven, ByWords, IsFresh}
+use Rattle.click_classes.specs.Patterns.{pattern}
+use Rattle.click_classes.specs.State.{class}
+use Rattle.click_classes.specs.Steps.{◌>>=◌, each}
+use Rattle.click_classes.specs.Uses.{HasUse}
+use Rattle.click_classes.specs.Values.{number, within, number_in, number_or_minus_one, some, prefix, address, ethernet, truth}
+
+-- a step that came to an end well
+pub both_ok : {A B : Type 0} (r : Result A ArgFault) (f : A → Result B ArgFault) (b : B) → Ok b ≡ (r >>= f) → (a : A) × (r ≡ Ok a) × (Ok b ≡ f a)
+both_ok (Ok a) f b e = (a, refl, e)
+both_ok (Err g) f b e = cc
+
+taken : {A : Type 0} (fits : Bool) (r : Result A ArgFault) (a : A) → Ok a ≡ (if fits then r else Err fault.ArgumentCount) → Ok a ≡ r
+taken true r a e = e
+taken false r a e = cc
+
+-- the words of arguments that are as many as they may be
+abbrev AtWords : (List (List (List ℕ)) → Result State ArgFault) → List (List ℕ) → State → Type 0
+AtWords first args s = (words : List (List (List ℕ))) × AllZip AreWords args words × (Ok s ≡ first words)
+
+cut : (fits : Bool) (first : List (List (List ℕ)) → Result State ArgFault) (args : List (List ℕ)) (s : State) → MatchBool fits (AtWords first args s) (Ok s ≡ Err fault.ArgumentCount) → AtWords first args s
+cut true first args s p = p
+cut false first args s e = cc
+
+by_words : (least most : ℕ) (first : List (List (List ℕ)) → Result State ArgFault) (args : List (List ℕ)) (s : State) → ByWords least most first args (Ok s) → AtWords first args s
+by_words least most first args s h = cut (nat_le least (length args) && nat_le (length args) most) first args s h
+
+abbrev AtFirst : Option (List ℕ) → (Option (Option (List ℕ)) → Result State ArgFault) → State → Type 0
+AtFirst argument state_of s = (first : Option (Option (List ℕ))) × IsGiven argument first × (Ok s ≡ state_of first)
+
+given : (fits : Bool) (argument : Option (List ℕ)) (state_of : Option (Option (List ℕ)) → Result State ArgFault) (s : State) → MatchBool fits (AtFirst argument state_of s) (Ok s ≡ Err fault.ArgumentCount) → AtFirst argument state_of s
+given true argument state_of s p = p
+given false argument state_of s e = cc
+
+within_bound : (low high : ℕ) (o : Option ℕ) (n : ℕ) → Ok n ≡ within low high o → n ≤ high
+within_bound low high None n e = cc
+within_bound low high (Some m) n e = grind (arith, nat_tests)
+
+pub number_bound : (low high : ℕ) (bytes : List ℕ) (n : ℕ) → Ok n ≡ number_in low high bytes → n ≤ high
+unfolding number_in
+number_bound low high bytes n e = within_bound low high (number bytes) n e
+
+some_bound : (r : Result ℕ ArgFault) (high : ℕ) (k : Option ℕ) → ((n : ℕ) → Ok n ≡ r → n ≤ high) → Ok k ≡ some r → at_least k ≤ high + 1
+some_bound (Ok n) high k bound e =
+    let same : Some n ≡ k = cc in
+    let small = bound n refl in
+    rw (← same) (omega arith)
+some_bound (Err f) high k bound e = cc
+
+minus_bound : (high : ℕ) (bytes : List ℕ) (k : Option ℕ) → Ok k ≡ number_or_minus_one high bytes → at_least k ≤ high + 1
+unfolding number_or_minus_one
+minus_bound high bytes k e = elim (cases_Bool (bytes_eq bytes (codes "-1"))) [
+  | inl t ↦ let f = rw t at e in let same : None ≡ k = cc in rw (← same) (omega arith)
+  | inr t ↦ let f = rw t at e in some_bound (number_in 0 high bytes) high k (λ n g. number_bound 0 high bytes n g) f
+]
+
+port_given : (o : Option (List ℕ)) (k : Option ℕ) → Ok k ≡ or_else (Some 0) (number_or_minus_one 255) o → at_least k ≤ 256
+port_given None k e = let same : Some 0 ≡ k = cc in rw (← same) (omega arith)
+port_given (Some bytes) k e = minus_bound 255 bytes k e
+
+port_bound : (args : List (List ℕ)) (k : Option ℕ) → Ok k ≡ port args → at_least k ≤ 256
+unfolding port
+port_bound args k e = port_given (slice_get args 0) k (taken _ (or_else (Some 0) (number_or_minus_one 255) (slice_get args 0)) k e)
+
+-- the outputs of entries
+outputs_push : (es : List Entry) (e : Entry) → outputs_for (es ++ e ∷ []) ≡ max (outputs_for es) (e.output + 1)
+outputs_push [] e = omega arith
+outputs_push (d ∷ es) e = let more = outputs_push es e in omega arith
+
+entry_bound : (words : List (List ℕ)) (e : Entry) → Ok e ≡ entry words → e.output ≤ 255
+unfolding entry
+entry_bound words e h = elim (cases_Bool (length words == 2)) [
+  | inl t ↦
+      let f = rw t at h in
+      let p = both_ok (prefix (word words 0)) _ e f in
+      let n = both_ok (number_in 0 255 (word words 1)) _ e p.2 in
+      let same : entry_of p.0 None n.0 ≡ e = cc in
+      rw (← same) (number_bound 0 255 (word words 1) n.0 (sym n.1))
+  | inr t ↦ elim (cases_Bool (length words == 3)) [
+    | inl u ↦
+        let f = rw (t, u) at h in
+        let p = both_ok (prefix (word words 0)) _ e f in
+        let g = both_ok (address (word words 1)) _ e p.2 in
+        let n = both_ok (number_in 0 255 (word words 2)) _ e g.2 in
+        let same : entry_of p.0 (Some g.0) n.0 ≡ e = cc in
+        rw (← same) (number_bound 0 255 (word words 2) n.0 (sym n.1))
+    | inr u ↦ let f = rw (t, u) at h in cc
+  ]
+]
+
+pub with_entry_is : (es : List Entry) (e : Entry) (more : List Entry) → with_entry es e ≡ Ok more → (has_prefix es e.prefix ≡ false) × (more ≡ es ++ e ∷ [])
+with_entry_is es e more h = elim (cases_Bool (has_prefix es e.prefix)) [
+  | inl t ↦ let f = rw t at h in cc
+  | inr t ↦ let f = rw t at h in (t, cc)
+]
+
+outputs_bound : (es : List Entry) (args : List (List (List ℕ))) (all : List Entry) → outputs_for es ≤ 256 → Ok all ≡ table es args → outputs_for all ≤ 256
+outputs_bound es [] all h e = let same : es ≡ all = cc in rw (← same) h
+outputs_bound es (words ∷ args) all h e =
+    let first = both_ok (entry words) _ all e in
+    let next = both_ok (with_entry es first.0) _ all first.2 in
+    let small = entry_bound words first.0 (sym first.1) in
+    let longer = (with_entry_is es first.0 next.0 next.1).1 in
+    let fits : outputs_for next.0 ≤ 256 = rw (longer, outputs_push es first.0) (omega arith) in
+    outputs_bound next.0 args all fits next.2
+
+-- ranges that hold something
+ranges : (a b c d : ℕ) → a ≤ b → c ≤ d → HasUse (ports a b c d)
+ranges a b c d h k = record {
+  inputs = a;
+  outputs = c;
+  least_in = omega arith;
+  most_in = h;
+  least_out = omega arith;
+  most_out = k;
+  equal = λ e. cc;
+}
+
+-- what is said of a first state
+abbrev pub IsWell : Class → State → Type 0
+IsWell c s = (class s ≡ c) × HasUse (counts s)
+
+well : (c : Class) (t s : State) → ◌≡◌ {A = Result State ArgFault} (Ok s) (Ok t) → class t ≡ c → HasUse (counts t) → IsWell c s
+well c t s e f h = let same : t ≡ s = cc in rw (← same) (f, h)
+
+well_plain : (c : Class) (t s : State) (args : List (List ℕ)) → Ok s ≡ plain t args → class t ≡ c → HasUse (counts t) → IsWell c s
+unfolding plain
+well_plain c t s args e f h = well c t s (taken _ (Ok t) s e) f h
+
+one_one : HasUse (ports 1 1 1 1)
+one_one = ranges 1 1 1 1 (omega arith) (omega arith)
+
+up_to : (n : Option ℕ) → HasUse (ports 1 1 (up_to_256 n).0 (up_to_256 n).1)
+up_to None = ranges 1 1 1 256 (omega arith) (omega arith)
+up_to (Some n) = ranges 1 1 n n (omega arith) (omega arith)
+
+well_queue : (args : List (List ℕ)) (s : State) → Ok s ≡ queue args → IsWell is.Queue s
+unfolding queue
+well_queue args s h = let a = both_ok (capacity args) _ s h in well is.Queue (state.Queue (empty a.0) 0 0) s a.2 refl one_one
+
+well_front_drop_queue : (args : List (List ℕ)) (s : State) → Ok s ≡ front_drop_queue args → IsWell is.FrontDropQueue s
+unfolding front_drop_queue
+well_front_drop_queue args s h = let a = both_ok (capacity args) _ s h in well is.FrontDropQueue (state.FrontDropQueue (empty a.0) 0 0) s a.2 refl one_one
+
+well_switch : (args : List (List ℕ)) (s : State) → Ok s ≡ switch args → IsWell is.Switch s
+unfolding switch
+well_switch args s h = let a = both_ok (port args) _ s h in well is.Switch (state.Switch a.0) s a.2 refl (ranges 1 1 (at_least a.0) 256 (omega arith) (port_bound args a.0 (sym a.1)))
+
+well_pull_switch : (args : List (List ℕ)) (s : State) → Ok s ≡ pull_switch args → IsWell is.PullSwitch s
+unfolding pull_switch
+well_pull_switch args s h = let a = both_ok (port args) _ s h in well is.PullSwitch (state.PullSwitch a.0) s a.2 refl (ranges (at_least a.0) 256 1 1 (port_bound args a.0 (sym a.1)) (omega arith))
+
+well_tee : (args : List (List ℕ)) (s : State) → Ok s ≡ tee args → IsWell is.Tee s
+unfolding tee
+well_tee args s h = let a = both_ok (copies args) _ s h in well is.Tee (state.Tee a.0) s a.2 refl (up_to a.0)
+
+well_pull_tee : (args : List (List ℕ)) (s : State) → Ok s ≡ pull_tee args → IsWell is.PullTee s
+unfolding pull_tee
+well_pull_tee args s h = let a = both_ok (copies args) _ s h in well is.PullTee (state.PullTee a.0) s a.2 refl (up_to a.0)
+
+well_paint : (args : List (List ℕ)) (s : State) → Ok s ≡ paint args → IsWell is.Paint s
+unfolding paint
+well_paint args s h = let a = both_ok (only_number 255 args) _ s h in well is.Paint (state.Paint a.0) s a.2 refl one_one
+
+well_paint_tee : (args : List (List ℕ)) (s : State) → Ok s ≡ paint_tee args → IsWell is.PaintTee s
+unfolding paint_tee
+well_paint_tee args s h = let a = both_ok (only_number 255 args) _ s h in well is.PaintTee (state.PaintTee a.0) s a.2 refl (ranges 1 1 1 2 (omega arith) (omega arith))
+
+well_strip : (args : List (List ℕ)) (s : State) → Ok s ≡ strip args → IsWell is.Strip s
+unfolding strip
+well_strip args s h = let a = both_ok (only_number 1600 args) _ s h in well is.Strip (state.Strip a.0) s a.2 refl one_one
+
+well_check_length : (args : List (List ℕ)) (s : State) → Ok s ≡ check_length args → IsWell is.CheckLength s
+unfolding check_length
+well_check_length args s h = let a = both_ok (only_number 65535 args) _ s h in well is.CheckLength (state.CheckLength a.0) s a.2 refl (ranges 1 1 1 2 (omega arith) (omega arith))
+
+well_classifier : (words : List (List (List ℕ))) (s : State) → Ok s ≡ classifier words → IsWell is.Classifier s
+unfolding classifier
+well_classifier words s h = let a = both_ok (each pattern words) _ s h in well is.Classifier (state.Classifier a.0) s a.2 refl (ranges 1 1 _ _ (omega arith) (omega arith))
+
+well_get_ip_address : (args : List (List ℕ)) (s : State) → Ok s ≡ get_ip_address args → IsWell is.GetIPAddress s
+unfolding get_ip_address
+well_get_ip_address args s h = let a = both_ok (only_number 1596 args) _ s h in well is.GetIPAddress (state.GetIPAddress a.0) s a.2 refl one_one
+
+well_lookup : (words : List (List (List ℕ))) (s : State) → Ok s ≡ static_ip_lookup words → IsWell is.StaticIPLookup s
+unfolding static_ip_lookup
+well_lookup words s h = let a = both_ok (table [] words) _ s h in well is.StaticIPLookup (state.StaticIPLookup a.0) s a.2 refl (ranges 1 1 (outputs_for a.0) 256 (omega arith) (outputs_bound [] words a.0 (omega arith) (sym a.1)))
+
+well_check_ip_header : (words : List (List (List ℕ))) (s : State) → Ok s ≡ check_ip_header words → IsWell is.CheckIPHeader s
+unfolding check_ip_header
+well_check_ip_header words s h = let a = both_ok (if length words == 0 then Ok [] else addresses (slice_index_or words 0 [])) _ s h in well is.CheckIPHeader (state.CheckIPHeader a.0) s a.2 refl (ranges 1 1 1 2 (omega arith) (omega arith))
+
+well_ether_encap : (args : List (List ℕ)) (s : State) → Ok s ≡ ether_encap args → IsWell is.EtherEncap s
+unfolding ether_encap
+well_ether_encap args s h =
+    let whole = taken (nat_le 3 (length args) && nat_le (length args) 3) _ s h in
+    let a = both_ok (number_in 0 65535 (argument args 0)) _ s whole in
+    let b = both_ok (ethernet (argument args 1)) _ s a.2 in
+    let d = both_ok (ethernet (argument args 2)) _ s b.2 in
+    well is.EtherEncap (state.EtherEncap a.0 b.0 d.0) s d.2 refl one_one
+
+well_infinite_source : (first : Option (Option (List ℕ))) (args : List (List ℕ)) (s : State) → Ok s ≡ infinite_source first args → IsWell is.InfiniteSource s
+unfolding infinite_source
+well_infinite_source first args s h =
+    let a = both_ok (source_bytes first) _ s h in
+    let b = both_ok (optional args 1 None (number_or_minus_one (2 ^ 64 - 1))) _ s a.2 in
+    let d = both_ok (optional args 2 1 (number_in 1 64)) _ s b.2 in
+    let e = both_ok (optional args 3 true truth) _ s d.2 in
+    well is.InfiniteSource (state.InfiniteSource a.0 b.0 d.0 e.0 0) s e.2 refl (ranges 0 0 1 1 (omega arith) (omega arith))
+
+well_from_device : (args : List (List ℕ)) (s : State) → Ok s ≡ from_device args → IsWell is.FromDevice s
+unfolding from_device
+well_from_device args s h = let a = both_ok (device args) _ s h in well is.FromDevice (state.FromDevice a.0) s a.2 refl (ranges 0 0 1 1 (omega arith) (omega arith))
+
+well_to_device : (args : List (List ℕ)) (s : State) → Ok s ≡ to_device args → IsWell is.ToDevice s
+unfolding to_device
+well_to_device args s h = let a = both_ok (device args) _ s h in well is.ToDevice (state.ToDevice a.0) s a.2 refl (ranges 1 1 0 0 (omega arith) (omega arith))
+
+-- a first state is of its class, and its counts allow some use
+pub first_well : (c : Class) (args : List (List ℕ)) (s : State) → IsFresh c args (Ok s) → IsWell c s
+first_well is.Queue args s h = well_queue args s h
+first_well is.FrontDropQueue args s h = well_front_drop_queue args s h
+first_well is.Unqueue args s h = well_plain is.Unqueue state.Unqueue s args h refl one_one
+first_well is.Counter args s h = well_plain is.Counter (state.Counter 0 0) s args h refl one_one
+first_well is.Switch args s h = well_switch args s h
+first_well is.PullSwitch args s h = well_pull_switch args s h
+first_well is.RoundRobinSwitch args s h = well_plain is.RoundRobinSwitch (state.RoundRobinSwitch 0) s args h refl (ranges 1 1 1 256 (omega arith) (omega arith))
+first_well is.RoundRobinSched args s h = well_plain is.RoundRobinSched (state.RoundRobinSched 0) s args h refl (ranges 1 256 1 1 (omega arith) (omega arith))
+first_well is.PrioSched args s h = well_plain is.PrioSched state.PrioSched s args h refl (ranges 1 256 1 1 (omega arith) (omega arith))
+first_well is.Tee args s h = well_tee args s h
+first_well is.PullTee args s h = well_pull_tee args s h
+first_well is.Idle args s h = well_plain is.Idle state.Idle s args h refl (ranges 0 256 0 256 (omega arith) (omega arith))
+first_well is.Discard args s h = well_plain is.Discard state.Discard s args h refl (ranges 1 1 0 0 (omega arith) (omega arith))
+first_well is.Null args s h = well_plain is.Null state.Null s args h refl one_one
+first_well is.PushNull args s h = well_plain is.PushNull state.PushNull s args h refl one_one
+first_well is.PullNull args s h = well_plain is.PullNull state.PullNull s args h refl one_one
+first_well is.Suppressor args s h = well_plain is.Suppressor suppressor s args h refl (record { inputs = 1; outputs = 1; least_in = omega arith; most_in = omega arith; least_out = omega arith; most_out = omega arith; equal = λ _. refl })
+first_well is.Paint args s h = well_paint args s h
+first_well is.PaintTee args s h = well_paint_tee args s h
+first_well is.Strip args s h = well_strip args s h
+first_well is.CheckLength args s h = well_check_length args s h
+first_well is.Classifier args s h = let w = by_words 1 256 classifier args s h in well_classifier w.0 s w.2
+first_well is.GetIPAddress args s h = well_get_ip_address args s h
+first_well is.StaticIPLookup args s h = let w = by_words 0 1024 static_ip_lookup args s h in well_lookup w.0 s w.2
+first_well is.CheckIPHeader args s h = let w = by_words 0 1 check_ip_header args s h in well_check_ip_header w.0 s w.2
+first_well is.DecIPTTL args s h = well_plain is.DecIPTTL state.DecIPTTL s args h refl (ranges 1 1 1 2 (omega arith) (omega arith))
+first_well is.EtherEncap args s h = well_ether_encap args s h
+first_well is.InfiniteSource args s h = let w = given (nat_le 0 (length args) && nat_le (length args) 4) (slice_get args 0) (λ first. infinite_source first args) s h in well_infinite_source w.0 args s w.2
+first_well is.FromDevice args s h = well_from_device args s h
+first_well is.ToDevice args s h = well_to_device args s h

@@ -1,0 +1,16 @@
+-- Which entry of a table is an address's (Click element reference, "StaticIPLookup").
+use Rattle.std.specs.Prelude.{◌≡◌, ℕ, ◌≤◌, List, Some, slice_get}
+use Rattle.click_classes.specs.declared.values.prefix.Prefix.{Prefix}
+use Rattle.click_classes.specs.declared.values.entry.Entry.{Entry}
+use Rattle.click_classes.specs.Values.{cleared}
+
+-- the address has the prefix
+abbrev pub Covers : Prefix → List ℕ → Type 0
+Covers p a = cleared p.len a ≡ p.network
+
+-- the entry is in the table, the address has its prefix, and no longer one of the table
+pub record IsRoute (es : List Entry) (a : List ℕ) (e : Entry) : Type 0 where
+  pub place : ℕ
+  pub there : slice_get es place ≡ Some e
+  pub covers : Covers e.prefix a
+  pub longest : (k : ℕ) (f : Entry) → slice_get es k ≡ Some f → Covers f.prefix a → f.prefix.len ≤ e.prefix.len
