@@ -41,9 +41,10 @@ unnamed n (m ∷ ns) h c = unnamed_by n m ns (bytes_eq n m) refl (unnamed n ns) 
 
 pub distinct-push : (ns : List (List ℕ)) (n : List ℕ) → AreDistinct ns → (Contains ns n → ⊥) → AreDistinct (ns ++ n ∷ [])
 distinct-push [] n h k = ((λ c. omega (arith, c.1)), tt)
-distinct-push (m ∷ ns) n h k =
-    ((λ c. elim (push_cases ns n m c) [ inl i ↦ h.0 i | inr e ↦ k (subst (λ x. Contains (x ∷ ns) n) e (contains-here n ns)) ]),
-     distinct-push ns n h.1 (λ c. k (contains-behind m ns n c)))
+distinct-push (m ∷ ns) n h k = (
+  (λ c. elim (push_cases ns n m c) [ inl i ↦ h.0 i | inr e ↦ k (subst (λ x. Contains (x ∷ ns) n) e (contains-here n ns)) ]),
+  distinct-push ns n h.1 (λ c. k (contains-behind m ns n c)),
+)
   where
     push_cases : (ns : List (List ℕ)) (n m : List ℕ) → Contains (ns ++ n ∷ []) m → Contains ns m ⊎ (n ≡ m)
     push_cases ns n m c = Contains-push_cases ns n m c
@@ -52,17 +53,21 @@ distinct-push (m ∷ ns) n h k =
 pub names-more : (es : List FlatElement) (i : ℕ) (d e : FlatElement) (ns new : List (List ℕ)) → i < length es → e ≡ get_or es i d → ns ≡ names_in (take i es) →
     has_name e.name ns ≡ false → new ≡ cond (has_name e.name ns) ns (ns ++ e.name ∷ []) → AreDistinct ns → (new ≡ names_in (take (i + 1) es)) × AreDistinct new
 names-more es i d e ns new l is p h q k =
-    let t : new ≡ ns ++ e.name ∷ [] = q ∙ ap (λ b. cond b ns (ns ++ e.name ∷ [])) h in
-    (t ∙ ap (λ x. x ++ e.name ∷ []) p ∙ ap (λ (x : FlatElement). names_in (take i es) ++ x.name ∷ []) is
-     ∙ sym (map_push (λ (x : FlatElement). x.name) (take i es) (get_or es i d)) ∙ ap names_in (sym (take_more es i d l)),
-     subst AreDistinct (sym t) (distinct-push ns e.name k (unnamed e.name ns h)))
+    let t : new ≡ ns ++ e.name ∷ [] = q ∙ ap (λ b. cond b ns (ns ++ e.name ∷ [])) h in (
+      t ∙ ap (λ x. x ++ e.name ∷ []) p ∙ ap (λ (x : FlatElement). names_in (take i es) ++ x.name ∷ []) is
+          ∙ sym (map_push (λ (x : FlatElement). x.name) (take i es) (get_or es i d)) ∙ ap names_in (sym (take_more es i d l)),
+      subst AreDistinct (sym t) (distinct-push ns e.name k (unnamed e.name ns h)),
+    )
 
 pub names-all : (es : List FlatElement) (i : ℕ) (ns : List (List ℕ)) → length es ≤ i → ns ≡ names_in (take i es) → AreDistinct ns → AreDistinct (names_in es)
 names-all es i ns l p k = subst AreDistinct (p ∙ ap names_in (take_all i es l)) k
 
 pub repeated : (es : List FlatElement) (i : ℕ) (e : FlatElement) (ns : List (List ℕ)) → slice_get es i ≡ Some e → ns ≡ names_in (take i es) → AreDistinct ns → has_name e.name ns ≡ true → IsRepeated es i
 repeated es i e ns t p k h = record {
-  element = e; there = t; front = subst AreDistinct p k; taken = subst (λ x. Contains x e.name) p (named e.name ns h);
+  element = e;
+  there = t;
+  front = subst AreDistinct p k;
+  taken = subst (λ x. Contains x e.name) p (named e.name ns h);
 }
 
 pub whole-more : (es : List FlatElement) (i : ℕ) (d e : FlatElement) → i < length es → e ≡ get_or es i d → is_whole e.text ≡ true →
@@ -75,12 +80,12 @@ whole-more es i d e l is h k =
 pub whole-found : (xs : List ℕ) (n : ℕ) → n ≤ length xs → closes mode.Plain 1 (take n xs) ≡ true → nat_eq n (length xs) ≡ closes mode.Plain 1 xs
 whole-found xs n l h =
     elim (cases_order n (length xs)) [
-      inl e ↦ (let t : nat_eq n (length xs) ≡ true = grind (arith, nat_tests) in
-               t ∙ sym h ∙ ap (closes mode.Plain 1) (take_all n xs (omega (arith, e))))
-    | inr (inl m) ↦ (let t : nat_eq n (length xs) ≡ false = grind (arith, nat_tests) in
-                     t ∙ sym (closes_once mode.Plain 1 (take n xs) (get_or xs n 0) (drop (n + 1) xs) h)
-                     ∙ ap (closes mode.Plain 1) (ap (λ y. take n xs ++ y) (sym (drop_more xs n 0 m)) ∙ take-append-drop n xs))
-    | inr (inr m) ↦ absurd (omega (arith, l, m))
+      | inl e ↦ (let t : nat_eq n (length xs) ≡ true = grind (arith, nat_tests) in
+          t ∙ sym h ∙ ap (closes mode.Plain 1) (take_all n xs (omega (arith, e))))
+      | inr (inl m) ↦ (let t : nat_eq n (length xs) ≡ false = grind (arith, nat_tests) in
+          t ∙ sym (closes_once mode.Plain 1 (take n xs) (get_or xs n 0) (drop (n + 1) xs) h)
+          ∙ ap (closes mode.Plain 1) (ap (λ y. take n xs ++ y) (sym (drop_more xs n 0 m)) ∙ take-append-drop n xs))
+      | inr (inr m) ↦ absurd (omega (arith, l, m))
     ]
 
 pub whole-none : (xs : List ℕ) → ((n : ℕ) → n ≤ length xs → closes mode.Plain 1 (take n xs) ≡ false) → false ≡ closes mode.Plain 1 xs

@@ -51,12 +51,24 @@ module _ (text : List ℕ) where
   shows-more old more top (statement.Chain k ∷ vs) h = shows-more old more top vs h
   shows-more old more top (statement.Declaration d ∷ vs) h = shows-more old more top vs h
   shows-more old more top (statement.Definition n b ∷ vs) h = record {
-    place = h.place; entry = h.entry; is = h.is; there = slice_get-more old more h.place h.entry h.there; same_name = h.same_name;
-    class = h.class; below = h.below; older = shows-more old more h.entry.older vs h.older;
+    place = h.place;
+    entry = h.entry;
+    is = h.is;
+    there = slice_get-more old more h.place h.entry h.there;
+    same_name = h.same_name;
+    class = h.class;
+    below = h.below;
+    older = shows-more old more h.entry.older vs h.older;
   }
   shows-more old more top (statement.Synonym n d ∷ vs) h = record {
-    place = h.place; entry = h.entry; is = h.is; there = slice_get-more old more h.place h.entry h.there; same_name = h.same_name;
-    class = h.class; below = h.below; older = shows-more old more h.entry.older vs h.older;
+    place = h.place;
+    entry = h.entry;
+    is = h.is;
+    there = slice_get-more old more h.place h.entry h.there;
+    same_name = h.same_name;
+    class = h.class;
+    below = h.below;
+    older = shows-more old more h.entry.older vs h.older;
   }
   shows-more old more top (statement.Requirement t ∷ vs) h = shows-more old more top vs h
 
@@ -67,7 +79,12 @@ module _ (text : List ℕ) where
   defined-there : (es : List Entry) (top : Option ℕ) (vs : List Statement) (e : Entry) (n : Span) (m : Option Meaning) → e.name ≡ n → meaning_by text e.class ≡ m → e.older ≡ top → Shows text es top vs →
       IsShown text (es ++ e ∷ []) (Some (length es)) n m (λ t. Shows text (es ++ e ∷ []) t vs)
   defined-there es top vs e n m p q r h = record {
-    place = length es; entry = e; is = refl; there = slice_get-last es e; same_name = p; class = q;
+    place = length es;
+    entry = e;
+    is = refl;
+    there = slice_get-last es e;
+    same_name = p;
+    class = q;
     below = subst (λ t. IsBelow t (length es)) (sym r) (shown-below text es top vs h);
     older = subst (λ t. Shows text (es ++ e ∷ []) t vs) (sym r) (shows-more es (e ∷ []) top vs h);
   }
@@ -113,8 +130,13 @@ module _ (text : List ℕ) where
 
   root-grown : (es new : List Entry) (scope : ℕ) (visible all : List Statement) (r : Root) → IsMore es new → IsRoot text es scope visible all r → IsRoot text new scope visible all r
   root-grown es new scope visible all r m h = record {
-    before = h.before; after = h.after; statement = h.statement; splits = h.splits; there = h.there;
-    shows = shows-grown es new r.top (reverse h.before ++ visible) m h.shows; outer = h.outer;
+    before = h.before;
+    after = h.after;
+    statement = h.statement;
+    splits = h.splits;
+    there = h.there;
+    shows = shows-grown es new r.top (reverse h.before ++ visible) m h.shows;
+    outer = h.outer;
   }
 
   roots-grown : (es new : List Entry) (scope : ℕ) (visible all : List Statement) (rs : List Root) → IsMore es new → Each (IsRoot text es scope visible all) rs → Each (IsRoot text new scope visible all) rs
@@ -125,9 +147,10 @@ module _ (text : List ℕ) where
       all ≡ before ++ st ∷ after → ((b : ℕ) → Contains bs b → Contains (bodies_in st) b) → Shows text es top (reverse before ++ visible) →
       Each (IsRoot text es scope visible all) (map (root scope top) bs)
   roots-at es scope top visible all before after st [] e i h = tt
-  roots-at es scope top visible all before after st (b ∷ bs) e i h =
-      (record { before = before; after = after; statement = st; splits = e; there = i b (0, omega arith, refl); shows = h; outer = refl },
-       roots-at es scope top visible all before after st bs e (λ c k. i c (Contains-append_right (b ∷ []) bs c k)) h)
+  roots-at es scope top visible all before after st (b ∷ bs) e i h = (
+    record { before = before; after = after; statement = st; splits = e; there = i b (0, omega arith, refl); shows = h; outer = refl },
+    roots-at es scope top visible all before after st bs e (λ c k. i c (Contains-append_right (b ∷ []) bs c k)) h,
+  )
 
   -- The elements and the bodies so far: those of the statements before these, and what is visible behind them.
   pub record Kept (es : List Entry) (scope : ℕ) (top : Option ℕ) (ws : List Written) (first roots : List Root) (visible : List Statement) (i : ℕ) (all : List Statement) : Type 0 where
@@ -152,16 +175,16 @@ module _ (text : List ℕ) where
       let s = reverse (take i all) ++ visible in
       let bs = bodies_in st in
       let next : reverse (take (i + 1) all) ++ visible ≡ st ∷ s =
-          ap (λ x. reverse x ++ visible) (take_more all i d l) ∙ ap (λ x. x ++ visible) (reverse-append (take i all) (get_or all i d ∷ []))
-          ∙ ap (λ (x : Statement). x ∷ s) (sym is) in
+      ap (λ x. reverse x ++ visible) (take_more all i d l) ∙ ap (λ x. x ++ visible) (reverse-append (take i all) (get_or all i d ∷ []))
+      ∙ ap (λ (x : Statement). x ∷ s) (sym is) in
       let split : all ≡ take i all ++ st ∷ drop (i + 1) all =
-          sym (take-append-drop i all) ∙ ap (λ x. take i all ++ x) (drop_more all i d l) ∙ ap (λ (x : Statement). take i all ++ x ∷ drop (i + 1) all) (sym is) in
+      sym (take-append-drop i all) ∙ ap (λ x. take i all ++ x) (drop_more all i d l) ∙ ap (λ (x : Statement). take i all ++ x ∷ drop (i + 1) all) (sym is) in
       record {
         seen = k.seen ++ map (place s) (statement_elements st);
         shows = subst (Shows text new behind) (sym next) (f s k.shows);
         written = subst (λ x. AreWritten text new x (k.seen ++ map (place s) (statement_elements st))) (sym w)
             (written-append new ws k.seen (kept_elements top st) (map (place s) (statement_elements st))
-             (written-grown es new ws k.seen m k.written) (written-statement new top s (shows-grown es new top s m k.shows) st));
+            (written-grown es new ws k.seen m k.written) (written-statement new top s (shows-grown es new top s m k.shows) st));
         rest = k.rest
             ∙ ap (λ xs. k.seen ++ xs) (at_drop_more (placed s) all i d l)
             ∙ ap (λ (x : Statement). k.seen ++ placed s (x ∷ drop (i + 1) all)) (sym is)
@@ -187,7 +210,8 @@ module _ (text : List ℕ) where
   pub kept-roots : (es : List Entry) (scope : ℕ) (top : Option ℕ) (ws : List Written) (first roots : List Root) (visible all : List Statement) (i : ℕ) → length all ≤ i →
       Kept es scope top ws first roots visible i all → AreRoots text es scope visible all first roots
   kept-roots es scope top ws first roots visible all i l k = record {
-    more = k.more; is = k.is;
+    more = k.more;
+    is = k.is;
     bodies = sym (append-nil (map (λ (r : Root). r.body) k.more)) ∙ ap (λ x. map (λ (r : Root). r.body) k.more ++ x) (sym (at_drop_all direct all i l)) ∙ k.bodies;
     each = k.each;
   }

@@ -73,16 +73,16 @@ module _ (text : List ℕ) (bodies : List Body) (in_body : Bool) (ls : List Loca
       let here = local_at text bodies in_body (has_name l.name.items ns) l in
       least-same (λ w. IsWrongLocal text bodies in_body ls i w ⊎ (here ≡ Some w)) (IsWrongLocal text bodies in_body ls (i + 1)) (first_of o here)
       (λ w c. elim c [
-        inl p ↦ record { place = p.place; element = p.element; within = (let m = p.within in omega (arith, m)); there = p.there; is = p.is }
-      | inr p ↦ record { place = i; element = l; within = omega arith; there = e; is = ap (λ b. local_at text bodies in_body b l) (sym (same l.name.items)) ∙ p }
+        | inl p ↦ record { place = p.place; element = p.element; within = (let m = p.within in omega (arith, m)); there = p.there; is = p.is }
+        | inr p ↦ record { place = i; element = l; within = omega arith; there = e; is = ap (λ b. local_at text bodies in_body b l) (sym (same l.name.items)) ∙ p }
       ])
       (λ w p. elim (cases_order p.place i) [
-        inl q ↦ inr (let f : l ≡ p.element = some_same (sym e ∙ ap (slice_get ls) (sym q) ∙ p.there) in
-                     ap (λ b. local_at text bodies in_body b l) (same l.name.items)
-                     ∙ ap (λ n. local_at text bodies in_body (has_name l.name.items (names_in (take n ls))) l) (sym q)
-                     ∙ ap (λ (x : LocalKept). local_at text bodies in_body (has_name x.name.items (names_in (take p.place ls))) x) f ∙ p.is)
-      | inr (inl q) ↦ inl (record { place = p.place; element = p.element; within = q; there = p.there; is = p.is })
-      | inr (inr q) ↦ absurd (let m = p.within in omega (arith, m, q))
+        | inl q ↦ inr (let f : l ≡ p.element = some_same (sym e ∙ ap (slice_get ls) (sym q) ∙ p.there) in
+            ap (λ b. local_at text bodies in_body b l) (same l.name.items)
+            ∙ ap (λ n. local_at text bodies in_body (has_name l.name.items (names_in (take n ls))) l) (sym q)
+            ∙ ap (λ (x : LocalKept). local_at text bodies in_body (has_name x.name.items (names_in (take p.place ls))) x) f ∙ p.is)
+        | inr (inl q) ↦ inl (record { place = p.place; element = p.element; within = q; there = p.there; is = p.is })
+        | inr (inr q) ↦ absurd (let m = p.within in omega (arith, m, q))
       ])
       (least-first_of (IsWrongLocal text bodies in_body ls i) (λ w. here ≡ Some w) o here h (least-alone here))
 

@@ -73,13 +73,15 @@ pub located-next : (c : Config) (es : List Entry) (ks : List ScopeKept) (all new
 located-next c es ks all new i k ls e h p w = record {
   count = ap length p ∙ length_push all ls ∙ ap (λ n. n + 1) w.count;
   each = λ j q l m. elim (cases_order j i) [
-    inl s ↦
-      (let same : k ≡ q = some_same (sym e ∙ ap (slice_get ks) (sym s) ∙ m) in
-      (ls, ap (slice_get new) (s ∙ sym w.count) ∙ ap (λ x. slice_get x (length all)) p ∙ slice_get-last all ls,
-       subst (λ n. AreLocalsOf c.text es (nat_lt n (length c.bodies)) q.written.items ls.items) (sym s)
-       (subst (λ (x : ScopeKept). AreLocalsOf c.text es (nat_lt i (length c.bodies)) x.written.items ls.items) same h)))
-  | inr (inl s) ↦ (let r = w.each j q s m in (r.0, ap (λ x. slice_get x j) p ∙ slice_get-more all (ls ∷ []) j r.0 r.1, r.2))
-  | inr (inr s) ↦ absurd (omega (arith, l, s))
+    | inl s ↦
+        (let same : k ≡ q = some_same (sym e ∙ ap (slice_get ks) (sym s) ∙ m) in (
+          ls,
+          ap (slice_get new) (s ∙ sym w.count) ∙ ap (λ x. slice_get x (length all)) p ∙ slice_get-last all ls,
+          subst (λ n. AreLocalsOf c.text es (nat_lt n (length c.bodies)) q.written.items ls.items) (sym s)
+              (subst (λ (x : ScopeKept). AreLocalsOf c.text es (nat_lt i (length c.bodies)) x.written.items ls.items) same h),
+        ))
+    | inr (inl s) ↦ (let r = w.each j q s m in (r.0, ap (λ x. slice_get x j) p ∙ slice_get-more all (ls ∷ []) j r.0 r.1, r.2))
+    | inr (inr s) ↦ absurd (omega (arith, l, s))
   ];
 }
 
@@ -98,10 +100,12 @@ pub located-all : (c : Config) (es : List Entry) (ks : List ScopeKept) (all : Li
     Located c es ks all i → AreAllLocals c all
 located-all c es ks all i n scopes l w = λ s v a h.
     let k = scopes s v a h in
-    let r = w.each (place_of c s) k.0 (let x = slice_get_within ks (place_of c s) k.0 k.1 in omega (arith, x, l)) k.1 in
-    (r.0, r.1,
-     r.2 (placed v (statements_of c s)) k.2.written
-     ∙ ap (λ b. locals_from c.text b (declared_names c.text (placed v (statements_of c s))) 0 (placed v (statements_of c s))) (body-place c n s v a h))
+    let r = w.each (place_of c s) k.0 (let x = slice_get_within ks (place_of c s) k.0 k.1 in omega (arith, x, l)) k.1 in (
+      r.0,
+      r.1,
+      r.2 (placed v (statements_of c s)) k.2.written
+          ∙ ap (λ b. locals_from c.text b (declared_names c.text (placed v (statements_of c s))) 0 (placed v (statements_of c s))) (body-place c n s v a h),
+    )
 
 pub locals-as : (t t' : List ℕ) (es es' : List Entry) (b b' : Bool) (ws ws' : List Written) (ls : List LocalKept) → t ≡ t' → es ≡ es' → b ≡ b' → ws ≡ ws' →
     AreLocalsOf t es b ws ls → AreLocalsOf t' es' b' ws' ls

@@ -146,7 +146,7 @@ module _ (text : List ℕ) where
           let t : IsWritten text entries w r.next = subst (λ x. IsWritten text entries x r.next) (sym is) r.is in
           ap (with_left ls) r.here
           ∙ ap (λ xs. map (local_of text) ls ++ xs)
-            (locals-other (length ls) r.next (drop (i + 1) ps) o (ap (role text in_body declared) (sym t.element) ∙ m) k)
+          (locals-other (length ls) r.next (drop (i + 1) ps) o (ap (role text in_body declared) (sym t.element) ∙ m) k)
 
       pub made-all : (ls : List LocalKept) (i : ℕ) → length ws ≤ i → with_left ls (drop i ps) ≡ map (local_of text) ls
       made-all ls i l =

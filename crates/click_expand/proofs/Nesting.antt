@@ -63,7 +63,7 @@ grown-body bs new x g =
       is = ap (λ y. y ++ x ∷ []) g.is ∙ append_assoc bs g.more (x ∷ []);
       nests = next_body (length bs) (length new) (length (new ++ x ∷ [])) [] (omega arith)
           (subst (λ o. Nests (new ++ x ∷ []) (length bs) (direct (body_statements o)) (length new)) (sym (slice_get-end new x))
-           (nests-grow new (x ∷ []) (length bs) (direct x.statements) (length new) g.nests))
+          (nests-grow new (x ∷ []) (length bs) (direct x.statements) (length new) g.nests))
           (subst (λ n. Nests (new ++ x ∷ []) (length new + 1) [] n) (sym e) (no_bodies (length new + 1)));
     }
 
@@ -105,4 +105,3 @@ mutual
 -- what a text spells is nested
 pub spelled-nested : (text : List ℕ) (c : Config) → Spells text c → IsNested c
 spelled-nested text c h = (statements_grow h.tree).nests
-

@@ -35,8 +35,8 @@ module _ (bodies : List Body) where
       let p = nests-order from (inner c) c h in
       let q = nests-order (c + 1) bs to k in
       elim (contains-cons c bs b i) [
-        inl e ↦ (omega (arith, e), omega (arith, e))
-      | inr j ↦ (let r = root-range (c + 1) bs to b k j in (omega (arith, r.0), omega (arith, r.1)))
+        | inl e ↦ (omega (arith, e), omega (arith, e))
+        | inr j ↦ (let r = root-range (c + 1) bs to b k j in (omega (arith, r.0), omega (arith, r.1)))
       ]
 
   -- a body stands before the one that it stands in
@@ -44,9 +44,9 @@ module _ (bodies : List Body) where
   child-range a rs z p b (no_bodies at) l m i = absurd (omega (arith, l, m))
   child-range a rs z p b (next_body from c to bs n h k) l m i =
       elim (order p c) [
-        inl q ↦ child-range from (inner c) c p b h l q i
-      | inr (inl q) ↦ (let r = root-range from (inner c) c b h (subst (λ x. Contains (inner x) b) q i) in (r.0, omega (arith, r.1, q)))
-      | inr (inr q) ↦ (let r = child-range (c + 1) bs to p b k (omega (arith, q)) m i in let o = nests-order from (inner c) c h in (omega (arith, r.0), r.1))
+        | inl q ↦ child-range from (inner c) c p b h l q i
+        | inr (inl q) ↦ (let r = root-range from (inner c) c b h (subst (λ x. Contains (inner x) b) q i) in (r.0, omega (arith, r.1, q)))
+        | inr (inr q) ↦ (let r = child-range (c + 1) bs to p b k (omega (arith, q)) m i in let o = nests-order from (inner c) c h in (omega (arith, r.0), r.1))
       ]
 
   root-no_child : (a : ℕ) (rs : List ℕ) (z : ℕ) (p b : ℕ) → Nests bodies a rs z → a ≤ p → p < z → Contains rs b → Contains (inner p) b → ⊥
@@ -54,15 +54,15 @@ module _ (bodies : List Body) where
   root-no_child a rs z p b (next_body from c to bs n h k) l m i j =
       let range = child-range from (c ∷ bs) to p b (next_body from c to bs n h k) l m j in
       elim (contains-cons c bs b i) [
-        inl e ↦ elim (order p c) [
-          inl q ↦ omega (arith, range.1, e, q)
-        | inr (inl q) ↦ omega (arith, range.1, e, q)
-        | inr (inr q) ↦ (let r = child-range (c + 1) bs to p b k (omega (arith, q)) m j in omega (arith, r.0, e))
+        | inl e ↦ elim (order p c) [
+          | inl q ↦ omega (arith, range.1, e, q)
+          | inr (inl q) ↦ omega (arith, range.1, e, q)
+          | inr (inr q) ↦ (let r = child-range (c + 1) bs to p b k (omega (arith, q)) m j in omega (arith, r.0, e))
         ]
-      | inr t ↦ elim (order p c) [
-          inl q ↦ (let r = root-range (c + 1) bs to b k t in omega (arith, range.1, r.0, q))
-        | inr (inl q) ↦ (let r = root-range (c + 1) bs to b k t in omega (arith, range.1, r.0, q))
-        | inr (inr q) ↦ root-no_child (c + 1) bs to p b k (omega (arith, q)) m t j
+        | inr t ↦ elim (order p c) [
+          | inl q ↦ (let r = root-range (c + 1) bs to b k t in omega (arith, range.1, r.0, q))
+          | inr (inl q) ↦ (let r = root-range (c + 1) bs to b k t in omega (arith, range.1, r.0, q))
+          | inr (inr q) ↦ root-no_child (c + 1) bs to p b k (omega (arith, q)) m t j
         ]
       ]
 
@@ -70,20 +70,20 @@ module _ (bodies : List Body) where
   one-parent a rs z p q b (no_bodies at) l m l' m' i j = absurd (omega (arith, l, m))
   one-parent a rs z p q b (next_body from c to bs n h k) l m l' m' i j =
       elim (order p c) [
-        inl s ↦ elim (order q c) [
-          inl t ↦ one-parent from (inner c) c p q b h l s l' t i j
-        | inr (inl t) ↦ absurd (root-no_child from (inner c) c p b h l s (subst (λ x. Contains (inner x) b) t j) i)
-        | inr (inr t) ↦ (let r = child-range from (inner c) c p b h l s i in let w = child-range (c + 1) bs to q b k (omega (arith, t)) m' j in absurd (omega (arith, r.1, w.0, s)))
+        | inl s ↦ elim (order q c) [
+          | inl t ↦ one-parent from (inner c) c p q b h l s l' t i j
+          | inr (inl t) ↦ absurd (root-no_child from (inner c) c p b h l s (subst (λ x. Contains (inner x) b) t j) i)
+          | inr (inr t) ↦ (let r = child-range from (inner c) c p b h l s i in let w = child-range (c + 1) bs to q b k (omega (arith, t)) m' j in absurd (omega (arith, r.1, w.0, s)))
         ]
-      | inr (inl s) ↦ elim (order q c) [
-          inl t ↦ absurd (root-no_child from (inner c) c q b h l' t (subst (λ x. Contains (inner x) b) s i) j)
-        | inr (inl t) ↦ s ∙ sym t
-        | inr (inr t) ↦ (let r = root-range from (inner c) c b h (subst (λ x. Contains (inner x) b) s i) in let w = child-range (c + 1) bs to q b k (omega (arith, t)) m' j in absurd (omega (arith, r.1, w.0)))
+        | inr (inl s) ↦ elim (order q c) [
+          | inl t ↦ absurd (root-no_child from (inner c) c q b h l' t (subst (λ x. Contains (inner x) b) s i) j)
+          | inr (inl t) ↦ s ∙ sym t
+          | inr (inr t) ↦ (let r = root-range from (inner c) c b h (subst (λ x. Contains (inner x) b) s i) in let w = child-range (c + 1) bs to q b k (omega (arith, t)) m' j in absurd (omega (arith, r.1, w.0)))
         ]
-      | inr (inr s) ↦ elim (order q c) [
-          inl t ↦ (let r = child-range (c + 1) bs to p b k (omega (arith, s)) m i in let w = child-range from (inner c) c q b h l' t j in absurd (omega (arith, r.0, w.1, t)))
-        | inr (inl t) ↦ (let r = child-range (c + 1) bs to p b k (omega (arith, s)) m i in let w = root-range from (inner c) c b h (subst (λ x. Contains (inner x) b) t j) in absurd (omega (arith, r.0, w.1)))
-        | inr (inr t) ↦ one-parent (c + 1) bs to p q b k (omega (arith, s)) m (omega (arith, t)) m' i j
+        | inr (inr s) ↦ elim (order q c) [
+          | inl t ↦ (let r = child-range (c + 1) bs to p b k (omega (arith, s)) m i in let w = child-range from (inner c) c q b h l' t j in absurd (omega (arith, r.0, w.1, t)))
+          | inr (inl t) ↦ (let r = child-range (c + 1) bs to p b k (omega (arith, s)) m i in let w = root-range from (inner c) c b h (subst (λ x. Contains (inner x) b) t j) in absurd (omega (arith, r.0, w.1)))
+          | inr (inr t) ↦ one-parent (c + 1) bs to p q b k (omega (arith, s)) m (omega (arith, t)) m' i j
         ]
       ]
 
@@ -91,8 +91,8 @@ module _ (bodies : List Body) where
   roots-apart a [] ys z b h i j = contains-nil b i
   roots-apart a (x ∷ xs) ys z b (next_body from c to bs n h k) i j =
       elim (contains-cons x xs b i) [
-        inl e ↦ (let r = root-range (x + 1) (xs ++ ys) z b k (Contains-append_right xs ys b j) in omega (arith, r.0, e))
-      | inr t ↦ roots-apart (x + 1) xs ys z b k t j
+        | inl e ↦ (let r = root-range (x + 1) (xs ++ ys) z b k (Contains-append_right xs ys b j) in omega (arith, r.0, e))
+        | inr t ↦ roots-apart (x + 1) xs ys z b k t j
       ]
 
   nests-behind : (a : ℕ) (xs ys : List ℕ) (z : ℕ) → Nests bodies a (xs ++ ys) z → (m : ℕ) × Nests bodies m ys z
@@ -123,8 +123,8 @@ module _ (bodies : List Body) where
 pub place-in : (bodies : List Body) (p b : ℕ) → Contains (inner bodies p) b → p < length bodies
 place-in bodies p b i =
     elim (cases_lt p (length bodies)) [
-      inl l ↦ l
-    | inr g ↦ absurd (contains-nil b (subst (λ o. Contains (direct (body_statements o)) b) (slice_get_past bodies p g) i))
+      | inl l ↦ l
+      | inr g ↦ absurd (contains-nil b (subst (λ o. Contains (direct (body_statements o)) b) (slice_get_past bodies p g) i))
     ]
 
 same-scope : (c : Config) → IsNested c → (s t : Scope) (b : ℕ) → Contains (direct (statements_of c s)) b → Contains (direct (statements_of c t)) b → s ≡ t
@@ -139,9 +139,9 @@ nests-of : (bodies : List Body) (a : ℕ) (rs : List ℕ) (z p : ℕ) → Nests 
 nests-of bodies a rs z p (no_bodies at) l m = absurd (omega (arith, l, m))
 nests-of bodies a rs z p (next_body from c to bs n h k) l m =
     elim (order p c) [
-      inl q ↦ nests-of bodies from (inner bodies c) c p h l q
-    | inr (inl q) ↦ (from, subst (λ x. Nests bodies from (inner bodies x) x) (sym q) h)
-    | inr (inr q) ↦ nests-of bodies (c + 1) bs to p k (omega (arith, q)) m
+      | inl q ↦ nests-of bodies from (inner bodies c) c p h l q
+      | inr (inl q) ↦ (from, subst (λ x. Nests bodies from (inner bodies x) x) (sym q) h)
+      | inr (inr q) ↦ nests-of bodies (c + 1) bs to p k (omega (arith, q)) m
     ]
 
 scope-nests : (c : Config) → IsNested c → (s : Scope) (b : ℕ) → Contains (direct (statements_of c s)) b → (a : ℕ) × (z : ℕ) × Nests c.bodies a (direct (statements_of c s)) z
@@ -159,7 +159,6 @@ stands-once c n s v v' a a' (nested t visible around before after st b h e i) (n
     let o = stands-once c n t visible visible' around around' h (subst (λ x. Stands c x visible' around') same h') in
     let r = scope-nests c n t b k in
     let f : before ≡ before' =
-        split-once c.bodies before before' after after' st st' r.0 r.1 b (sym e ∙ ap (statements_of c) (sym same) ∙ e')
-        (subst (λ x. Nests c.bodies r.0 (direct x) r.1) e r.2) i i' in
+    split-once c.bodies before before' after after' st st' r.0 r.1 b (sym e ∙ ap (statements_of c) (sym same) ∙ e')
+    (subst (λ x. Nests c.bodies r.0 (direct x) r.1) e r.2) i i' in
     (ap (λ x. reverse x ++ visible) f ∙ ap (λ x. reverse before' ++ x) o.0, ap (λ x. x ∷ around) (sym same) ∙ ap (λ x. t' ∷ x) o.1)
-

@@ -143,9 +143,12 @@ module _ (text : List ℕ) where
     found-older at limit i e vs w h s =
         let r = found-entry entries at limit i e h in
         let f = found i vs w (subst (λ t. Shows text entries t vs) r.1 s) in
-        let same : f.entry ≡ e = some_same (sym f.there ∙ r.2) in
-        (f.before, subst (λ (x : Entry). Shows text entries x.older f.before) same f.shows, subst (λ (x : Entry). IsBelow x.older i) same f.below,
-         subst (λ (x : Entry). meaning text vs w ≡ cond (bytes_eq (bytes_at text x.name) w) (meaning_by text x.class) (meaning text f.before w)) same f.means)
+        let same : f.entry ≡ e = some_same (sym f.there ∙ r.2) in (
+          f.before,
+          subst (λ (x : Entry). Shows text entries x.older f.before) same f.shows,
+          subst (λ (x : Entry). IsBelow x.older i) same f.below,
+          subst (λ (x : Entry). meaning text vs w ≡ cond (bytes_eq (bytes_at text x.name) w) (meaning_by text x.class) (meaning text f.before w)) same f.means,
+        )
 
     pub found-end : (at : Option ℕ) (limit : ℕ) (vs : List Statement) (w : List ℕ) → Shows text entries at vs → IsBelow at limit →
         entry_from entries at limit ≡ None → meaning text vs w ≡ primitive_of w
@@ -154,4 +157,3 @@ module _ (text : List ℕ) where
         let f = found i vs w s in
         let t : nat_lt i limit ≡ true = lt-ltb i limit b in
         absurd (cc (sym h ∙ ap (λ x. cond x (entry_found i (slice_get entries i)) None) t ∙ ap (entry_found i) f.there))
-

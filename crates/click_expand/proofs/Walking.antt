@@ -71,9 +71,10 @@ module _ (c : Config) where
 
   pending-grown : (es new : List Entry) (rs : List Root) → IsMore es new → Each (IsPending es) rs → Each (IsPending new) rs
   pending-grown es new [] m h = tt
-  pending-grown es new (r ∷ rs) m h =
-      (record { visible = h.0.visible; around = h.0.around; stands = h.0.stands; shows = shows-grown c.text es new r.top h.0.visible m h.0.shows; outer = h.0.outer },
-       pending-grown es new rs m h.1)
+  pending-grown es new (r ∷ rs) m h = (
+    record { visible = h.0.visible; around = h.0.around; stands = h.0.stands; shows = shows-grown c.text es new r.top h.0.visible m h.0.shows; outer = h.0.outer },
+    pending-grown es new rs m h.1,
+  )
 
   scope-grown : (es new : List Entry) (s : Scope) (v : List Statement) (a : List Scope) (k : ScopeKept) → IsMore es new → IsScope c es s v a k → IsScope c new s v a k
   scope-grown es new s v a k m h = record { written = written-grown c.text es new k.written.items (placed v (statements_of c s)) m h.written; outer = h.outer }
@@ -81,12 +82,16 @@ module _ (c : Config) where
   roots-pending : (es : List Entry) (s : Scope) (v : List Statement) (a : List Scope) (rs : List Root) → Stands c s v a →
       Each (IsRoot c.text es (place_of c s) v (statements_of c s)) rs → Each (IsPending es) rs
   roots-pending es s v a [] k h = tt
-  roots-pending es s v a (r ∷ rs) k h =
-      (record {
-        visible = reverse h.0.before ++ v; around = s ∷ a;
-        stands = nested s v a h.0.before h.0.after h.0.statement r.body k h.0.splits h.0.there;
-        shows = h.0.shows; outer = h.0.outer;
-      }, roots-pending es s v a rs k h.1)
+  roots-pending es s v a (r ∷ rs) k h = (
+    record {
+      visible = reverse h.0.before ++ v;
+      around = s ∷ a;
+      stands = nested s v a h.0.before h.0.after h.0.statement r.body k h.0.splits h.0.there;
+      shows = h.0.shows;
+      outer = h.0.outer;
+    },
+    roots-pending es s v a rs k h.1,
+  )
 
   pub walked-first : (es : List Entry) (rs : List Root) (k : ScopeKept) → IsNested c → AreWritten c.text es k.written.items (placed [] c.statements) → k.outer ≡ length c.bodies →
       AreRoots c.text es (length c.bodies) [] c.statements [] rs → Walked es rs (k ∷ [])
@@ -95,7 +100,9 @@ module _ (c : Config) where
     count = omega arith;
     nests = subst (λ x. Nests c.bodies 0 (places x) (length c.bodies)) (sym r.is) (subst (λ x. Nests c.bodies 0 x (length c.bodies)) (sym r.bodies) n);
     pending = subst (Each (IsPending es)) (sym r.is) (roots-pending es whole [] [] r.more at_top r.each);
-    first = k; first_there = refl; first_is = record { written = w; outer = o };
+    first = k;
+    first_there = refl;
+    first_is = record { written = w; outer = o };
     done = λ p l m. absurd (omega (arith, l, m));
   }
 
@@ -114,18 +121,23 @@ module _ (c : Config) where
   pub taken : (es : List Entry) (all rs : List Root) (r : Root) (ks : List ScopeKept) → all ≡ rs ++ r ∷ [] → Walked es all ks → IsTaken es rs r ks
   taken es all rs r ks e w =
       let n : Nests c.bodies 0 (places rs ++ r.body ∷ []) w.left =
-          subst (λ x. Nests c.bodies 0 x w.left) (ap places e ∙ map-append (λ (x : Root). x.body) rs (r ∷ [])) w.nests in
+      subst (λ x. Nests c.bodies 0 x w.left) (ap places e ∙ map-append (λ (x : Root). x.body) rs (r ∷ [])) w.nests in
       let l = nests-last c.bodies 0 (places rs) r.body w.left n in
       let f = each-front (IsPending es) rs r (subst (Each (IsPending es)) e w.pending) in
       record {
-        pending = f.1; last = record { next = refl; within = l.within; middle = l.middle; before = l.before; inside = l.inside };
-        count = ap (λ x. x + length ks) l.next ∙ w.count; rest = f.0;
+        pending = f.1;
+        last = record { next = refl; within = l.within; middle = l.middle; before = l.before; inside = l.inside };
+        count = ap (λ x. x + length ks) l.next ∙ w.count;
+        rest = f.0;
         done = λ p q m. w.done p (omega (arith, l.next, q)) m;
       }
 
   done-grown : (es new : List Entry) (ks ls : List ScopeKept) (k : ScopeKept) (p : ℕ) → ls ≡ ks ++ k ∷ [] → IsMore es new → IsDone es ks p → IsDone new ls p
   done-grown es new ks ls k p e m d = record {
-    visible = d.visible; around = d.around; scope = d.scope; stands = d.stands;
+    visible = d.visible;
+    around = d.around;
+    scope = d.scope;
+    stands = d.stands;
     there = ap (λ x. slice_get x (length c.bodies - p)) e ∙ slice_get-more ks (k ∷ []) (length c.bodies - p) d.scope d.there;
     is = scope-grown es new (inside p) d.visible d.around d.scope m d.is;
   }
@@ -134,9 +146,9 @@ module _ (c : Config) where
       ((p : ℕ) → b + 1 ≤ p → p < length c.bodies → IsDone es ks p) → b ≤ x → x < length c.bodies → IsDone new ls x
   done-next es new ks ls k b x e m h f l n =
       elim (cases_order x b) [
-        inl q ↦ subst (IsDone new ls) (sym q) h
-      | inr (inl q) ↦ absurd (omega (arith, l, q))
-      | inr (inr q) ↦ done-grown es new ks ls k x e m (f x (omega (arith, q)) n)
+        | inl q ↦ subst (IsDone new ls) (sym q) h
+        | inr (inl q) ↦ absurd (omega (arith, l, q))
+        | inr (inr q) ↦ done-grown es new ks ls k x e m (f x (omega (arith, q)) n)
       ]
 
   at_end : (b m n : ℕ) → b + 1 + m ≡ n + 1 → n - b ≡ m
@@ -159,7 +171,7 @@ module _ (c : Config) where
         count = omega (arith, len, count);
         nests = subst (λ x. Nests c.bodies 0 (places x) b) (sym q.is)
             (subst (λ x. Nests c.bodies 0 x b) (sym (map-append (λ (x : Root). x.body) rs q.more ∙ ap (λ x. places rs ++ x) q.bodies))
-             (nests-append c.bodies 0 (places rs) t.last.middle (inner c.bodies b) b t.last.before t.last.inside));
+            (nests-append c.bodies 0 (places rs) t.last.middle (inner c.bodies b) b t.last.before t.last.inside));
         pending = subst (Each (IsPending new)) (sym q.is)
             (each-append (IsPending new) rs q.more (pending-grown es new rs m t.rest) (roots-pending new (inside b) v a q.more t.pending.stands q.each));
         first = w.first;
@@ -167,7 +179,10 @@ module _ (c : Config) where
         first_is = scope-grown es new whole [] [] w.first m w.first_is;
         done = λ x l n. done-next es new ks ls k b x p m
             (record {
-              visible = v; around = a; scope = k; stands = t.pending.stands;
+              visible = v;
+              around = a;
+              scope = k;
+              stands = t.pending.stands;
               there = ap (λ y. slice_get y (length c.bodies - b)) p ∙ ap (slice_get (ks ++ k ∷ [])) (at_end b (length ks) (length c.bodies) count) ∙ slice_get-last ks k;
               is = record { written = f v t.pending.shows; outer = o ∙ t.pending.outer };
             }) t.done l n;
@@ -212,9 +227,11 @@ module _ (c : Config) where
       by_body p h =
           let l = inside-within n (inside p) v a h p refl in
           let d = w.done p (let x = none in omega arith) l in
-          let o = stands-once c n (inside p) v d.visible a d.around h d.stands in
-          (d.scope, slice_get-reverse ks p (length c.bodies - p) w.first (let x = count in omega (arith, l)) (let x = count in omega (arith, l)) ∙ d.there,
-           subst (λ x. IsScope c es (inside p) x a d.scope) (sym o.0) (subst (λ x. IsScope c es (inside p) d.visible x d.scope) (sym o.1) d.is))
+          let o = stands-once c n (inside p) v d.visible a d.around h d.stands in (
+            d.scope,
+            slice_get-reverse ks p (length c.bodies - p) w.first (let x = count in omega (arith, l)) (let x = count in omega (arith, l)) ∙ d.there,
+            subst (λ x. IsScope c es (inside p) x a d.scope) (sym o.0) (subst (λ x. IsScope c es (inside p) d.visible x d.scope) (sym o.1) d.is),
+          )
 
       by_scope : (s : Scope) → Stands c s v a → (k : ScopeKept) × (slice_get (reverse ks) (place_of c s) ≡ Some k) × IsScope c es s v a k
       by_scope whole h = by_whole v a h
@@ -227,12 +244,12 @@ module _ (c : Config) where
   walk-first text ss n es rs0 rs ks0 ks k e e0 r0 te se ne is_nested w o r =
       subst (Walked es rs) (sym (e ∙ ap (λ x. x ++ k ∷ []) e0))
       (walked-first es rs k is_nested
-       (subst (λ x. AreWritten x es k.written.items (placed [] c.statements)) te (subst (λ x. AreWritten text es k.written.items (placed [] x)) se w))
-       (o ∙ ne)
-       (subst (λ x. AreRoots x es (length c.bodies) [] c.statements [] rs) te
-        (subst (λ x. AreRoots text es x [] c.statements [] rs) ne
-         (subst (λ x. AreRoots text es n [] x [] rs) se
-          (subst (λ x. AreRoots text es n [] ss x rs) r0 r)))))
+      (subst (λ x. AreWritten x es k.written.items (placed [] c.statements)) te (subst (λ x. AreWritten text es k.written.items (placed [] x)) se w))
+      (o ∙ ne)
+      (subst (λ x. AreRoots x es (length c.bodies) [] c.statements [] rs) te
+      (subst (λ x. AreRoots text es x [] c.statements [] rs) ne
+      (subst (λ x. AreRoots text es n [] x [] rs) se
+      (subst (λ x. AreRoots text es n [] ss x rs) r0 r)))))
 
   pub walk-next : (text : List ℕ) (ss : List Statement) (es new : List Entry) (all rs more : List Root) (r : Root) (ks ls : List ScopeKept) (k : ScopeKept) →
       ls ≡ ks ++ k ∷ [] → all ≡ rs ++ r ∷ [] → text ≡ c.text → ss ≡ statements_of c (inside r.body) → Walked es all ks → IsMore es new →
@@ -241,8 +258,8 @@ module _ (c : Config) where
   walk-next text ss es new all rs more r ks ls k p e te se w m f o g =
       walked-next es new all rs more r ks ls k e w m
       (λ v h. subst (λ x. AreWritten x new k.written.items (placed v (statements_of c (inside r.body)))) te
-       (subst (λ x. AreWritten text new k.written.items (placed v x)) se (f v (subst (λ x. Shows x es r.top v) (sym te) h))))
+      (subst (λ x. AreWritten text new k.written.items (placed v x)) se (f v (subst (λ x. Shows x es r.top v) (sym te) h))))
       o
       (λ v h. subst (λ x. AreRoots x new r.body v (statements_of c (inside r.body)) rs more) te
-       (subst (λ x. AreRoots text new r.body v x rs more) se (g v (subst (λ x. Shows x es r.top v) (sym te) h))))
+      (subst (λ x. AreRoots text new r.body v x rs more) se (g v (subst (λ x. Shows x es r.top v) (sym te) h))))
       p

@@ -179,7 +179,7 @@ pub data IsWrong (c : Config) : FaultKind → Span → Type 0 where
       scope_placed c s visible ≡ front ++ p ∷ back → role_in c s visible p ≡ makes →
       ((n : Span) × (d : _) × (p.element.head ≡ head.Declared n d)) ⊎ (element_meaning c.text p ≢ None) →
       (let earlier = locals_from c.text (is_body s) (scope_declared c s visible) 0 front in
-       has_name (made_name c.text (length earlier) p.element.head) (map (λ l. l.name) earlier) ≡ true) →
+      has_name (made_name c.text (length earlier) p.element.head) (map (λ l. l.name) earlier) ≡ true) →
       IsWrong c kind.DeclaredTwice (first_token c p.element.head)
   -- `input` or `output` declared in a body
   port_declared : (b : ℕ) (visible : List Statement) (around : List Scope) (front back : List Placed) (p : Placed) (n : Span) (d : _) → Stands c (inside b) visible around →

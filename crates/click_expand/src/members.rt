@@ -42,7 +42,6 @@ pub fn is_port_name(word: &[u8]) -> bool
     word == b"input".as_slice() || word == b"output".as_slice()
 }
 
-
 /// The names that are declared in a scope.
 fn declared_of(alloc: Global, text: &[u8], written: &[Written]) -> Result<Names, AllocError>
     ensures { IfOk result (λ names. (name : List ℕ) → has_name name names ≡ has_name name (names_of text.now (elements_of written.now))) }
@@ -116,7 +115,13 @@ fn head_class(head: Head) -> Class
 }
 
 /// The element that is made here, before which so many stand.
-fn made(alloc: Global, text: &[u8], entries: &[Entry], before: usize, one: Written) -> Result<Local, AllocError>
+fn made(
+    alloc: Global,
+    text: &[u8],
+    entries: &[Entry],
+    before: usize,
+    one: Written,
+) -> Result<Local, AllocError>
     requires { before < usize.MAX }
     ensures { IfOk result (λ l. (p : Placed) → IsWritten text.now entries.now one p → local_of text.now l ≡ spec.local text.now before p) }
 {
@@ -202,7 +207,11 @@ fn push_locals(all: &mut Vec<Vec<Local>>, locals: Vec<Local>) -> Result<(), Allo
 }
 
 /// The elements of each scope of a configuration.
-pub fn all_locals(alloc: Global, config: &Config, scopes: &Scopes) -> Result<Vec<Vec<Local>>, AllocError>
+pub fn all_locals(
+    alloc: Global,
+    config: &Config,
+    scopes: &Scopes,
+) -> Result<Vec<Vec<Local>>, AllocError>
     requires nested { IsNested config.now }
     requires scoped { AreScopes config.now scopes.now.entries.items scopes.now.scopes.items }
     ensures { IfOk result (λ all. AreAllLocals config.now all.items) }
@@ -212,7 +221,13 @@ pub fn all_locals(alloc: Global, config: &Config, scopes: &Scopes) -> Result<Vec
     let entries = scopes.entries.as_slice();
     let mut all = Vec::new(alloc);
     for (place, scope) in scopes.scopes.as_slice().iter().enumerate() {
-        let locals = locals_in(alloc, text, entries, place < count, scope.written.as_slice())?;
+        let locals = locals_in(
+            alloc,
+            text,
+            entries,
+            place < count,
+            scope.written.as_slice(),
+        )?;
         push_locals(&mut all, locals)?;
     }
     Ok(all)

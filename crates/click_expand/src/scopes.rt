@@ -11,7 +11,9 @@ ghost use Rattle.click_expand.specs.Scoped.{AreScopes};
 ghost use Rattle.click_expand.specs.Standing.{kept_link, kept_name, kept_elements, root, AreRoots};
 
 use crate::classes::{ClassOf, Entry, find};
-use click_text::syntax::{Body, Chain, Class, Config, Declaration, Element, Head, Link, Port, Statement};
+use click_text::syntax::{
+    Body, Chain, Class, Config, Declaration, Element, Head, Link, Port, Statement,
+};
 use std::alloc::{AllocError, Global};
 
 /// An element as it is written: the last definition that is visible there, and the ports that join it to the element before it.
@@ -311,12 +313,40 @@ pub fn scopes_of(alloc: Global, config: &Config) -> Result<Scopes, AllocError>
     let mut entries = Vec::new(alloc);
     let mut roots = Vec::new(alloc);
     let mut scopes = Vec::new(alloc);
-    let written = written_of(alloc, text, statements, &mut entries, &mut roots, count, None)?;
-    push_scope(&mut scopes, Scope { written, outer: count })?;
+    let written = written_of(
+        alloc,
+        text,
+        statements,
+        &mut entries,
+        &mut roots,
+        count,
+        None,
+    )?;
+    push_scope(
+        &mut scopes,
+        Scope {
+            written,
+            outer: count,
+        },
+    )?;
     while let Some(root) = roots.pop() {
         let inner = statements_at(bodies, root.body);
-        let written = written_of(alloc, text, inner, &mut entries, &mut roots, root.body, root.top)?;
-        push_scope(&mut scopes, Scope { written, outer: root.outer })?;
+        let written = written_of(
+            alloc,
+            text,
+            inner,
+            &mut entries,
+            &mut roots,
+            root.body,
+            root.top,
+        )?;
+        push_scope(
+            &mut scopes,
+            Scope {
+                written,
+                outer: root.outer,
+            },
+        )?;
     }
     scopes.reverse();
     Ok(Scopes { scopes, entries })

@@ -54,13 +54,7 @@ fn first_of(a: Option<Wrong>, b: Option<Wrong>) -> Option<Wrong>
     match (a, b) {
         (None, _) => b,
         (Some(_), None) => a,
-        (Some(x), Some(y)) => {
-            if comes_before(y, x) {
-                b
-            } else {
-                a
-            }
-        }
+        (Some(x), Some(y)) => { if comes_before(y, x) { b } else { a } }
     }
 }
 

@@ -10,11 +10,11 @@ pub returns-then-is_first : goal.returns-then-is_first
 returns-then-is_first c =
     let w = c.args.word.now in
     elim c.then-is_first.branch [
-      then-is_first-via-then-is_first b ↦ (let h : list_any (bytes_eq w) first_names ≡ true = sym c.is_first.ensures ∙ b.if-is_first.true in sym (any_first w h))
-    | then-is_first-via-else-is_first+then-is_second b ↦
-        (let h : list_any (bytes_eq w) first_names ≡ false = sym c.is_first.ensures ∙ b.if-is_first.false in
-         let k : list_any (bytes_eq w) second_names ≡ true = sym b.is_second.ensures ∙ b.if-is_second.true in
-         sym (any_second w h k))
+      | then-is_first-via-then-is_first b ↦ (let h : list_any (bytes_eq w) first_names ≡ true = sym c.is_first.ensures ∙ b.if-is_first.true in sym (any_first w h))
+      | then-is_first-via-else-is_first+then-is_second b ↦
+          (let h : list_any (bytes_eq w) first_names ≡ false = sym c.is_first.ensures ∙ b.if-is_first.false in
+          let k : list_any (bytes_eq w) second_names ≡ true = sym b.is_second.ensures ∙ b.if-is_second.true in
+          sym (any_second w h k))
     ]
 
 pub returns : goal.returns

@@ -20,7 +20,7 @@ loop-one-preserved c = λ ps h.
       | in_default w ↦
           c.loop-one.invariant ps h
           ∙ made-other text b D c.args.entries.now ws ps h ls i _ _ (role_by c.role_of.result) c.loop-one-test.true refl (sym c.role_of.ensures)
-            (λ e. w.in_default.not-Makes (kept-makes c.role_of.result e))
+          (λ e. w.in_default.not-Makes (kept-makes c.role_of.result e))
           ∙ ap (λ (x : _). with_left text b D x (drop (i + 1) ps)) (sym (ap (λ v. v.items) w.locals-is))
     ]
 
