@@ -522,9 +522,7 @@ fn make_rows(rt: &impl Abort, alloc: Global, table: &str) {
     }
 }
 
-// For this the arguments, the words and the quotes of a text have to be read.
 #[test]
-#[ignore]
 fn makes(rt: HostRuntime) {
     make_rows(&rt, rt.alloc(), PLAIN_ROWS);
     make_rows(&rt, rt.alloc(), WORD_ROWS);
