@@ -1,5 +1,6 @@
 #!/usr/bin/env bash
-# Parses each example of docs/LANGUAGE.md and compares what is read with the line behind it. The program must have been built: rt run click_bench.
+# Parses each example of docs/LANGUAGE.md and docs/ELEMENTS.md and compares what is read with the line behind it. The program must have been built:
+# rt run click_bench.
 set -eu
 cd "$(dirname "$0")/.."
 passed=0
@@ -17,6 +18,6 @@ while IFS= read -r line; do
         fi
         passed=$((passed + 1)) inside=no ;;
     esac
-done < docs/LANGUAGE.md
-[ "$passed" = "$(grep -c '^```click' docs/LANGUAGE.md)" ]
+done < <(cat docs/LANGUAGE.md docs/ELEMENTS.md)
+[ "$passed" = "$(cat docs/LANGUAGE.md docs/ELEMENTS.md | grep -c '^```click')" ]
 echo "$passed examples of the language read"

@@ -4,12 +4,16 @@ use Rattle.std.proofs.lemmas.Bool.Decides.{nat_tests}
 use Rattle.click_expand.specs.Faults.{number_of}
 use Rattle.std.specs.List.{slice_get}
 use Rattle.std.proofs.lemmas.Bool.{cases_order}
+use Rattle.std.proofs.lemmas.Option.{slice_get-get_or}
 use Rattle.std.proofs.lemmas.List.{take_more, map_push}
 use Rattle.click_text.specs.declared.syntax.Body.{Body}
 use Rattle.click_expand.specs.Elements.{has_name}
 use Rattle.click_expand.specs.declared.members.Local.{Local as LocalKept}
 use Rattle.click_expand.proofs.Making.{has_name-added}
-use Rattle.click_expand.specs.Wrongs.{comes_before, first_of, AtMost, IsLeast, IsWrongLocal, local_at, names_in}
+use Rattle.click_expand.specs.Wrongs.{comes_before, first_of, AtMost, IsLeast, IsWrongLocal, IsWrongFormal, local_at, names_in, formals_in, wrong_if}
+use Rattle.click_text.specs.declared.syntax.Span.{Span}
+use Rattle.click_text.specs.Spans.{bytes_at}
+use Rattle.click_expand.specs.declared.fault.FaultKind.TheVariants as kind
 use Rattle.click_expand.specs.declared.wrong.Wrong.{Wrong}
 
 some_same : {X : Type 0} {x y : X} → Some x ≡ Some y → x ≡ y
@@ -95,3 +99,52 @@ module _ (text : List ℕ) (bodies : List Body) (in_body : Bool) (ls : List Loca
       ap (has_name q) e ∙ has_name-added ns (names_in (take i ls)) l.name.items same q
       ∙ ap (λ (x : LocalKept). has_name q (names_in (take i ls) ++ x.name.items ∷ [])) is
       ∙ ap (has_name q) (sym (map_push (λ (x : LocalKept). x.name.items) (take i ls) (get_or ls i d)) ∙ ap names_in (sym (take_more ls i d lt)))
+
+module _ (text : List ℕ) (fs : List Span) where
+  pub formals-none : IsLeast (IsWrongFormal text fs 0) None
+  formals-none = λ w h. let l = h.within in omega (arith, l)
+
+  pub formals-next : (i : ℕ) (f : Span) (ns : List (List ℕ)) (o : Option Wrong) → slice_get fs i ≡ Some f →
+      ((q : List ℕ) → has_name q ns ≡ has_name q (formals_in text (take i fs))) → IsLeast (IsWrongFormal text fs i) o →
+      IsLeast (IsWrongFormal text fs (i + 1)) (first_of o (wrong_if (has_name (bytes_at text f) ns) kind.DeclaredTwice f))
+  formals-next i f ns o e same h =
+      let here = wrong_if (has_name (bytes_at text f) ns) kind.DeclaredTwice f in
+      least-same (λ w. IsWrongFormal text fs i w ⊎ (here ≡ Some w)) (IsWrongFormal text fs (i + 1)) (first_of o here)
+      (λ w c. elim c [
+        | inl p ↦ record { place = p.place; formal = p.formal; within = (let m = p.within in omega (arith, m)); there = p.there; is = p.is }
+        | inr p ↦ record { place = i; formal = f; within = omega arith; there = e; is = ap (λ b. wrong_if b kind.DeclaredTwice f) (sym (same (bytes_at text f))) ∙ p }
+      ])
+      (λ w p. elim (cases_order p.place i) [
+        | inl q ↦ inr (let g : f ≡ p.formal = some_same (sym e ∙ ap (slice_get fs) (sym q) ∙ p.there) in
+            ap (λ b. wrong_if b kind.DeclaredTwice f) (same (bytes_at text f))
+            ∙ ap (λ n. wrong_if (has_name (bytes_at text f) (formals_in text (take n fs))) kind.DeclaredTwice f) (sym q)
+            ∙ ap (λ x. wrong_if (has_name (bytes_at text x) (formals_in text (take p.place fs))) kind.DeclaredTwice x) g ∙ p.is)
+        | inr (inl q) ↦ inl (record { place = p.place; formal = p.formal; within = q; there = p.there; is = p.is })
+        | inr (inr q) ↦ absurd (let m = p.within in omega (arith, m, q))
+      ])
+      (least-first_of (IsWrongFormal text fs i) (λ w. here ≡ Some w) o here h (least-alone here))
+
+  pub formals-all : (i : ℕ) (o : Option Wrong) → i ≡ length fs → IsLeast (IsWrongFormal text fs i) o → IsLeast (IsWrongFormal text fs (length fs)) o
+  formals-all i o e h = subst (λ n. IsLeast (IsWrongFormal text fs n) o) e h
+
+  pub formal_names-next : (i : ℕ) (d f : Span) (ns new : List (List ℕ)) → i < length fs → f ≡ get_or fs i d →
+      new ≡ cond (has_name (bytes_at text f) ns) ns (ns ++ bytes_at text f ∷ []) →
+      ((q : List ℕ) → has_name q ns ≡ has_name q (formals_in text (take i fs))) → (q : List ℕ) → has_name q new ≡ has_name q (formals_in text (take (i + 1) fs))
+  formal_names-next i d f ns new lt is e same q =
+      ap (has_name q) e ∙ has_name-added ns (formals_in text (take i fs)) (bytes_at text f) same q
+      ∙ ap (λ x. has_name q (formals_in text (take i fs) ++ bytes_at text x ∷ [])) is
+      ∙ ap (has_name q) (sym (map_push (bytes_at text) (take i fs) (get_or fs i d)) ∙ ap (formals_in text) (sym (take_more fs i d lt)))
+
+  pub formals-at : (i : ℕ) (d : Span) (ns : List (List ℕ)) (o res w : Option Wrong) (r : List ℕ) (t : Bool) → i < length fs → r ≡ bytes_at text (get_or fs i d) → t ≡ has_name r ns →
+      w ≡ wrong_if t kind.DeclaredTwice (get_or fs i d) → res ≡ first_of o w → ((q : List ℕ) → has_name q ns ≡ has_name q (formals_in text (take i fs))) →
+      IsLeast (IsWrongFormal text fs i) o → IsLeast (IsWrongFormal text fs (i + 1)) res
+  formals-at i d ns o res w r t l p q e f same h =
+      let s = get_or fs i d in
+      subst (IsLeast (IsWrongFormal text fs (i + 1)))
+      (sym (f ∙ ap (first_of o) (e ∙ ap (λ b. wrong_if b kind.DeclaredTwice s) (q ∙ ap (λ n. has_name n ns) p))))
+      (formals-next i s ns o (slice_get-get_or fs i d l) same h)
+
+  pub formal_names-at : (i : ℕ) (d : Span) (ns new : List (List ℕ)) (r : List ℕ) → i < length fs → r ≡ bytes_at text (get_or fs i d) →
+      new ≡ cond (has_name r ns) ns (ns ++ r ∷ []) → ((q : List ℕ) → has_name q ns ≡ has_name q (formals_in text (take i fs))) →
+      (q : List ℕ) → has_name q new ≡ has_name q (formals_in text (take (i + 1) fs))
+  formal_names-at i d ns new r l p e same = formal_names-next i d (get_or fs i d) ns new l refl (e ∙ ap (λ n. cond (has_name n ns) ns (ns ++ n ∷ [])) p) same

@@ -90,3 +90,14 @@ pub record IsWrongLocal (text : List ℕ) (bodies : List Body) (in_body : Bool) 
   pub within : place < end
   pub there : slice_get ls place ≡ Some element
   pub is : local_at text bodies in_body (has_name element.name.items (names_in (take place ls))) element ≡ Some w
+
+abbrev pub formals_in : List ℕ → List Span → List (List ℕ)
+formals_in text fs = map (bytes_at text) fs
+
+-- One of the first of these parameters has the name of an earlier one.
+pub record IsWrongFormal (text : List ℕ) (fs : List Span) (end : ℕ) (w : Wrong) : Type 0 where
+  pub place : ℕ
+  pub formal : Span
+  pub within : place < end
+  pub there : slice_get fs place ≡ Some formal
+  pub is : wrong_if (has_name (bytes_at text formal) (formals_in text (take place fs))) kind.DeclaredTwice formal ≡ Some w

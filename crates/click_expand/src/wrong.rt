@@ -4,7 +4,7 @@ ghost use Rattle.std.specs.Prelude.{◌≡◌, length, IfOk};
 ghost use Rattle.click_expand.specs.Elements.{has_name};
 ghost use Rattle.click_expand.specs.Faults.{number_of};
 ghost use Rattle.click_expand.specs.Wrongs as spec;
-ghost use Rattle.click_expand.specs.Wrongs.{unknown_at, port_at, twice_at, first_in, local_at, AreShort, IsLeast, IsWrongLocal};
+ghost use Rattle.click_expand.specs.Wrongs.{unknown_at, port_at, twice_at, first_in, local_at, AreShort, IsLeast, IsWrongLocal, IsWrongFormal};
 
 use crate::classes::ClassOf;
 use crate::fault::FaultKind;
@@ -163,6 +163,20 @@ pub fn in_locals(
     for local in locals {
         first = first_of(first, in_local(text, bodies, in_body, &names, local));
         names.add(alloc, local.name.as_slice())?;
+    }
+    Ok(first)
+}
+
+/// The first parameter of a body whose name an earlier one has.
+pub fn in_formals(alloc: Global, text: &[u8], formals: &[Span]) -> Result<Option<Wrong>, AllocError>
+    ensures { IfOk result (IsLeast (IsWrongFormal text.now formals.now (length formals.now))) }
+{
+    let mut first = None;
+    let mut names = Names::new(alloc);
+    for formal in formals {
+        let taken = names.has(formal.of(text));
+        first = first_of(first, wrong_if(taken, FaultKind::DeclaredTwice, *formal));
+        names.add(alloc, formal.of(text))?;
     }
     Ok(first)
 }
