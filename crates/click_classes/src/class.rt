@@ -1,6 +1,6 @@
 //! The classes and their names.
 
-ghost use Rattle.std.specs.Prelude.{◌≡◌, List, ℕ};
+ghost use Rattle.std.specs.Prelude.{◌≡◌};
 ghost use Rattle.click_classes.specs.Classes.{name, class_of};
 
 /// A class of elements (Click element reference).

@@ -1,4 +1,4 @@
-//! The kinds of ports: push, pull, or agnostic (Kohler et al., "The Click Modular Router", section 2.2).
+//! The kinds of ports: push, pull, or agnostic (Kohler et al., "The Click Modular Router").
 
 ghost use Rattle.std.specs.Prelude.{◌≡◌};
 ghost use Rattle.click_classes.specs.Codes.{codes_of, code, passes};

@@ -1,6 +1,6 @@
 //! The first state of an element.
 
-ghost use Rattle.std.specs.Prelude.{◌≡◌, ◌⊎◌, Result, Err, List, ℕ};
+ghost use Rattle.std.specs.Prelude.{◌≡◌, ◌⊎◌, Result, Err};
 ghost use Rattle.click_classes.specs.declared.fault.ArgFault.{ArgFault};
 ghost use Rattle.click_classes.specs.declared.fault.ArgFault.TheVariants.{NoMemory};
 ghost use Rattle.click_classes.specs.declared.state.State.{State};

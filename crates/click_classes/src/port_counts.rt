@@ -1,6 +1,6 @@
 //! How many ports an element may have.
 
-ghost use Rattle.std.specs.Prelude.{◌≡◌, ◌≤◌, ◌+◌, fold, max};
+ghost use Rattle.std.specs.Prelude.{◌≡◌};
 ghost use Rattle.click_classes.specs.Counts.{counts, outputs_for, at_least, up_to_256};
 
 use crate::ports::Counts;

@@ -1,6 +1,5 @@
 //! Elements that sort packets by their bytes.
 
-ghost use Rattle.std.specs.Prelude.{◌≡◌};
 ghost use Rattle.click_classes.specs.Fresh.{classifier};
 ghost use Rattle.click_classes.specs.Made.{ByWords};
 ghost use Rattle.click_classes.specs.Patterns.{pattern};

@@ -1,6 +1,5 @@
 //! Elements at devices.
 
-ghost use Rattle.std.specs.Prelude.{◌≡◌};
 ghost use Rattle.click_classes.specs.Fresh.{device, from_device, to_device};
 ghost use Rattle.click_classes.specs.Steps.{IsOrNoMemory};
 

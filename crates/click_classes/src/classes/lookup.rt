@@ -1,6 +1,5 @@
 //! Elements that look up routes.
 
-ghost use Rattle.std.specs.Prelude.{◌≡◌};
 ghost use Rattle.click_classes.specs.Fresh.{static_ip_lookup};
 ghost use Rattle.click_classes.specs.Made.{ByWords};
 ghost use Rattle.click_classes.specs.Steps.{OrNoMemory};

@@ -2,7 +2,6 @@
 
 ghost use Rattle.std.specs.Prelude.{◌≡◌, ◌≤◌, length, replicate, Ok};
 ghost use Rattle.std.specs.List.{list_all};
-ghost use Rattle.click_classes.specs.Values.{hex_digit};
 ghost use Rattle.click_classes.specs.Patterns.{pattern_digit, value_of, kept, mask_of, are_digits, is_mask, clause_of, unsigned, clause, is_dash, pattern};
 ghost use Rattle.click_classes.specs.Steps.{each, IsOrNoMemory};
 

@@ -1,6 +1,6 @@
 //! Prefixes of internet addresses (Click element reference, "IP prefix").
 
-ghost use Rattle.std.specs.Prelude.{◌≡◌, min};
+ghost use Rattle.std.specs.Prelude.{◌≡◌};
 ghost use Rattle.click_classes.specs.Values.{first_bits, cleared, prefix};
 
 use crate::fault::ArgFault;
