@@ -1,8 +1,15 @@
-//! Parses large texts, to be measured from outside. It prints each text's kind, its size, and how many statements and bodies it has.
-//! With two arguments, a kind and a size in bytes, it parses that text alone; with the argument `input` what stands on standard input; with none all
-//! kinds at the greatest size.
+//! Parses large texts and makes elements with many arguments, to be measured from outside; it prints sizes and counts alone. With no arguments it
+//! does all it can at the greatest sizes. Else:
+//!
+//! - `KIND SIZE` parses a text of that kind and size in bytes: its kind, its size, how many statements and bodies it has;
+//! - `input` parses what stands on standard input;
+//! - `lookup COUNT`, `classifier COUNT` make an element of that many arguments;
+//! - `make CLASS` makes an element of the class with the configuration string on standard input.
 #![tactic(auto)]
 
+mod making;
+
+use click_classes::Class;
 use click_text::{LONGEST_TEXT, parse};
 use std::alloc::{AllocError, Global};
 use std::io::Read;
@@ -103,6 +110,18 @@ fn read_input(rt: &HostRuntime) -> io::Result<()> {
     }
 }
 
+/// What a word and a size ask for; nothing for another word.
+fn sized(rt: &HostRuntime, word: &str, size: usize) -> io::Result<()> {
+    match word {
+        "lookup" => making::many(rt, Class::StaticIPLookup, size),
+        "classifier" => making::many(rt, Class::Classifier, size),
+        _ => match kind_of(word) {
+            Some(kind) => measure(rt, kind, size),
+            None => Ok(()),
+        },
+    }
+}
+
 fn run(rt: &HostRuntime) -> io::Result<()> {
     let words = env::args(rt)?.collect::<Vec<String>>(rt.alloc())?;
     if let [_, word] = words.as_slice() {
@@ -111,14 +130,18 @@ fn run(rt: &HostRuntime) -> io::Result<()> {
         }
     }
     if let [_, kind, size] = words.as_slice() {
-        if let (Some(kind), Ok(size)) = (kind_of(kind.as_str()), size.parse::<usize>()) {
-            return measure(rt, kind, size);
+        if kind.as_str() == "make" {
+            return making::one(rt, size.as_str());
+        }
+        if let Ok(size) = size.parse::<usize>() {
+            return sized(rt, kind.as_str(), size);
         }
     }
     for kind in KINDS {
         measure(rt, kind, LONGEST_TEXT)?;
     }
-    Ok(())
+    making::many(rt, Class::StaticIPLookup, 1_024)?;
+    making::many(rt, Class::Classifier, 256)
 }
 
 fn main(rt: HostRuntime) -> ExitCode {
