@@ -1,7 +1,7 @@
 //! The two ends of a session's peer: where its bytes come from and where they go. Unlike std's reader and writer
 //! they tell a contract whether a call of theirs has failed.
 
-ghost use Rattle.std.specs.Prelude.{◌≡◌, ◌≤◌, ◌<◌, ◌||◌, length, is_err, IfOk, false};
+ghost use Rattle.std.specs.Prelude.{◌≡◌, ◌≤◌, ◌<◌, ◌||◌, length, is_err, IfOk, true, false};
 ghost use Rattle.std.specs.Io.KnownBytes.{ReadConsumes, WriteAppends};
 
 use std::io::{Read, Write};
@@ -20,10 +20,12 @@ pub trait Source {
     /// A read has failed.
     ghost failed: { Self → Bool };
 
-    /// Puts the next bytes into the piece, and answers how many: 0 at the end alone. Any error is a failure.
+    /// Puts the next bytes into the piece, and answers how many: 0 at the end alone. Any error is a failure, behind which every
+    /// further read fails too.
     fn read(&mut self, piece: &mut [u8]) -> Result<usize, Failed>
         ensures bound { IfOk result (λ n. n ≤ length piece.new) }
         ensures bytes { ReadConsumes (remaining self.old) (remaining self.new) result piece.new }
+        ensures stays { failed self.old ≡ true → is_err result ≡ true }
         ensures failed { failed self.new ≡ (failed self.old || is_err result) };
 }
 
@@ -38,11 +40,12 @@ pub trait Sink {
     ghost failed: { Self → Bool };
 
     /// Takes some of the bytes, at least one where there is one, and answers how many. Any error is a failure,
-    /// and so is a write that takes none of some bytes.
+    /// and so is a write that takes none of some bytes. Behind a failure every further write fails too.
     fn write(&mut self, bytes: &[u8]) -> Result<usize, Failed>
         ensures bound { IfOk result (λ n. n ≤ length bytes.now) }
         ensures some { 0 < length bytes.now → IfOk result (λ n. 0 < n) }
         ensures bytes { WriteAppends (contents self.old) (contents self.new) result bytes.now }
+        ensures stays { failed self.old ≡ true → is_err result ≡ true }
         ensures failed { failed self.new ≡ (failed self.old || is_err result) };
 }
 
@@ -87,6 +90,9 @@ impl<R: Read> Source for Reading<R> {
     ghost failed = { λ reading. reading.failed };
 
     fn read(&mut self, piece: &mut [u8]) -> Result<usize, Failed> {
+        if self.failed {
+            return Err(Failed);
+        }
         match self.inner.read(piece) {
             Ok(n) => Ok(n),
             Err(_) => {
@@ -124,6 +130,9 @@ impl<W: Write> Sink for Writing<W> {
     ghost failed = { λ writing. writing.failed };
 
     fn write(&mut self, bytes: &[u8]) -> Result<usize, Failed> {
+        if self.failed {
+            return Err(Failed);
+        }
         match self.inner.write(bytes) {
             Ok(n) if n > 0 || bytes.is_empty() => Ok(n),
             Ok(_) | Err(_) => {

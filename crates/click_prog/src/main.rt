@@ -32,8 +32,9 @@ fn main(rt: HostRuntime) -> ExitCode {
 /// Reads the command line and runs the session that it asks for.
 fn program(rt: &HostRuntime) -> Status {
     let alloc = rt.alloc();
-    let Ok(words) = env::args(rt) else {
-        return Status::NoMemory;
+    let words = match env::args(rt) {
+        Ok(words) => words,
+        Err(error) => return unread(rt, error),
     };
     let Ok(words) = words.collect::<Vec<String>>(alloc) else {
         return Status::NoMemory;
@@ -47,6 +48,16 @@ fn program(rt: &HostRuntime) -> Status {
             Status::WrongArguments
         }
     }
+}
+
+/// Tells why the words of the command line cannot be read: memory ran out, or one of them is no text.
+fn unread(rt: &HostRuntime, error: io::Error) -> Status {
+    if error.kind() == io::ErrorKind::OutOfMemory {
+        return Status::NoMemory;
+    }
+    // A failed write changes nothing of the status.
+    let _ = rt.eprintln("click_prog: an argument is not UTF-8");
+    Status::WrongArguments
 }
 
 /// Serves one session on standard input and output, over the router of the text.
@@ -66,11 +77,11 @@ fn refused(rt: &HostRuntime, fault: &ConfigFault) -> Status {
     if fault.kind == FaultKind::NoMemory {
         return Status::NoMemory;
     }
-    let Ok(text) = fault.text(rt.alloc()) else {
-        return Status::NoMemory;
-    };
     // A failed write changes nothing of the status.
-    let _ = told(&mut rt.stderr(), text.as_slice());
+    let _ = match fault.text(rt.alloc()) {
+        Ok(text) => told(&mut rt.stderr(), text.as_slice()),
+        Err(_) => told(&mut rt.stderr(), b"faulty configuration"),
+    };
     Status::FaultyConfiguration
 }
 

@@ -1,6 +1,6 @@
 //! From a text to a router that can be opened.
 
-ghost use Rattle.std.specs.Prelude.{◌≡◌, ◌⊎◌, ◌≤◌, [], ◌∷◌, ◌++◌, OnOk, map, length, IfOk, IfErr};
+ghost use Rattle.std.specs.Prelude.{◌≡◌, ◌⊎◌, ◌<◌, ◌≤◌, [], ◌∷◌, ◌++◌, OnOk, map, length, IfOk, IfErr};
 ghost use Rattle.click_text.specs.Spelling.{longest_text};
 ghost use Rattle.click_router.specs.State.{RouterState};
 ghost use Rattle.click_router.specs.Expand.{flat_names};
@@ -304,6 +304,8 @@ pub fn prepare(alloc: Global, text: &[u8]) -> Result<Prepared, ConfigFault>
     ensures only { (state : RouterState) → IsOpened text.now state → IsGiven result state }
     // Which fault it is.
     ensures err { IfErr result (λ fault. IsMemoryOr fault (IsFirstFault text.now fault)) }
+    // The limit on a text is tested before memory is asked for.
+    ensures large { longest_text < length text.now → result ≡ Err (spec.fault_nowhere FaultKind.TooLarge) }
 {
     // Places are told only of a text that may be read.
     if text.len() > LONGEST_TEXT {

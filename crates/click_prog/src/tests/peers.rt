@@ -35,7 +35,7 @@ impl Source for Script<'_> {
 
     fn read(&mut self, piece: &mut [u8]) -> Result<usize, Failed> {
         self.calls = self.calls.saturating_add(1);
-        if self.calls == self.fails {
+        if self.failed || self.calls == self.fails {
             self.failed = true;
             return Err(Failed);
         }
@@ -83,7 +83,10 @@ impl Sink for Keeper {
     fn write(&mut self, bytes: &[u8]) -> Result<usize, Failed> {
         self.calls = self.calls.saturating_add(1);
         let len = self.most.max(1).min(bytes.len());
-        if self.calls == self.fails || self.bytes.extend_from_slice(&bytes[..len]).is_err() {
+        if self.failed
+            || self.calls == self.fails
+            || self.bytes.extend_from_slice(&bytes[..len]).is_err()
+        {
             self.failed = true;
             return Err(Failed);
         }
