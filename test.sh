@@ -9,4 +9,5 @@ examples/run.sh
 tools/language_examples.sh
 tools/refuse_each.sh
 tools/refuse_parse.sh
+tools/refuse_make.sh
 exec rt ci
