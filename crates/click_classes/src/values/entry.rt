@@ -1,7 +1,7 @@
 //! Entries of StaticIPLookup.
 
 ghost use Rattle.std.specs.Prelude.{◌≡◌, []};
-ghost use Rattle.click_classes.specs.Entries.{entry, same_prefix, has_prefix, table};
+ghost use Rattle.click_classes.specs.Entries.{entry, table};
 ghost use Rattle.click_classes.specs.Steps.{IsOrNoMemory};
 
 use crate::fault::ArgFault;
@@ -10,6 +10,7 @@ use crate::values::number::number_in;
 use crate::values::prefix::{Prefix, read_prefix};
 use click_text::sequence::Sequence;
 use std::alloc::Global;
+use std::collections::BTreeSet;
 
 /// Where packets go whose destination the prefix has.
 #[derive(Clone, Copy, Debug, PartialEq, Eq)]
@@ -46,19 +47,6 @@ pub fn read_entry(words: &[Sequence<u8>]) -> Result<Entry, ArgFault>
     Err(ArgFault::BadEntry)
 }
 
-fn is_same(a: Prefix, b: Prefix) -> bool
-    ensures { result ≡ same_prefix a b }
-{
-    a.len == b.len && a.network == b.network
-}
-
-/// Whether an entry has the prefix.
-fn has_prefix(entries: &[Entry], prefix: Prefix) -> bool
-    ensures { result ≡ has_prefix entries.now prefix }
-{
-    entries.iter().any(|entry| is_same(entry.prefix, prefix))
-}
-
 /// The entries that arguments spell, which are given by their words; no two have one prefix.
 pub fn read_table(
     alloc: Global,
@@ -67,9 +55,14 @@ pub fn read_table(
     ensures { IsOrNoMemory (table [] arguments.now) result }
 {
     let mut entries = Sequence::new(alloc);
+    // The prefixes of the entries.
+    let mut seen: BTreeSet<Prefix> = BTreeSet::new(alloc);
     for words in arguments {
         let entry = read_entry(words.as_slice())?;
-        if has_prefix(entries.as_slice(), entry.prefix) {
+        let Ok(is_new) = seen.insert(entry.prefix) else {
+            return Err(ArgFault::NoMemory);
+        };
+        if !is_new {
             return Err(ArgFault::BadEntry);
         }
         entries.push(entry)?;

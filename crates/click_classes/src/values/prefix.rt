@@ -9,7 +9,7 @@ use crate::values::groups::place;
 use crate::values::number::decimal_in;
 
 /// The addresses whose first `len` bits are those of `network`.
-#[derive(Clone, Copy, Debug, PartialEq, Eq)]
+#[derive(Clone, Copy, Debug, PartialEq, Eq, PartialOrd, Ord)]
 pub struct Prefix {
     pub network: [u8; 4],
     pub len: u8,
