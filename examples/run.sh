@@ -21,6 +21,10 @@ for wrong in '' '-e' '-x' '--help'; do
     [ "$status" = 2 ] && [ -s "$work/err" ] && ! [ -s "$work/out" ]
     passed=$((passed + 1))
 done
+# A word that is no text.
+status=0
+"$program" -e $'\xff' < /dev/null > "$work/out" 2> "$work/err" || status=$?
+[ "$status" = 2 ] && [ -s "$work/err" ] && ! [ -s "$work/out" ]
 # A peer that takes nothing more is a failed write; standard input that cannot be read is a failed read.
 status=0
 "$program" -e '' < counter/session > /dev/full 2> "$work/err" || status=$?
@@ -28,4 +32,4 @@ status=0
 status=0
 "$program" -e '' <&- > "$work/out" 2> "$work/err" || status=$?
 [ "$status" = 4 ]
-echo "$((passed + 2)) examples passed"
+echo "$((passed + 3)) examples passed"

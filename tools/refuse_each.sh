@@ -2,11 +2,7 @@
 # Runs the program's stored session with each request for memory refused in turn, until none is. A run whose request is refused must end with
 # status 3 behind a front of the stored output, or, where the router's own request was refused, answer `520 Out of memory` in place of the value
 # and go on. A run in which none is refused must be the stored one. The program must have been built: rt run click_prog.
-set -eu
-cd "$(dirname "$0")/.."
-work=$(mktemp -d)
-trap 'rm -rf "$work"' EXIT
-cc -O1 -shared -fPIC -o "$work/refuse.so" tools/refuse.c -ldl
+. "$(dirname "$0")/refusing.sh"
 program=crates/click_prog/out/click_prog
 mapfile -t args < crates/click_prog/args
 stored=crates/click_prog/stdout

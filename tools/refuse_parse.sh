@@ -1,11 +1,7 @@
 #!/usr/bin/env bash
 # Parses some texts with each request for memory refused in turn, until none is: each run must tell want of memory and nothing else, or fail to read
 # its input for want of memory. The program must have been built: rt run click_bench.
-set -eu
-cd "$(dirname "$0")/.."
-work=$(mktemp -d)
-trap 'rm -rf "$work"' EXIT
-cc -O1 -shared -fPIC -o "$work/refuse.so" tools/refuse.c -ldl
+. "$(dirname "$0")/refusing.sh"
 program=crates/click_bench/out/click_bench
 total=0
 for text in tools/texts/*.click; do
