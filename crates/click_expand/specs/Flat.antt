@@ -101,11 +101,19 @@ pub record IsFlat (c : Config) (f : Flat) : Type 0 where
 abbrev pub expand_fault : FaultKind → Option Span → List ℕ → ExpandFault
 expand_fault k s name = record { kind = k; span = s; name = name }
 
+-- A limit is passed: by the elements, the paths, the text, or as many different connections.
+pub data Exceeds (c : Config) (leaves : List Leaf) (paths : ℕ) : Type 0 where
+  many_elements : most_elements < length leaves → Exceeds c leaves paths
+  many_paths : most_paths < paths → Exceeds c leaves paths
+  much_text : most_text < text_size leaves → Exceeds c leaves paths
+  many_connections : (ks : List Connection) → InOrder ks → ((k : Connection) → Contains ks k → Joins c leaves k) → most_connections < length ks →
+      Exceeds c leaves paths
+
 -- The first fault: a wrong use of a name, class, parameter or port; else a limit that is passed; else the first element whose flat name an earlier
 -- one has; else the first text that is no longer one string.
 pub data IsFlatFault (c : Config) : ExpandFault → Type 0 where
   wrong : (k : FaultKind) (s : Span) → IsFirstWrong c k s → IsFlatFault c (expand_fault k (Some s) [])
-  too_many : (leaves : List Leaf) (paths : ℕ) (ks : List Connection) → Meant c leaves paths ks → (WithinLimits leaves paths ks → ⊥) →
+  too_many : (leaves : List Leaf) (paths : ℕ) → IsSound c → LeavesOf c leaves paths → Exceeds c leaves paths →
       IsFlatFault c (expand_fault kind.TooMany None [])
   repeated : (leaves front back : List Leaf) (l : Leaf) (paths : ℕ) (ks : List Connection) → Meant c leaves paths ks → WithinLimits leaves paths ks →
       leaves ≡ front ++ l ∷ back → AreDistinct (flat_names front) → Contains (flat_names front) (flat_name l.path) →

@@ -14,3 +14,7 @@ pub mod Scoped
 pub mod Located
 pub mod Wrongs
 pub mod Found
+pub mod Joined
+pub mod Called
+pub mod Sizes
+pub mod Uses

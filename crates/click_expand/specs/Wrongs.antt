@@ -7,7 +7,8 @@ use Rattle.click_text.specs.declared.syntax.Head.TheVariants as head
 use Rattle.click_text.specs.Spans.{bytes_at}
 use Rattle.click_text.specs.declared.syntax.Body.{Body}
 use Rattle.click_expand.specs.Elements.{is_port_name, has_name}
-use Rattle.click_expand.specs.Faults.{number_of, brace_by}
+use Rattle.click_text.specs.declared.syntax.Config.{Config}
+use Rattle.click_expand.specs.Faults.{IsWrong, number_of, brace_by}
 use Rattle.click_expand.specs.declared.members.Local.{Local as LocalKept}
 use Rattle.click_expand.specs.declared.classes.ClassOf.{ClassOf}
 use Rattle.click_expand.specs.declared.fault.FaultKind.{FaultKind}
@@ -36,6 +37,16 @@ AtMost a b = (a.span.start < b.span.start) ⊎ ((a.span.start ≡ b.span.start) 
 abbrev pub IsLeast : (Wrong → Type 0) → Option Wrong → Type 0
 IsLeast P None = (w : Wrong) → P w → ⊥
 IsLeast P (Some w) = P w × ((x : Wrong) → P x → AtMost w x)
+
+-- a wrong use of a name: unknown, of an unknown class, or declared twice
+pub record IsMisnamed (c : Config) (w : Wrong) : Type 0 where
+  pub wrong : IsWrong c w.kind w.span
+  pub kind : number_of w.kind ≤ 13
+
+-- a wrong use of a compound: of its parameters, or of its ports
+pub record IsMisused (c : Config) (w : Wrong) : Type 0 where
+  pub wrong : IsWrong c w.kind w.span
+  pub kind : 14 ≤ number_of w.kind
 
 -- an element's word that names no class
 abbrev pub unknown_word : Head → Option Span → Option Wrong

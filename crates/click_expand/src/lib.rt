@@ -1,16 +1,24 @@
 //! Compounds, parameters and synonyms of a configuration are expanded to its flat form.
 #![tactic(auto)]
 
+pub mod called;
 pub mod classes;
+pub mod elements;
 pub mod fault;
 pub mod flat;
 pub mod flat_text;
+pub mod joints;
 pub mod laws;
 pub mod members;
+pub mod misnamed;
+pub mod misused;
 pub mod names;
 pub mod order;
 pub mod scopes;
+pub mod sizes;
+pub mod uses;
 pub mod whole;
+pub mod wiring;
 pub mod wrong;
 
 pub use fault::{ExpandFault, FaultKind};

@@ -1,0 +1,37 @@
+//! The elements of a flat configuration.
+
+ghost use Rattle.std.specs.Prelude.{◌≡◌, ◌<◌, ◌≤◌, ℕ, List, map, IfOk, MatchOption};
+ghost use Rattle.click_expand.specs.Located.{AreAllLocals};
+ghost use Rattle.click_expand.specs.Called.{AreAllArguments};
+ghost use Rattle.click_expand.specs.Nesting.{IsNested};
+ghost use Rattle.click_expand.specs.Instances.{Leaf as Flattened};
+ghost use Rattle.click_expand.specs.Uses.{Used, AreUses};
+ghost use Rattle.click_expand.specs.Flat.{flat_element, text_size, most_text};
+
+use crate::flat::FlatElement;
+use crate::members::Local;
+use crate::uses::Uses;
+use click_text::sequence::Sequence;
+use click_text::syntax::{Config, Span};
+use std::alloc::{AllocError, Global};
+
+/// How many bytes the argument texts of all flat elements may have.
+pub const MOST_TEXT: usize = 1_048_576;
+
+/// The flat elements, or none where their texts are longer than the limit.
+pub fn elements_of(
+    alloc: Global,
+    config: &Config,
+    locals: &[Vec<Local>],
+    arguments: &[Sequence<Sequence<Span>>],
+    uses: &Uses,
+) -> Result<Option<Vec<FlatElement>>, AllocError>
+    requires nested { IsNested config.now }
+    requires locals { AreAllLocals config.now locals.now }
+    requires arguments { AreAllArguments config.now arguments.now }
+    requires used { (leaves : List Flattened) × (known : List Used) × AreUses config.now uses.now.uses.items uses.now.leaves.items known leaves }
+    ensures { IfOk result (λ r. (leaves : List Flattened) (known : List Used) → AreUses config.now uses.now.uses.items uses.now.leaves.items known leaves →
+        MatchOption r (most_text < text_size leaves) (λ elements. (elements.items ≡ map flat_element leaves) × (text_size leaves ≤ most_text))) }
+{
+    Err(AllocError)
+}
