@@ -3,7 +3,7 @@
 ghost use Rattle.std.specs.Prelude.{IfOk};
 ghost use Rattle.click_expand.specs.Located.{AreAllLocals};
 ghost use Rattle.click_expand.specs.Nesting.{IsNested};
-ghost use Rattle.click_expand.specs.Scoped.{AreScopes};
+ghost use Rattle.click_expand.specs.Scoped.{AreScopes, AreSynonyms};
 ghost use Rattle.click_expand.specs.Wrongs.{AreShort, IsLeast, IsMisnamed};
 
 use crate::members::Local;
@@ -22,6 +22,7 @@ pub fn first_misnamed(
     requires nested { IsNested config.now }
     requires short { AreShort config.now.bodies }
     requires scoped { AreScopes config.now scopes.now.entries.items scopes.now.scopes.items }
+    requires synonyms { AreSynonyms config.now scopes.now.entries.items }
     requires locals { AreAllLocals config.now locals.now }
     ensures { IfOk result (IsLeast (IsMisnamed config.now)) }
 {

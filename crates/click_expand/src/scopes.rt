@@ -7,7 +7,7 @@ ghost use Rattle.click_expand.specs.Elements.{placed};
 ghost use Rattle.click_expand.specs.Faults as faults;
 ghost use Rattle.click_expand.specs.Tables.{Shows, AreWritten, IsMore, IsEntry};
 ghost use Rattle.click_expand.specs.Nesting.{IsNested};
-ghost use Rattle.click_expand.specs.Scoped.{AreScopes};
+ghost use Rattle.click_expand.specs.Scoped.{AreScopes, AreSynonyms};
 ghost use Rattle.click_expand.specs.Standing.{kept_link, kept_name, kept_elements, root, AreRoots};
 
 use crate::classes::{ClassOf, Entry, find};
@@ -304,7 +304,8 @@ fn push_scope(scopes: &mut Vec<Scope>, scope: Scope) -> Result<(), AllocError>
 /// The scopes of a configuration, and the definitions of classes in them.
 pub fn scopes_of(alloc: Global, config: &Config) -> Result<Scopes, AllocError>
     requires { IsNested config.now }
-    ensures { IfOk result (λ r. AreScopes config.now r.entries.items r.scopes.items) }
+    ensures scopes { IfOk result (λ r. AreScopes config.now r.entries.items r.scopes.items) }
+    ensures synonyms { IfOk result (λ r. AreSynonyms config.now r.entries.items) }
 {
     let text = config.text.as_slice();
     let bodies = config.bodies.as_slice();
