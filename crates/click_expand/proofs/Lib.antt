@@ -10,3 +10,4 @@ pub mod Ordered
 pub mod Least
 pub mod Finding
 pub mod ReadsBack
+pub mod Flattening

@@ -7,6 +7,7 @@ pub mod elements;
 pub mod fault;
 pub mod flat;
 pub mod flat_text;
+pub mod flatten;
 pub mod joints;
 pub mod laws;
 pub mod members;

@@ -1,6 +1,6 @@
 //! The connections of a flat configuration.
 
-ghost use Rattle.std.specs.Prelude.{◌<◌, ℕ, List, length, Contains, IfOk, MatchOption};
+ghost use Rattle.std.specs.Prelude.{◌<◌, ◌≤◌, ℕ, List, length, Contains, IfOk, MatchOption};
 ghost use Rattle.click_expand.specs.declared.flat.Connection.{Connection as Joined};
 ghost use Rattle.click_expand.specs.Nesting.{IsNested};
 ghost use Rattle.click_expand.specs.Faults.{IsSound};
@@ -32,7 +32,7 @@ pub fn connections_of(
     requires used { (leaves : List Flattened) × (known : List Used) × AreUses config.now uses.now.uses.items uses.now.leaves.items known leaves }
     ensures { IfOk result (λ r. (leaves : List Flattened) (known : List Used) → AreUses config.now uses.now.uses.items uses.now.leaves.items known leaves →
         MatchOption r ((ks : List Joined) × InOrder ks × ((k : Joined) → Contains ks k → Joins config.now leaves k) × (most_connections < length ks))
-        (λ ks. AreConnections config.now leaves ks.items)) }
+        (λ ks. AreConnections config.now leaves ks.items × (length ks.items ≤ most_connections))) }
 {
     Err(AllocError)
 }

@@ -1,0 +1,59 @@
+-- From what is found once for each scope to the flat form or its fault.
+use Rattle.std.proofs.Common.{◌≡◌, ◌⊎◌, left, right, ℕ, ◌<◌, ◌≤◌, List, map, length, Option, Some, None, Vec, refl, sym, ap, ◌∙◌, subst, arith}
+use Rattle.std.specs.Prelude.{Contains, MatchOption}
+use Rattle.std.specs.Global.{Global}
+use Rattle.click_text.specs.declared.syntax.Span.{Span}
+use Rattle.click_text.specs.declared.syntax.Config.{Config}
+use Rattle.click_expand.specs.Faults.{IsWrong, number_of, IsFirstWrong, IsSound}
+use Rattle.click_expand.specs.Wrongs.{IsMisnamed, IsMisused, IsLeast, AtMost, first_of}
+use Rattle.click_expand.specs.Instances.{Leaf}
+use Rattle.click_expand.specs.Flat.{most_text, most_connections, text_size, flat_element, InOrder, Joins, AreConnections, WithinLimits, Exceeds, much_text, many_connections}
+use Rattle.click_expand.specs.Tabled.{IsFirst, IsExpanded, IsExpandedOr}
+use Rattle.click_expand.specs.declared.fault.FaultKind.{FaultKind}
+use Rattle.click_expand.specs.declared.wrong.Wrong.{Wrong}
+use Rattle.click_expand.specs.declared.flat.Flat.{Flat}
+use Rattle.click_expand.specs.declared.flat.FlatElement.{FlatElement}
+use Rattle.click_expand.specs.declared.flat.Connection.{Connection}
+use Rattle.click_expand.proofs.Least.{least-first_of, least-same}
+
+wrong-at : Config → Wrong → Type 0
+wrong-at c w = IsWrong c w.kind w.span
+
+either : (c : Config) (w : Wrong) → IsMisnamed c w ⊎ IsMisused c w → wrong-at c w
+either c w (left h) = h.wrong
+either c w (right h) = h.wrong
+
+parted-by : (c : Config) (w : Wrong) → wrong-at c w → (number_of w.kind ≤ 13) ⊎ (14 ≤ number_of w.kind) → IsMisnamed c w ⊎ IsMisused c w
+parted-by c w h (left l) = left (record { wrong = h; kind = l })
+parted-by c w h (right l) = right (record { wrong = h; kind = l })
+
+low-or-high : (n : ℕ) → (n ≤ 13) ⊎ (14 ≤ n)
+low-or-high n = omega arith
+
+least-is-first : (c : Config) (o : Option Wrong) → IsLeast (wrong-at c) o → IsFirst c o
+least-is-first c None h = λ k s x. h (record { kind = k; span = s }) x
+least-is-first c (Some w) h = record { wrong = h.0; first = λ j t x. h.1 (record { kind = j; span = t }) x }
+
+pub first-of-both : (c : Config) (a b : Option Wrong) → IsLeast (IsMisnamed c) a → IsLeast (IsMisused c) b → IsFirst c (first_of a b)
+first-of-both c a b h k =
+    least-is-first c (first_of a b) (least-same (λ w. IsMisnamed c w ⊎ IsMisused c w) (wrong-at c) (first_of a b) (either c)
+    (λ w x. parted-by c w x (low-or-high (number_of w.kind))) (least-first_of (IsMisnamed c) (IsMisused c) a b h k))
+
+pub match-none : {X : Type 0} (o : Option X) (P : Type 0) (Q : X → Type 0) → o ≡ None → MatchOption o P Q → P
+match-none o P Q e h = subst (λ x. MatchOption x P Q) e h
+
+pub match-some : {X : Type 0} (o : Option X) (x : X) (P : Type 0) (Q : X → Type 0) → o ≡ Some x → MatchOption o P Q → Q x
+match-some o x P Q e h = subst (λ y. MatchOption y P Q) e h
+
+pub more-connections : (c : Config) (leaves : List Leaf) (paths : ℕ) → (ks : List Connection) × InOrder ks × ((k : Connection) → Contains ks k → Joins c leaves k) × (most_connections < length ks) →
+    Exceeds c leaves paths
+more-connections c leaves paths h = many_connections h.0 h.1 h.2 h.3
+
+pub joined-up : (c : Config) (leaves : List Leaf) (paths : ℕ) (es : List FlatElement) (ks : List Connection) (es' : List FlatElement) (ks' : List Connection) → es' ≡ es → ks' ≡ ks →
+    (es ≡ map flat_element leaves) × (text_size leaves ≤ most_text) → AreConnections c leaves ks × (length ks ≤ most_connections) → length leaves ≤ 4096 → paths ≤ 16384 →
+    IsExpanded c leaves paths (record { elements = es'; connections = ks' })
+joined-up c leaves paths es ks es' ks' e k h f few short = record {
+  elements = e ∙ h.0;
+  connections = subst (AreConnections c leaves) (sym k) f.0;
+  limits = record { elements = few; all_paths = short; connections = subst (λ x. length x ≤ most_connections) (sym k) f.1; text = h.1 };
+}
