@@ -1,5 +1,5 @@
 -- From what is found once for each scope to the flat form or its fault.
-use Rattle.std.proofs.Common.{◌≡◌, ◌⊎◌, left, right, ℕ, ◌<◌, ◌≤◌, List, map, length, Option, Some, None, Vec, refl, sym, ap, ◌∙◌, subst, arith}
+use Rattle.std.proofs.Common.{◌≡◌, ◌⊎◌, inl, inr, ℕ, ◌<◌, ◌≤◌, List, map, length, Option, Some, None, Vec, refl, sym, ap, ◌∙◌, subst, arith}
 use Rattle.std.specs.Prelude.{Contains, MatchOption}
 use Rattle.std.specs.Global.{Global}
 use Rattle.click_text.specs.declared.syntax.Span.{Span}
@@ -10,25 +10,33 @@ use Rattle.click_expand.specs.Instances.{Leaf}
 use Rattle.click_expand.specs.Flat.{most_text, most_connections, text_size, flat_element, InOrder, Joins, AreConnections, WithinLimits, Exceeds, much_text, many_connections}
 use Rattle.click_expand.specs.Tabled.{IsFirst, IsExpanded, IsExpandedOr}
 use Rattle.click_expand.specs.declared.fault.FaultKind.{FaultKind}
+use Rattle.click_expand.specs.declared.fault.FaultKind.TheVariants as kind
 use Rattle.click_expand.specs.declared.wrong.Wrong.{Wrong}
 use Rattle.click_expand.specs.declared.flat.Flat.{Flat}
 use Rattle.click_expand.specs.declared.flat.FlatElement.{FlatElement}
 use Rattle.click_expand.specs.declared.flat.Connection.{Connection}
 use Rattle.click_expand.proofs.Least.{least-first_of, least-same}
 
-wrong-at : Config → Wrong → Type 0
+abbrev wrong-at : Config → Wrong → Type 0
 wrong-at c w = IsWrong c w.kind w.span
 
 either : (c : Config) (w : Wrong) → IsMisnamed c w ⊎ IsMisused c w → wrong-at c w
-either c w (left h) = h.wrong
-either c w (right h) = h.wrong
+either c w (inl h) = h.wrong
+either c w (inr h) = h.wrong
+
+low-or-high : (k : FaultKind) → (number_of k ≤ 13) ⊎ (14 ≤ number_of k)
+low-or-high kind.NoMemory = inl (omega arith)
+low-or-high kind.UnknownName = inl (omega arith)
+low-or-high kind.DeclaredTwice = inl (omega arith)
+low-or-high kind.UnknownClass = inl (omega arith)
+low-or-high kind.WrongParameters = inr (omega arith)
+low-or-high kind.CompoundPort = inr (omega arith)
+low-or-high kind.TooMany = inr (omega arith)
+low-or-high kind.BrokenText = inr (omega arith)
 
 parted-by : (c : Config) (w : Wrong) → wrong-at c w → (number_of w.kind ≤ 13) ⊎ (14 ≤ number_of w.kind) → IsMisnamed c w ⊎ IsMisused c w
-parted-by c w h (left l) = left (record { wrong = h; kind = l })
-parted-by c w h (right l) = right (record { wrong = h; kind = l })
-
-low-or-high : (n : ℕ) → (n ≤ 13) ⊎ (14 ≤ n)
-low-or-high n = omega arith
+parted-by c w h (inl l) = inl (record { wrong = h; kind = l })
+parted-by c w h (inr l) = inr (record { wrong = h; kind = l })
 
 least-is-first : (c : Config) (o : Option Wrong) → IsLeast (wrong-at c) o → IsFirst c o
 least-is-first c None h = λ k s x. h (record { kind = k; span = s }) x
@@ -37,7 +45,7 @@ least-is-first c (Some w) h = record { wrong = h.0; first = λ j t x. h.1 (recor
 pub first-of-both : (c : Config) (a b : Option Wrong) → IsLeast (IsMisnamed c) a → IsLeast (IsMisused c) b → IsFirst c (first_of a b)
 first-of-both c a b h k =
     least-is-first c (first_of a b) (least-same (λ w. IsMisnamed c w ⊎ IsMisused c w) (wrong-at c) (first_of a b) (either c)
-    (λ w x. parted-by c w x (low-or-high (number_of w.kind))) (least-first_of (IsMisnamed c) (IsMisused c) a b h k))
+    (λ w x. parted-by c w x (low-or-high w.kind)) (least-first_of (IsMisnamed c) (IsMisused c) a b h k))
 
 pub match-none : {X : Type 0} (o : Option X) (P : Type 0) (Q : X → Type 0) → o ≡ None → MatchOption o P Q → P
 match-none o P Q e h = subst (λ x. MatchOption x P Q) e h

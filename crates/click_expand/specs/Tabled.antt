@@ -1,5 +1,7 @@
 -- What the code keeps of a configuration before it is expanded, and what it answers on the way.
-use Rattle.std.specs.Prelude.{ℕ, List, [], map, Option, Some, None, ◌≡◌}
+use Rattle.std.specs.Prelude.{◌≡◌, ℕ, List, [], ◌∷◌, ◌++◌, map, All, Contains, true, false, slice_get, Vec, Option, Some, None}
+use Rattle.std.specs.Global.{Global}
+use Rattle.click_text.specs.declared.syntax.Head.{Head}
 use Rattle.click_text.specs.declared.syntax.Config.{Config}
 use Rattle.click_expand.specs.Scoped.{AreScopes, AreSynonyms}
 use Rattle.click_expand.specs.Located.{AreAllLocals}
@@ -7,9 +9,13 @@ use Rattle.click_expand.specs.Called.{AreAllArguments}
 use Rattle.click_expand.specs.Joined.{AreAllJoints}
 use Rattle.click_expand.specs.Faults.{IsFirstWrong, IsSound}
 use Rattle.click_expand.specs.Instances.{Leaf, LeavesOf}
-use Rattle.click_expand.specs.Flat.{WithinLimits, AreConnections, Exceeds, flat_element, expand_fault, IsFlatFault}
+use Rattle.click_expand.specs.Flat.{WithinLimits, AreConnections, Exceeds, AreDistinct, is_whole, flat_name, flat_names, flat_element, expand_fault, no_memory, IsFlatFault}
 use Rattle.click_expand.specs.declared.fault.FaultKind.TheVariants as kind
 use Rattle.click_expand.specs.declared.flat.Flat.{Flat}
+use Rattle.click_expand.specs.declared.fault.ExpandFault.{ExpandFault}
+use Rattle.click_expand.specs.declared.members.Local.{Local as LocalKept}
+use Rattle.click_expand.specs.declared.uses.Place.{Place}
+use Rattle.click_expand.specs.declared.uses.Use.{Use as UseKept}
 use Rattle.click_expand.specs.declared.wrong.Wrong.{Wrong}
 use Rattle.click_expand.specs.declared.flatten.Tables.{Tables}
 use Rattle.click_expand.specs.declared.flatten.Refused.{Refused}
@@ -38,9 +44,42 @@ abbrev pub IsExpandedOr : Config → List Leaf → ℕ → Option Flat → Type 
 IsExpandedOr c leaves paths None = Exceeds c leaves paths
 IsExpandedOr c leaves paths (Some f) = IsExpanded c leaves paths f
 
+-- why these elements are refused: the first whose name an earlier one has, else the first whose text is broken
+abbrev pub IsRefusedOf : List Leaf → Option Refused → Type 0
+IsRefusedOf leaves None = AreDistinct (flat_names leaves) × All (λ (l : Leaf). is_whole l.text ≡ true) leaves
+IsRefusedOf leaves (Some refused.NoMemory) = ⊥
+IsRefusedOf leaves (Some (refused.At k s)) =
+    (k ≡ kind.DeclaredTwice) × ((front back : List Leaf) × (l : Leaf) × (leaves ≡ front ++ l ∷ back) × AreDistinct (flat_names front)
+    × Contains (flat_names front) (flat_name l.path) × (s ≡ l.first))
+IsRefusedOf leaves (Some refused.TooMany) = ⊥
+IsRefusedOf leaves (Some (refused.Broken name)) =
+    AreDistinct (flat_names leaves) × ((front back : List Leaf) × (l : Leaf) × (leaves ≡ front ++ l ∷ back)
+    × All (λ (k : Leaf). is_whole k.text ≡ true) front × (is_whole l.text ≡ false) × (name ≡ flat_name l.path))
+
 -- why there is no flat form
 abbrev pub IsRefused : Config → Refused → Type 0
 IsRefused c refused.NoMemory = Unit {0}
 IsRefused c (refused.At k s) = IsFlatFault c (expand_fault k (Some s) [])
 IsRefused c refused.TooMany = IsFlatFault c (expand_fault kind.TooMany None [])
 IsRefused c (refused.Broken name) = IsFlatFault c (expand_fault kind.BrokenText None name)
+
+-- the fault that tells it
+abbrev pub fault_for : Refused → ExpandFault
+fault_for refused.NoMemory = no_memory
+fault_for (refused.At k s) = expand_fault k (Some s) []
+fault_for refused.TooMany = expand_fault kind.TooMany None []
+fault_for (refused.Broken name) = expand_fault kind.BrokenText None name
+
+-- what the flat element at a place begins with
+abbrev pub head_in : List (Vec LocalKept Global) → List UseKept → List Place → ℕ → Option Head
+head_in locals uses places n =
+    elim (slice_get places n) [
+    | None ↦ None
+    | Some p ↦ elim (slice_get uses p.within) [
+        | None ↦ None
+        | Some k ↦ elim (slice_get locals k.scope) [
+            | None ↦ None
+            | Some ls ↦ elim (slice_get ls.items p.element) [ None ↦ None | Some l ↦ Some l.head ]
+            ]
+        ]
+    ]

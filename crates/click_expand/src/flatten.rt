@@ -1,22 +1,21 @@
 //! From a configuration to its flat form.
 
-ghost use Rattle.std.specs.Prelude.{◌≡◌, ◌<◌, ◌≤◌, ℕ, List, [], map, length, slice_get, Some, None, IfOk, IfErr, MatchOption};
+ghost use Rattle.std.specs.Prelude.{◌≡◌, ◌≤◌, ℕ, List, map, length, slice_get, Some, IfOk, IfErr};
 ghost use Rattle.click_text.specs.Spelling.{Spells};
 ghost use Rattle.click_expand.specs.declared.flat.Flat.{Flat as FlatForm};
-ghost use Rattle.click_expand.specs.declared.fault.FaultKind.TheVariants as kind;
 ghost use Rattle.click_expand.specs.Faults.{IsSound};
-ghost use Rattle.click_expand.specs.Flat.{IsFlat, IsFlatFault, IsMemoryOr, IsGiven, expand_fault, no_memory};
-ghost use Rattle.click_expand.specs.Instances.{Leaf as Flattened, LeavesOf};
+ghost use Rattle.click_expand.specs.Flat.{IsFlat, IsFlatFault, IsMemoryOr, IsGiven, flat_element};
+ghost use Rattle.click_expand.specs.Instances.{Leaf as Flattened};
 ghost use Rattle.click_expand.specs.Located.{AreAllLocals};
 ghost use Rattle.click_expand.specs.Nesting.{IsNested};
-ghost use Rattle.click_expand.specs.Tabled.{AreTables, IsFirst, IsExpanded, IsExpandedOr, IsRefused};
+ghost use Rattle.click_expand.specs.Tabled.{AreTables, IsFirst, IsExpandedOr, IsRefused, IsRefusedOf, fault_for, head_in};
 ghost use Rattle.click_expand.specs.Uses.{Used, AreUses};
 ghost use Rattle.click_expand.specs.Wrongs.{AreShort};
 
 use crate::called::all_arguments;
 use crate::elements::elements_of;
 use crate::fault::{ExpandFault, FaultKind};
-use crate::flat::Flat;
+use crate::flat::{Flat, FlatElement};
 use crate::joints::{Joint, all_joints};
 use crate::members::{Local, all_locals};
 use crate::misnamed::first_misnamed;
@@ -28,7 +27,7 @@ use crate::whole::{first_broken, first_repeated};
 use crate::wiring::connections_of;
 use crate::wrong::{Wrong, first_of, first_token};
 use click_text::sequence::Sequence;
-use click_text::syntax::{Config, Span};
+use click_text::syntax::{Config, Head, Span};
 use std::alloc::{AllocError, Global};
 
 /// What is found once for each scope.
@@ -119,4 +118,135 @@ fn expanded(
         elements: Sequence::of(elements),
         connections: Sequence::of(connections),
     }))
+}
+
+/// What the flat element at a place begins with.
+fn head_at(locals: &[Vec<Local>], uses: &Uses, place: usize) -> Option<Head>
+    ensures { result ≡ head_in locals.now uses.now.uses.items uses.now.leaves.items place }
+{
+    let leaf = uses.leaves.get(place)?;
+    let one = uses.uses.get(leaf.within)?;
+    let scope = locals.get(one.scope)?;
+    let local = scope.get(leaf.element)?;
+    Some(local.head)
+}
+
+/// The first token of the flat element at a place.
+fn token_of(config: &Config, locals: &[Vec<Local>], uses: &Uses, place: usize) -> Span
+    requires short { AreShort config.now.bodies }
+    requires locals { AreAllLocals config.now locals.now }
+    ensures { (leaves : List Flattened) (known : List Used) (leaf : Flattened) → AreUses config.now uses.now.uses.items uses.now.leaves.items known leaves →
+        slice_get leaves place ≡ Some leaf → result ≡ leaf.first }
+{
+    match head_at(locals, uses, place) {
+        Some(head) => first_token(config.bodies.as_slice(), head),
+        None => Span { start: 0, end: 0 },
+    }
+}
+
+/// What is refused of the elements: the first repeated name, else the first broken text.
+fn refused_of(
+    alloc: Global,
+    config: &Config,
+    locals: &[Vec<Local>],
+    uses: &Uses,
+    elements: &[FlatElement],
+) -> Result<Option<Refused>, AllocError>
+    requires short { AreShort config.now.bodies }
+    requires locals { AreAllLocals config.now locals.now }
+    ensures { IfOk result (λ r. (leaves : List Flattened) (known : List Used) → AreUses config.now uses.now.uses.items uses.now.leaves.items known leaves →
+        elements.now ≡ map flat_element leaves → IsRefusedOf leaves r) }
+{
+    if let Some(place) = first_repeated(alloc, elements)? {
+        let token = token_of(config, locals, uses, place);
+        return Ok(Some(Refused::At(FaultKind::DeclaredTwice, token)));
+    }
+    if let Some(place) = first_broken(alloc, elements)? {
+        let name = Vec::from_slice(alloc, elements[place].name.as_slice())?;
+        return Ok(Some(Refused::Broken(Sequence::of(name))));
+    }
+    Ok(None)
+}
+
+/// The flat form of a configuration without a wrong use, or why it has none.
+fn sound_flat(alloc: Global, config: &Config, tables: &Tables) -> Result<Flat, Refused>
+    requires nested { IsNested config.now }
+    requires short { AreShort config.now.bodies }
+    requires sound { IsSound config.now }
+    requires tables { AreTables config.now tables.now }
+    ensures flat { IfOk result (λ flat. IsFlat config.now flat) }
+    ensures err { IfErr result (λ why. IsRefused config.now why) }
+{
+    let locals = tables.locals.as_slice();
+    let size = size_of(alloc, config, locals)?;
+    if size.elements > MOST_ELEMENTS || size.paths > MOST_PATHS {
+        return Err(Refused::TooMany);
+    }
+    let uses = uses_of(alloc, config, &tables.scopes, locals, size.paths)?;
+    let Some(flat) = expanded(alloc, config, tables, &uses)? else {
+        return Err(Refused::TooMany);
+    };
+    match refused_of(alloc, config, locals, &uses, flat.elements.as_slice())? {
+        Some(why) => Err(why),
+        None => Ok(flat),
+    }
+}
+
+/// The flat form of a configuration, or why it has none.
+fn flat_of(alloc: Global, config: &Config) -> Result<Flat, Refused>
+    requires nested { IsNested config.now }
+    requires short { AreShort config.now.bodies }
+    ensures flat { IfOk result (λ flat. IsFlat config.now flat) }
+    ensures err { IfErr result (λ why. IsRefused config.now why) }
+{
+    let tables = tables_of(alloc, config)?;
+    match first_wrong(alloc, config, &tables)? {
+        Some(wrong) => Err(Refused::At(wrong.kind, wrong.span)),
+        None => sound_flat(alloc, config, &tables),
+    }
+}
+
+/// The fault that tells why there is no flat form.
+fn fault_of(alloc: Global, refused: Refused) -> ExpandFault
+    ensures { result ≡ fault_for refused }
+{
+    match refused {
+        Refused::NoMemory => ExpandFault {
+            kind: FaultKind::NoMemory,
+            span: None,
+            name: Sequence::new(alloc),
+        },
+        Refused::At(kind, span) => ExpandFault {
+            kind,
+            span: Some(span),
+            name: Sequence::new(alloc),
+        },
+        Refused::TooMany => ExpandFault {
+            kind: FaultKind::TooMany,
+            span: None,
+            name: Sequence::new(alloc),
+        },
+        Refused::Broken(name) => ExpandFault {
+            kind: FaultKind::BrokenText,
+            span: None,
+            name,
+        },
+    }
+}
+
+/// The flat form of a configuration that a text spells (Click manual, "Compound elements"): its elements under their flat names in the order of the
+/// text, with all parameters replaced, and its connections, each once, by from-element, from-port, to-element, to-port. Or its first fault: of wrong
+/// names, classes, parameters and ports the one that stands first in the text; else `TooMany`, where there are more than 4,096 elements, 16,384
+/// connections, 16,384 paths to elements and compounds, or 1,048,576 bytes of argument texts; else the first element whose flat name an earlier one
+/// has; else the first whose text, set in parentheses, is no longer one token.
+pub fn flatten(alloc: Global, config: &Config) -> Result<Flat, ExpandFault>
+    requires { Spells config.now.text config.now }
+    ensures flat { IfOk result (λ flat. IsFlat config.now flat) }
+    ensures only { (flat : FlatForm) → IsFlat config.now flat → IsGiven result flat }
+    ensures err { IfErr result (λ fault. IsMemoryOr fault (IsFlatFault config.now fault)) }
+{
+    match flat_of(alloc, config) {
+        Ok(flat) => Ok(flat),
+        Err(refused) => Err(fault_of(alloc, refused)),
+    }
 }
