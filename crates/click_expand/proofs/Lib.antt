@@ -9,4 +9,6 @@ pub mod Locating
 pub mod Ordered
 pub mod Least
 pub mod Finding
+pub mod Contained
+pub mod Founded
 pub mod ReadsBack
