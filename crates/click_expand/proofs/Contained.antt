@@ -59,3 +59,22 @@ at-contains (y ∷ xs) x h =
       | inl e ↦ (zero, ap Some e)
       | inr i ↦ (let r = at-contains xs x i in (suc r.0, r.1))
     ]
+
+-- what stands at a place of a list, and before it
+pub record IsAt {X : Type 0} (xs : List X) (i : ℕ) (x : X) : Type 0 where
+  pub front : List X
+  pub back : List X
+  pub is : xs ≡ front ++ x ∷ back
+  pub count : length front ≡ i
+  pub before : (k : ℕ) → k < i → slice_get xs k ≡ slice_get front k
+
+pub at-place : {X : Type 0} (xs : List X) (i : ℕ) (x : X) → slice_get xs i ≡ Some x → IsAt xs i x
+at-place [] i x e = absurd (cc)
+at-place (y ∷ xs) zero x e = let f : y ≡ x = cc in record { front = []; back = xs; is = ap (λ z. z ∷ xs) f; count = refl; before = λ k l. absurd (omega (arith, l)) }
+at-place (y ∷ xs) (suc i) x e =
+    let r = at-place xs i x e in
+    record { front = y ∷ r.front; back = r.back; is = ap (λ z. y ∷ z) r.is; count = ap suc r.count; before = before-next y xs r.front i r.before }
+  where
+    before-next : {X : Type 0} (y : X) (xs zs : List X) (i : ℕ) → ((k : ℕ) → k < i → slice_get xs k ≡ slice_get zs k) → (k : ℕ) → k < suc i → slice_get (y ∷ xs) k ≡ slice_get (y ∷ zs) k
+    before-next y xs zs i h zero l = refl
+    before-next y xs zs i h (suc k) l = h k (omega (arith, l))

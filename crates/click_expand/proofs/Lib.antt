@@ -11,4 +11,5 @@ pub mod Least
 pub mod Finding
 pub mod Contained
 pub mod Founded
+pub mod Distinct
 pub mod ReadsBack
