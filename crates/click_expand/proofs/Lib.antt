@@ -9,5 +9,8 @@ pub mod Locating
 pub mod Ordered
 pub mod Least
 pub mod Finding
+pub mod Contained
+pub mod Founded
+pub mod Distinct
 pub mod ReadsBack
 pub mod Flattening
