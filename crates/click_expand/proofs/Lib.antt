@@ -14,3 +14,4 @@ pub mod Founded
 pub mod Distinct
 pub mod ReadsBack
 pub mod Flattening
+pub mod Tokens

@@ -71,15 +71,21 @@ fault_for refused.TooMany = expand_fault kind.TooMany None []
 fault_for (refused.Broken name) = expand_fault kind.BrokenText None name
 
 -- what the flat element at a place begins with
+abbrev pub local_head : Option LocalKept → Option Head
+local_head None = None
+local_head (Some l) = Some l.head
+
+abbrev pub scope_head : ℕ → Option (Vec LocalKept Global) → Option Head
+scope_head i None = None
+scope_head i (Some ls) = local_head (slice_get ls.items i)
+
+abbrev pub use_head : List (Vec LocalKept Global) → ℕ → Option UseKept → Option Head
+use_head locals i None = None
+use_head locals i (Some k) = scope_head i (slice_get locals k.scope)
+
+abbrev pub place_head : List (Vec LocalKept Global) → List UseKept → Option Place → Option Head
+place_head locals uses None = None
+place_head locals uses (Some p) = use_head locals p.element (slice_get uses p.within)
+
 abbrev pub head_in : List (Vec LocalKept Global) → List UseKept → List Place → ℕ → Option Head
-head_in locals uses places n =
-    elim (slice_get places n) [
-    | None ↦ None
-    | Some p ↦ elim (slice_get uses p.within) [
-        | None ↦ None
-        | Some k ↦ elim (slice_get locals k.scope) [
-            | None ↦ None
-            | Some ls ↦ elim (slice_get ls.items p.element) [ None ↦ None | Some l ↦ Some l.head ]
-            ]
-        ]
-    ]
+head_in locals uses places n = place_head locals uses (slice_get places n)
