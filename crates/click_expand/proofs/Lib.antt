@@ -12,4 +12,5 @@ pub mod Finding
 pub mod Contained
 pub mod Founded
 pub mod Distinct
+pub mod Leaves
 pub mod ReadsBack
