@@ -12,6 +12,7 @@ pub mod Finding
 pub mod Contained
 pub mod Founded
 pub mod Distinct
+pub mod Leaves
 pub mod ReadsBack
 pub mod Flattening
 pub mod Tokens
