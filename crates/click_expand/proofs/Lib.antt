@@ -17,3 +17,4 @@ pub mod Leaves
 pub mod ReadsBack
 pub mod Flattening
 pub mod Tokens
+pub mod Answering

@@ -123,11 +123,18 @@ repeated-in leaves es i t h r first =
 pub broken-in : (leaves : List Leaf) (es : List FlatElement) (i : ℕ) (name : List ℕ) → es ≡ map flat_element leaves → AreDistinct (names_in es) → IsBroken es i →
     ((e : FlatElement) → slice_get es i ≡ Some e → name ≡ e.name) → IsRefusedOf leaves (Some (refused.Broken name))
 broken-in leaves es i name h d b named =
-    let a = leaf-at leaves es i b.element h b.there in
-    (subst AreDistinct (ap names_in h ∙ names-of-leaves leaves) d, (a.front, a.back, a.leaf, a.splits,
-    whole-leaves a.front (subst (All (λ (e : FlatElement). is_whole e.text ≡ true)) a.before b.front),
-    ap (λ (e : FlatElement). is_whole e.text) a.same ∙ b.broken,
-    named b.element b.there ∙ ap (λ (e : FlatElement). e.name) (sym a.same)))
+    let a = leaf-at leaves es i b.element h b.there in (
+      subst AreDistinct (ap names_in h ∙ names-of-leaves leaves) d,
+      (
+        a.front,
+        a.back,
+        a.leaf,
+        a.splits,
+        whole-leaves a.front (subst (All (λ (e : FlatElement). is_whole e.text ≡ true)) a.before b.front),
+        ap (λ (e : FlatElement). is_whole e.text) a.same ∙ b.broken,
+        named b.element b.there ∙ ap (λ (e : FlatElement). e.name) (sym a.same),
+      ),
+    )
 
 pub nothing-in : (leaves : List Leaf) (es : List FlatElement) → es ≡ map flat_element leaves → AreDistinct (names_in es) → All (λ (e : FlatElement). is_whole e.text ≡ true) es →
     IsRefusedOf leaves None

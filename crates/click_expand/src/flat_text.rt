@@ -64,7 +64,11 @@ fn push_connection(
 }
 
 /// Adds the name of the element at that place, if there is one.
-fn push_name(text: &mut Vec<u8>, elements: &[FlatElement], place: usize) -> Result<(), AllocError>
+pub fn push_name(
+    text: &mut Vec<u8>,
+    elements: &[FlatElement],
+    place: usize,
+) -> Result<(), AllocError>
     ensures { OnOk result (text.new.items ≡ text.old.items ++ name_at elements.now place) }
 {
     if let Some(element) = elements.get(place) {

@@ -16,6 +16,7 @@ use crate::called::all_arguments;
 use crate::elements::elements_of;
 use crate::fault::{ExpandFault, FaultKind};
 use crate::flat::{Flat, FlatElement};
+use crate::flat_text::push_name;
 use crate::joints::{Joint, all_joints};
 use crate::members::{Local, all_locals};
 use crate::misnamed::first_misnamed;
@@ -52,9 +53,12 @@ pub enum Refused {
 }
 
 impl From<AllocError> for Refused {
-    fn from(_error: AllocError) -> Refused
-        ensures { result ≡ NoMemory }
-    {
+    ghost use Rattle.std.specs.Prelude.{◌≡◌};
+    ghost use Rattle.click_expand.specs.declared.flatten.Refused.TheVariants as why;
+
+    ghost from_gives = { λ _ r. r ≡ why.NoMemory };
+
+    fn from(_error: AllocError) -> Refused {
         Refused::NoMemory
     }
 }
@@ -162,7 +166,8 @@ fn refused_of(
         return Ok(Some(Refused::At(FaultKind::DeclaredTwice, token)));
     }
     if let Some(place) = first_broken(alloc, elements)? {
-        let name = Vec::from_slice(alloc, elements[place].name.as_slice())?;
+        let mut name = Vec::new(alloc);
+        push_name(&mut name, elements, place)?;
         return Ok(Some(Refused::Broken(Sequence::of(name))));
     }
     Ok(None)
