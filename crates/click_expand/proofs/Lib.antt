@@ -13,4 +13,6 @@ pub mod Contained
 pub mod Founded
 pub mod Distinct
 pub mod Leaves
+pub mod OrderedOnce
+pub mod FlatOnce
 pub mod ReadsBack
