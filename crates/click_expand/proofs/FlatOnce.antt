@@ -1,15 +1,15 @@
 -- A configuration has one flat form, or one fault.
-use Rattle.std.proofs.Common.{◌≡◌, ◌⊎◌, inl, inr, ℕ, zero, suc, ◌+◌, ◌<◌, ◌≤◌, List, [], ◌∷◌, ◌++◌, map, length, true, false, Option, Some, None, refl, sym, ap, ◌∙◌, subst, arith, Contains}
+use Rattle.std.proofs.Common.{◌≡◌, ◌⊎◌, inl, inr, ℕ, List, [], ◌∷◌, ◌++◌, map, true, false, Some, None, refl, sym, ap, ◌∙◌, subst, arith, Contains}
 use Rattle.std.specs.List.{All}
 use Rattle.std.proofs.lemmas.Bool.{false≢true}
 use Rattle.std.proofs.lemmas.List.{map-append}
 use Rattle.std.proofs.lemmas.List.Elements.{All-contains, Contains-append_right}
 use Rattle.click_text.specs.declared.syntax.Span.{Span}
 use Rattle.click_text.specs.declared.syntax.Config.{Config}
-use Rattle.click_expand.specs.Faults.{IsWrong, IsFirstWrong, IsSound, number_of}
+use Rattle.click_expand.specs.Faults.{IsWrong, IsFirstWrong, number_of}
 use Rattle.click_expand.specs.Instances.{Leaf, LeavesOf}
 use Rattle.click_expand.specs.Nesting.{IsNested}
-use Rattle.click_expand.specs.Flat.{Joins, AreConnections, WithinLimits, Meant, IsFlat, IsFlatFault, wrong, too_many, repeated, broken, Exceeds, many_elements, many_paths, much_text, many_connections, flat_name, flat_names, flat_element, is_whole, text_size, AreDistinct, most_elements, most_paths, most_text, most_connections, expand_fault}
+use Rattle.click_expand.specs.Flat.{AreConnections, WithinLimits, Meant, IsFlat, IsFlatFault, wrong, too_many, repeated, broken, Exceeds, many_elements, many_paths, much_text, many_connections, flat_name, flat_names, flat_element, is_whole, AreDistinct, expand_fault}
 use Rattle.click_expand.specs.declared.flat.FlatElement.{FlatElement}
 use Rattle.click_expand.specs.declared.flat.Connection.{Connection}
 use Rattle.click_expand.specs.declared.flat.Flat.{Flat}
@@ -17,7 +17,7 @@ use Rattle.click_expand.specs.declared.fault.FaultKind.{FaultKind}
 use Rattle.click_expand.specs.declared.fault.FaultKind.TheVariants as kind
 use Rattle.click_expand.specs.declared.fault.ExpandFault.{ExpandFault}
 use Rattle.click_expand.proofs.Once.{contains-nil, contains-cons}
-use Rattle.click_expand.proofs.Contained.{contains-here, contains-behind}
+use Rattle.click_expand.proofs.Contained.{contains-here}
 use Rattle.click_expand.proofs.Leaves.{leaves-once}
 use Rattle.click_expand.proofs.OrderedOnce.{ordered-once, ordered-within}
 
