@@ -15,4 +15,5 @@ pub mod Distinct
 pub mod Leaves
 pub mod OrderedOnce
 pub mod FlatOnce
+pub mod Spelled
 pub mod ReadsBack
