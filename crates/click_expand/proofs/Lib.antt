@@ -16,4 +16,5 @@ pub mod Leaves
 pub mod OrderedOnce
 pub mod FlatOnce
 pub mod Spelled
+pub mod FaultOnce
 pub mod ReadsBack
