@@ -1,11 +1,9 @@
 -- In a sound configuration each element has a class, and the elements of a scope have different names.
-use Rattle.std.proofs.Common.{◌≡◌, ◌≢◌, ◌⊎◌, inl, inr, ℕ, zero, suc, ◌+◌, ◌<◌, List, [], ◌∷◌, ◌++◌, map, length, Bool, true, false, ◌||◌, Option, Some, None, refl, sym, ap, ◌∙◌, subst, arith, Contains}
-use Rattle.std.specs.List.{slice_get, list_any}
-use Rattle.std.specs.Str.{bytes_eq}
+use Rattle.std.proofs.Common.{◌≡◌, ◌≢◌, inl, inr, ℕ, zero, suc, ◌+◌, ◌<◌, List, [], ◌∷◌, ◌++◌, map, length, Bool, true, Option, Some, None, refl, sym, ap, ◌∙◌, subst, arith, Contains}
+use Rattle.std.specs.List.{slice_get}
 use Rattle.std.proofs.lemmas.Bool.{cases_order, or_left, or_right}
 use Rattle.std.proofs.lemmas.Slice.Eq.{bytes_eq-Decides}
 use Rattle.click_text.specs.declared.syntax.Span.{Span}
-use Rattle.click_text.specs.declared.syntax.Class.{Class}
 use Rattle.click_text.specs.declared.syntax.Class.TheVariants as class
 use Rattle.click_text.specs.declared.syntax.Head.{Head}
 use Rattle.click_text.specs.declared.syntax.Head.TheVariants as head
@@ -15,10 +13,10 @@ use Rattle.click_text.specs.Spans.{bytes_at}
 use Rattle.click_expand.specs.Scopes.{Scope, inside, is_body, formals_of, Stands}
 use Rattle.click_expand.specs.Classes.{Meaning, compound, class_meaning}
 use Rattle.click_expand.specs.Elements.{Placed, has_name, Role, pseudo, refers, makes, role, made_name, counts, head_class, element_meaning, Local, local, local_by, locals_from}
-use Rattle.click_expand.specs.Faults.{scope_placed, scope_declared, scope_locals, role_in, IsWrong, unknown_name, unknown_class, unknown_declared, named_twice, formal_twice, first_token, IsSound}
+use Rattle.click_expand.specs.Faults.{scope_placed, scope_declared, scope_locals, role_in, unknown_name, unknown_class, unknown_declared, named_twice, formal_twice, first_token, IsSound}
 use Rattle.click_expand.specs.declared.fault.FaultKind.TheVariants as kind
-use Rattle.click_expand.proofs.Founded.{IsMade, local-made}
-use Rattle.click_expand.proofs.Contained.{contains-behind, map-contains, contains-split, contains-at, IsAt, at-place}
+use Rattle.click_expand.proofs.Founded.{local-made}
+use Rattle.click_expand.proofs.Contained.{contains-behind, map-contains, contains-split, contains-at, at-place}
 use Rattle.click_expand.proofs.Once.{contains-nil, contains-cons}
 
 pub name-has : (names : List (List ℕ)) (n : List ℕ) → Contains names n → has_name n names ≡ true

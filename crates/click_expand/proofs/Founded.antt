@@ -1,5 +1,5 @@
 -- A scope's elements mean bodies that stand before its own place, in it or in a scope around it.
-use Rattle.std.proofs.Common.{◌≡◌, ◌⊎◌, inl, inr, ℕ, ◌+◌, ◌<◌, ◌≤◌, List, [], ◌∷◌, ◌++◌, map, reverse, length, Bool, true, false, Option, Some, None, refl, sym, ap, ◌∙◌, subst, append_assoc, arith, Contains}
+use Rattle.std.proofs.Common.{◌≡◌, inl, inr, ℕ, ◌+◌, ◌<◌, ◌≤◌, List, [], ◌∷◌, ◌++◌, map, reverse, Bool, true, false, Option, Some, None, refl, sym, ap, ◌∙◌, subst, append_assoc, arith, Contains}
 use Rattle.std.specs.Prelude.{if◌then◌else◌}
 use Rattle.std.specs.List.{slice_get, list_any}
 use Rattle.std.specs.Str.{bytes_eq}
@@ -17,10 +17,10 @@ use Rattle.click_text.specs.declared.syntax.Body.{Body}
 use Rattle.click_text.specs.declared.syntax.Config.{Config}
 use Rattle.click_text.specs.Spans.{bytes_at}
 use Rattle.click_text.specs.Grammar.{element}
-use Rattle.click_expand.specs.Scopes.{Scope, whole, inside, is_body, statements_of, statement_elements, class_bodies, head_bodies, link_bodies, bodies_in, Stands, at_top, nested}
-use Rattle.click_expand.specs.Classes.{Meaning, primitive, compound, class_names, primitive_of, meaning, class_meaning}
+use Rattle.click_expand.specs.Scopes.{Scope, inside, is_body, statements_of, statement_elements, class_bodies, head_bodies, link_bodies, bodies_in, Stands, at_top, nested}
+use Rattle.click_expand.specs.Classes.{Meaning, primitive, compound, class_names, meaning, class_meaning}
 use Rattle.click_expand.specs.Elements.{Placed, place, placed, Role, pseudo, refers, makes, role, counts, head_class, element_meaning, Local, local, local_by, locals_from}
-use Rattle.click_expand.specs.Faults.{scope_placed, scope_declared, scope_locals, role_in}
+use Rattle.click_expand.specs.Faults.{scope_placed, scope_declared, scope_locals}
 use Rattle.click_expand.specs.Nesting.{direct, Nests, no_bodies, next_body, IsNested}
 use Rattle.click_expand.specs.Scoped.{place_of}
 use Rattle.click_expand.proofs.Once.{contains-nil, contains-cons, inner, nests-order, root-range, direct-has}

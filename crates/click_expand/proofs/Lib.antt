@@ -14,6 +14,10 @@ pub mod Contained
 pub mod Founded
 pub mod Distinct
 pub mod Leaves
+pub mod OrderedOnce
+pub mod FlatOnce
+pub mod Spelled
+pub mod FaultOnce
 pub mod ReadsBack
 pub mod Flattening
 pub mod Tokens
