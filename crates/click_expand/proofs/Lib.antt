@@ -4,6 +4,7 @@ pub mod Making
 pub mod Keeping
 pub mod Nesting
 pub mod Once
+pub mod Short
 pub mod Synonyms
 pub mod Walking
 pub mod Locating
