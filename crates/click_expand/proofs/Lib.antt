@@ -8,6 +8,7 @@ pub mod Short
 pub mod Synonyms
 pub mod Walking
 pub mod Locating
+pub mod Calling
 pub mod Ordered
 pub mod Least
 pub mod Finding

@@ -102,7 +102,7 @@ fn long_item(text: &[u8]) -> Option<(ItemKind, usize)>
 }
 
 /// The longest item that begins a text, and its length.
-pub(crate) fn first_item(text: &[u8]) -> (ItemKind, usize)
+pub fn first_item(text: &[u8]) -> (ItemKind, usize)
     requires { 0 < length text.now }
     ensures longest { LongestItem text.now result.0 result.1 }
     ensures progress { 0 < result.1 }
