@@ -9,6 +9,7 @@ pub mod Synonyms
 pub mod Walking
 pub mod Locating
 pub mod Calling
+pub mod Formals
 pub mod Ordered
 pub mod Least
 pub mod Finding

@@ -1,0 +1,42 @@
+-- Parameters of texts by their bytes, as the code finds them.
+use Rattle.std.specs.Prelude.{ℕ, ◌+◌, List, [], ◌∷◌, take, drop, Bool, false, eqb, Option, Some, None, if◌then◌else◌}
+use Rattle.std.specs.List.{prefix_len}
+use Rattle.std.specs.Str.{bytes_eq}
+use Rattle.click_text.specs.declared.syntax.Span.{Span}
+use Rattle.click_text.specs.Pieces.{name_byte}
+use Rattle.click_text.specs.Spans.{bytes_at}
+use Rattle.click_expand.specs.Parameters.{Formal}
+use Rattle.click_expand.specs.declared.parameters.Parameter.{Parameter}
+
+-- a parameter that begins the text
+abbrev pub formal_of : List ℕ → Parameter → Formal
+formal_of text p = record { name = bytes_at text p.name; size = p.size }
+
+-- The name bytes that a text begins with, and so many more, are a parameter.
+abbrev pub formal_by : List ℕ → ℕ → ℕ → Option Formal
+formal_by text n extra = if eqb n 0 then None else Some (record { name = take n text; size = n + extra })
+
+abbrev pub formal_run : List ℕ → ℕ → Option Formal
+formal_run text extra = formal_by text (prefix_len name_byte text) extra
+
+abbrev pub begins : ℕ → List ℕ → Bool
+begins b [] = false
+begins b (x ∷ text) = eqb b x
+
+-- behind `$`
+abbrev pub formal_after : List ℕ → Option Formal
+formal_after [] = None
+formal_after (b ∷ text) =
+    if eqb 123 b
+    then (if begins 125 (drop (prefix_len name_byte text) text) then formal_run text 3 else None)
+    else formal_run (b ∷ text) 1
+
+abbrev pub formal_in : List ℕ → Option Formal
+formal_in [] = None
+formal_in (b ∷ text) = if eqb 36 b then formal_after text else None
+
+-- the argument's place beside the parameter of that name, whose spans begin with `$`
+abbrev pub span_beside : List ℕ → List Span → List Span → List ℕ → Option Span
+span_beside text [] spans name = None
+span_beside text (f ∷ fs) [] name = None
+span_beside text (f ∷ fs) (s ∷ spans) name = if bytes_eq (drop 1 (bytes_at text f)) name then Some s else span_beside text fs spans name
