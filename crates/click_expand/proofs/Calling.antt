@@ -42,7 +42,7 @@ module _ {X Y : Type 0} (P : X → Y → Type 0) (xs : List X) (ys more : List Y
 abbrev pub AreCalled : List ℕ → LocalKept → List Span → Type 0
 AreCalled text l spans = (b : ℕ) → meaning_by text l.class ≡ Some (compound b) → AreArguments (string_by text l.text) spans
 
-unmapped : (text : List ℕ) (ls : List LocalKept) (i : ℕ) (l : Local) → slice_get (map (local_of text) ls) i ≡ Some l → (k : LocalKept) × (slice_get ls i ≡ Some k) × (local_of text k ≡ l)
+pub unmapped : (text : List ℕ) (ls : List LocalKept) (i : ℕ) (l : Local) → slice_get (map (local_of text) ls) i ≡ Some l → (k : LocalKept) × (slice_get ls i ≡ Some k) × (local_of text k ≡ l)
 unmapped text [] i l h = absurd (cc h)
 unmapped text (k ∷ ls) zero l h = (k, refl, cc)
 unmapped text (k ∷ ls) (suc i) l h = unmapped text ls i l h

@@ -10,6 +10,9 @@ pub mod Walking
 pub mod Locating
 pub mod Calling
 pub mod Formals
+pub mod Valued
+pub mod Homes
+pub mod Parting
 pub mod Ordered
 pub mod Least
 pub mod Finding

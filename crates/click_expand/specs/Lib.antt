@@ -20,3 +20,5 @@ pub mod Sizes
 pub mod Uses
 pub mod Tabled
 pub mod Texts
+pub mod Values
+pub mod Spread
