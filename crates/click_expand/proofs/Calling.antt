@@ -25,7 +25,7 @@ paired-none P xs ys e = record { long = ap length e; each = λ i x l h. absurd (
 
 module _ {X Y : Type 0} (P : X → Y → Type 0) (xs : List X) (ys more : List Y) (n : ℕ) (x : X) (y : Y) (there : slice_get xs n ≡ Some x) (is : more ≡ ys ++ y ∷ []) (p : P x y) (h : Paired P xs ys n) where
   paired-by : (i : ℕ) (z : X) → slice_get xs i ≡ Some z → (i < n → (w : Y) × (slice_get more i ≡ Some w) × P z w) → (i ≡ n → (w : Y) × (slice_get more i ≡ Some w) × P z w) → i < n + 1 → (w : Y) × (slice_get more i ≡ Some w) × P z w
-  paired-by i z e f g l = elim (cases_order i n) [ | inl k ↦ g k | inr (inl k) ↦ f k | inr (inr k) ↦ absurd (omega (arith, k, l)) ]
+  paired-by i z e f g l = elim (cases_order i n) [ inl k ↦ g k | inr (inl k) ↦ f k | inr (inr k) ↦ absurd (omega (arith, k, l)) ]
 
   at-last : slice_get more n ≡ Some y
   at-last = ap (λ q. slice_get q n) is ∙ ap (slice_get (ys ++ y ∷ [])) (sym h.long) ∙ slice_get-last ys y

@@ -237,7 +237,7 @@ one-further (suc n) (x ∷ xs) = one-further n xs
 
 braced : (a b : ℕ) (text : List ℕ) (j k : Item) (items : List Item) → AreItems text items →
     SameFormal (a ∷ b ∷ text) (j ∷ k ∷ items) (if is_closed (drop (length (name_run items)) items) then formal (name_run items) 3 else None)
-        (if begins 125 (drop (prefix_len name_byte text) text) then formal_run text 3 else None)
+    (if begins 125 (drop (prefix_len name_byte text) text) then formal_run text 3 else None)
 braced a b text j k items h =
     let r = run text items h in
     let m = prefix_len name_byte text in
@@ -250,8 +250,8 @@ braced a b text j k items h =
 
 behind-by : (a b : ℕ) (text : List ℕ) (j i : Item) (items : List Item) (test : Bool) → AreItems (b ∷ text) (i ∷ items) → (test ≡ true → AreItems text items) →
     SameFormal (a ∷ b ∷ text) (j ∷ i ∷ items)
-        (if test then (if is_closed (drop (length (name_run items)) items) then formal (name_run items) 3 else None) else formal (name_run (i ∷ items)) 1)
-        (if test then (if begins 125 (drop (prefix_len name_byte text) text) then formal_run text 3 else None) else formal_run (b ∷ text) 1)
+    (if test then (if is_closed (drop (length (name_run items)) items) then formal (name_run items) 3 else None) else formal (name_run (i ∷ items)) 1)
+    (if test then (if begins 125 (drop (prefix_len name_byte text) text) then formal_run text 3 else None) else formal_run (b ∷ text) 1)
 behind-by a b text j i items true h k = braced a b text j i items (k refl)
 behind-by a b text j i items false h k = bare a (b ∷ text) j (i ∷ items) h
 

@@ -11,8 +11,9 @@ pub mod Locating
 pub mod Calling
 pub mod Formals
 pub mod Valued
-pub mod Homes
+pub mod ReadHomes
 pub mod Parting
+pub mod Unread
 pub mod Ordered
 pub mod Least
 pub mod Finding

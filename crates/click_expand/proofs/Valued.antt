@@ -94,7 +94,7 @@ module _ (c : Config) (uses : List UseKept) (places : List Place) (known : List 
       (u : ℕ) (k j : UseKept) (x : Used) (p : Place) (name : List ℕ) → slice_get uses u ≡ Some k → slice_get known u ≡ Some x → k.around ≡ Some p → slice_get uses p.within ≡ Some j →
       (o : Used) × (slice_get known p.within ≡ Some o) ×
       Beside c o.bindings (o.scope ∷ o.around) (string_found c.text (slice_get locals j.scope) p.element)
-          (span_beside c.text (body_formals (slice_get c.bodies k.scope)) (spans_found (slice_get all j.scope) p.element) name) (scope_value c x.bindings x.scope name)
+      (span_beside c.text (body_formals (slice_get c.bodies k.scope)) (spans_found (slice_get all j.scope) p.element) name) (scope_value c x.bindings x.scope name)
   own-value locals all hl ha u k j x p name h g e q =
       let n = use-at u k x h g in
       let a = around-at u k x p h g e in
@@ -106,12 +106,14 @@ module _ (c : Config) (uses : List UseKept) (places : List Place) (known : List 
       ap (λ z. string_found c.text (slice_get locals z) p.element) m.scope ∙ string-is c locals hl o.scope o.visible o.around m.stands p.element i.local i.there in
       let sps : spans_found (slice_get all j.scope) p.element ≡ i.spans =
       ap (λ z. spans_found (slice_get all z) p.element) m.scope ∙ spans-are c all ha o.scope o.visible o.around m.stands p.element i.local i.body i.spans i.there i.meaning i.arguments in
-      let b = beside c o.bindings (o.scope ∷ o.around) i.local.text name (body_formals (slice_get c.bodies i.body)) i.spans i.values i.replaced in
-      (o, a.1.1,
-          subst (λ z. Beside c o.bindings (o.scope ∷ o.around) z (span_beside c.text (body_formals (slice_get c.bodies k.scope)) (spans_found (slice_get all j.scope) p.element) name) (scope_value c x.bindings x.scope name)) (sym str)
-          (subst (λ z. Beside c o.bindings (o.scope ∷ o.around) i.local.text (span_beside c.text (body_formals (slice_get c.bodies z)) (spans_found (slice_get all j.scope) p.element) name) (scope_value c x.bindings x.scope name)) (sym ks)
-          (subst (λ z. Beside c o.bindings (o.scope ∷ o.around) i.local.text (span_beside c.text (body_formals (slice_get c.bodies i.body)) z name) (scope_value c x.bindings x.scope name)) (sym sps)
-          (subst (λ z. Beside c o.bindings (o.scope ∷ o.around) i.local.text (span_beside c.text (body_formals (slice_get c.bodies i.body)) i.spans name) z) (sym (scope-value-inner c o x i.body i.values name i.scope i.bindings)) b))))
+      let b = beside c o.bindings (o.scope ∷ o.around) i.local.text name (body_formals (slice_get c.bodies i.body)) i.spans i.values i.replaced in (
+        o,
+        a.1.1,
+        subst (λ z. Beside c o.bindings (o.scope ∷ o.around) z (span_beside c.text (body_formals (slice_get c.bodies k.scope)) (spans_found (slice_get all j.scope) p.element) name) (scope_value c x.bindings x.scope name)) (sym str)
+            (subst (λ z. Beside c o.bindings (o.scope ∷ o.around) i.local.text (span_beside c.text (body_formals (slice_get c.bodies z)) (spans_found (slice_get all j.scope) p.element) name) (scope_value c x.bindings x.scope name)) (sym ks)
+            (subst (λ z. Beside c o.bindings (o.scope ∷ o.around) i.local.text (span_beside c.text (body_formals (slice_get c.bodies i.body)) z name) (scope_value c x.bindings x.scope name)) (sym sps)
+            (subst (λ z. Beside c o.bindings (o.scope ∷ o.around) i.local.text (span_beside c.text (body_formals (slice_get c.bodies i.body)) i.spans name) z) (sym (scope-value-inner c o x i.body i.values name i.scope i.bindings)) b))),
+      )
 
 -- no string is longer than the text
 pub bytes-short : (text : List ℕ) (s : Span) → length (bytes_at text s) ≤ length text

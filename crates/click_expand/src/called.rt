@@ -26,11 +26,7 @@ pub fn string_inside<'a>(text: &'a [u8], string: Option<Span>) -> &'a [u8]
 }
 
 /// Where the arguments of a compound's element stand in its configuration string. Other elements have none.
-fn arguments_of(
-    alloc: Global,
-    text: &[u8],
-    local: &Local,
-) -> Result<Sequence<Span>, AllocError>
+fn arguments_of(alloc: Global, text: &[u8], local: &Local) -> Result<Sequence<Span>, AllocError>
     ensures { IfOk result (λ spans. (b : ℕ) → meaning_by text.now local.now.class ≡ Some (compound b) → AreArguments (string_by text.now local.now.text) spans) }
 {
     if let Some(ClassOf::Compound(_)) = local.class {

@@ -36,11 +36,7 @@ fn formals_at(bodies: &[Body], scope: usize) -> &[Span]
 }
 
 /// Where the arguments of an element stand in its string.
-fn spans_at(
-    arguments: &[Sequence<Sequence<Span>>],
-    scope: usize,
-    element: usize,
-) -> &[Span]
+fn spans_at(arguments: &[Sequence<Sequence<Span>>], scope: usize, element: usize) -> &[Span]
     ensures { result.now ≡ spans_found (slice_get arguments.now scope) element }
 {
     let Some(one) = arguments.get(scope) else {

@@ -1,5 +1,5 @@
 use Rattle.std.proofs.Common.{◌≤◌}
-use Rattle.click_expand.proofs.Homes.{SameValue}
+use Rattle.click_expand.proofs.ReadHomes.{SameValue}
 use Rattle.click_expand.proofs.readings.value_at.Given as goal
 
 abbrev pub invariant-homes : goal.invariant-homes
