@@ -4,7 +4,7 @@ use Rattle.std.specs.Global.{Global}
 use Rattle.click_text.specs.declared.syntax.Head.{Head}
 use Rattle.click_text.specs.declared.syntax.Config.{Config}
 use Rattle.click_expand.specs.Scoped.{AreScopes, AreSynonyms}
-use Rattle.click_expand.specs.Located.{AreAllLocals}
+use Rattle.click_expand.specs.Located.{AreAllLocals, AreAllStrings}
 use Rattle.click_expand.specs.Called.{AreAllArguments}
 use Rattle.click_expand.specs.Joined.{AreAllJoints}
 use Rattle.click_expand.specs.Faults.{IsFirstWrong, IsSound}
@@ -26,6 +26,7 @@ pub record AreTables (c : Config) (t : Tables) : Type 0 where
   pub scopes : AreScopes c t.scopes.entries.items t.scopes.scopes.items
   pub synonyms : AreSynonyms c t.scopes.entries.items
   pub locals : AreAllLocals c t.locals.items
+  pub strings : AreAllStrings c t.locals.items
   pub arguments : AreAllArguments c t.arguments.items
   pub joints : AreAllJoints c t.joints.items
 

@@ -239,6 +239,14 @@ fn fault_of(alloc: Global, refused: Refused) -> ExpandFault
     }
 }
 
+/// How long the text is. What begins in it begins before the last place that there is.
+fn text_len(config: &Config) -> usize
+    requires { Spells config.now.text config.now }
+    ensures { AreShort config.now.bodies }
+{
+    config.text.len()
+}
+
 /// The flat form of a configuration that a text spells (Click manual, "Compound elements"): its elements under their flat names in the order of the
 /// text, with all parameters replaced, and its connections, each once, by from-element, from-port, to-element, to-port. Or its first fault: of wrong
 /// names, classes, parameters and ports the one that stands first in the text; else `TooMany`, where there are more than 4,096 elements, 16,384
@@ -250,6 +258,7 @@ pub fn flatten(alloc: Global, config: &Config) -> Result<Flat, ExpandFault>
     ensures only { (flat : FlatForm) → IsFlat config.now flat → IsGiven result flat }
     ensures err { IfErr result (λ fault. IsMemoryOr fault (IsFlatFault config.now fault)) }
 {
+    let _length = text_len(config);
     match flat_of(alloc, config) {
         Ok(flat) => Ok(flat),
         Err(refused) => Err(fault_of(alloc, refused)),

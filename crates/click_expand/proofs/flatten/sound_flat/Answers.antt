@@ -45,7 +45,7 @@ returns-in-Some-2-clause-err c =
     let k = counted c.args.config.now c.requires.nested c.requires.sound c.in_ok-size.size c.in_ok-size.ensures c.if-size-gt-MOST_ELEMENTS.false c.if-size-gt-MOST_PATHS.false in
     let u = c.in_ok-uses.ensures k.leaves c.in_ok-size.size.paths k.are in
     let e : IsExpanded c.args.config.now k.leaves c.in_ok-size.size.paths c.in-Some.flat =
-        subst (IsExpandedOr c.args.config.now k.leaves c.in_ok-size.size.paths) c.in-Some.is (c.in_ok-flat.ensures k.leaves u.0 c.in_ok-size.size.paths u.1 k.few c.if-size-gt-MOST_PATHS.false) in
+    subst (IsExpandedOr c.args.config.now k.leaves c.in_ok-size.size.paths) c.in-Some.is (c.in_ok-flat.ensures k.leaves u.0 c.in_ok-size.size.paths u.1 k.few c.if-size-gt-MOST_PATHS.false) in
     refused-by c.args.config.now k.leaves c.in_ok-size.size.paths c.in-Some.flat c.requires.sound k.are e c.in-Some-2.why
     (subst (IsRefusedOf k.leaves) c.in-Some-2.is (c.in_ok-why.ensures k.leaves u.0 u.1 (c.as_slice.ensures ∙ e.elements)))
 
@@ -54,6 +54,6 @@ returns-clause-flat c =
     let k = counted c.args.config.now c.requires.nested c.requires.sound c.in_ok-size.size c.in_ok-size.ensures c.if-size-gt-MOST_ELEMENTS.false c.if-size-gt-MOST_PATHS.false in
     let u = c.in_ok-uses.ensures k.leaves c.in_ok-size.size.paths k.are in
     let e : IsExpanded c.args.config.now k.leaves c.in_ok-size.size.paths c.in-Some.flat =
-        subst (IsExpandedOr c.args.config.now k.leaves c.in_ok-size.size.paths) c.in-Some.is (c.in_ok-flat.ensures k.leaves u.0 c.in_ok-size.size.paths u.1 k.few c.if-size-gt-MOST_PATHS.false) in
+    subst (IsExpandedOr c.args.config.now k.leaves c.in_ok-size.size.paths) c.in-Some.is (c.in_ok-flat.ensures k.leaves u.0 c.in_ok-size.size.paths u.1 k.few c.if-size-gt-MOST_PATHS.false) in
     answered c.args.config.now k.leaves c.in_ok-size.size.paths c.in-Some.flat c.requires.sound k.are e
     (subst (IsRefusedOf k.leaves) c.in-None.is (c.in_ok-why.ensures k.leaves u.0 u.1 (c.as_slice.ensures ∙ e.elements)))
