@@ -11,4 +11,9 @@ pub mod Locating
 pub mod Ordered
 pub mod Least
 pub mod Finding
+pub mod Misnaming
+pub mod Naming
+pub mod Placing
+pub mod NamingFaults
+pub mod FirstNames
 pub mod ReadsBack
