@@ -19,6 +19,11 @@ pub mod OrderedOnce
 pub mod FlatOnce
 pub mod Spelled
 pub mod FaultOnce
+pub mod Misnaming
+pub mod Naming
+pub mod Placing
+pub mod NamingFaults
+pub mod FirstNames
 pub mod ReadsBack
 pub mod Flattening
 pub mod Tokens
