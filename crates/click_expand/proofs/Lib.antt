@@ -11,4 +11,5 @@ pub mod Least
 pub mod Finding
 pub mod Homes
 pub mod Adding
+pub mod Frames
 pub mod ReadsBack
