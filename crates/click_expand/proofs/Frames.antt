@@ -16,23 +16,19 @@ use Rattle.click_expand.specs.Parameters.{Bindings, IsReplaced}
 use Rattle.click_expand.specs.Instances.{Leaf, AreValues, AreLeaves, no_elements, leaf, branch, LeavesOf, to_whole, to_inner}
 use Rattle.click_expand.specs.Nesting.{IsNested}
 use Rattle.click_expand.specs.Scoped.{place_of, AreScopes}
-use Rattle.click_expand.specs.Uses.{Used, the_whole, locals_at, IsHome, AreParts, IsUse, AreUses}
+use Rattle.click_expand.specs.Uses.{Used, the_whole, locals_at, IsLeaf, IsHome, AreParts, IsUse, AreUses}
 use Rattle.click_expand.specs.Using.{with_part, bare_use, place_at, outer_by, IsHomeIn}
 use Rattle.click_expand.specs.declared.classes.Entry.{Entry}
 use Rattle.click_expand.specs.declared.scopes.Scope.{Scope as ScopeKept}
+use Rattle.click_expand.specs.declared.uses.Part.{Part}
 use Rattle.click_expand.specs.declared.uses.Part.TheVariants as part
 use Rattle.click_expand.specs.declared.uses.Place.{Place}
 use Rattle.click_expand.specs.declared.uses.Use.{Use}
 use Rattle.click_expand.proofs.Keeping.{slice_get-more, slice_get-last}
+use Rattle.click_expand.proofs.Once.{stands-once}
+use Rattle.click_expand.proofs.Founded.{founded-at}
 use Rattle.click_expand.proofs.Homes.{same_some, IsHomeKept, agree-value, AreHomes, new-home}
 use Rattle.click_expand.proofs.Adding.{slice_get-there, slice_get-behind, changed-other, changed-there, changed-behind, IsSoFar, Kept, IsAddition, kept-added}
-
--- an element whose class is a body: the body stands in the element's scope or in one around it
-abbrev pub AreFounded : Config → Type 0
-AreFounded c =
-    (s : Scope) (visible : List Statement) (around : List Scope) (i : ℕ) (l : Local) (b : ℕ) (v : List Statement) (o : List Scope) →
-    Stands c s visible around → slice_get (scope_locals c s visible) i ≡ Some l → l.meaning ≡ Some (compound b) → Stands c (inside b) v o →
-    (front : List Scope) × (s ∷ around ≡ front ++ o)
 
 module _ (c : Config) where
   -- a use has all its parts
@@ -216,3 +212,129 @@ module _ (c : Config) where
           (x : Used) × (slice_get (the_whole ∷ []) u ≡ Some x) × IsSoFar c (bare_use place None None ∷ []) [] (the_whole ∷ []) u k x
       first_each zero k g = (the_whole, refl, first_so_far k (same_some g))
       first_each (suc u) k g = absurd (cc g)
+
+  -- a body that is used in a scope is written in it or in one around it
+  founded-around : IsNested c → (x : Used) (i b : ℕ) (l : Local) (v : List Statement) (o : List Scope) → Stands c x.scope x.visible x.around → slice_get (locals_at c x) i ≡ Some l →
+      l.meaning ≡ Some (compound b) → Stands c (inside b) v o → (front : List Scope) × (x.scope ∷ x.around ≡ front ++ o)
+  founded-around nested x i b l v o h e q k =
+      let r = founded-at c nested x.scope x.visible x.around h i l b e q in
+      let same = stands-once c nested (inside b) r.inner v r.outer o r.stands k in
+      (r.front, r.is ∙ ap (λ a. r.front ++ a) same.1)
+
+  next-there : (done rest : List Local) (l : Local) → slice_get (done ++ l ∷ rest) (length done) ≡ Some l
+  next-there [] rest l = refl
+  next-there (d ∷ done) rest l = next-there done rest l
+
+  -- the use at which the walk is, as far as its parts go
+  module _ (uses : List Use) (places : List Place) (at : ℕ) (leaves : List Leaf) (n : ℕ) (w : Walking uses places at leaves n) where
+    at-so_far : IsSoFar c uses places w.known at w.frame.kept w.frame.used
+    at-so_far =
+        let r = w.kept.each at w.frame.kept w.frame.kept_there in
+        subst (IsSoFar c uses places w.known at w.frame.kept) (same_some (sym r.1 ∙ w.frame.used_there)) r.2
+
+    at-within : at < length uses
+    at-within = slice_get_within uses at w.frame.kept w.frame.kept_there
+
+    at-local : (l : Local) (ls : List Local) → w.frame.rest ≡ l ∷ ls → slice_get (locals_at c w.frame.used) (length w.frame.kept.parts) ≡ Some l
+    at-local l ls e =
+        ap (λ xs. slice_get xs (length w.frame.kept.parts)) (w.frame.splits ∙ ap (λ xs. w.frame.done ++ xs) e)
+        ∙ ap (slice_get (w.frame.done ++ l ∷ ls)) w.frame.as_far ∙ next-there w.frame.done ls l
+
+    -- the frame with one more part
+    frame-part : (p : Part) (more : List Use) (wider : List Used) (upper : ℕ) (l : Local) (ls : List Local) (inner : List Leaf) (k : ℕ) → upper ≡ length uses → w.frame.rest ≡ l ∷ ls →
+        AreLeaves c w.frame.used.scope w.frame.used.around w.frame.used.path w.frame.used.bindings ls inner k →
+        (g : Frame (slice_set uses at (with_part w.frame.kept p) ++ more) (w.known ++ wider) upper at inner k) × (g.kept.around ≡ w.frame.kept.around)
+    frame-part p more wider upper l ls inner k u e h = (
+      record {
+        used = w.frame.used;
+        used_there = slice_get-more w.known wider at w.frame.used w.frame.used_there;
+        kept = with_part w.frame.kept p;
+        kept_there = changed-there uses at (with_part w.frame.kept p) more at-within;
+        done = w.frame.done ++ l ∷ [];
+        rest = ls;
+        splits = w.frame.splits ∙ ap (λ xs. w.frame.done ++ xs) e ∙ sym (append_assoc w.frame.done (l ∷ []) ls);
+        as_far = length_push w.frame.kept.parts p ∙ ap (λ x. x + 1) w.frame.as_far ∙ sym (length_push w.frame.done l);
+        leads = h;
+        full = λ v q a b g.
+            let b2 : v < length uses = omega (arith, b, u) in
+            let b3 : v < w.upper = (let t = w.upper_is in omega (arith, b2, t)) in
+            let r = w.frame.full v q a b3 (sym (changed-other uses at (with_part w.frame.kept p) more v b2 (λ s. omega (arith, s, a))) ∙ g) in
+            (r.0, slice_get-more w.known wider v r.0 r.1, r.2);
+      },
+      refl,
+    )
+
+    chain-changed : (p : Part) (more : List Use) (wider : List Used) → Chain (slice_set uses at (with_part w.frame.kept p) ++ more) (w.known ++ wider) at w.frame.kept.around w.outer w.k
+    chain-changed p more wider =
+        chain-same uses (slice_set uses at (with_part w.frame.kept p) ++ more) w.known (w.known ++ wider) at w.frame.kept.around w.outer w.k
+        (λ u l. changed-other uses at (with_part w.frame.kept p) more u (let b = at-within in omega (arith, l, b)) (λ s. omega (arith, s, l)))
+        (λ u x. slice_get-more w.known wider u x) w.chain
+
+    -- a flat element
+    walking-leaf : (l : Local) (ls : List Local) → w.frame.rest ≡ l ∷ ls → ((b : ℕ) → l.meaning ≡ Some (compound b) → ⊥) →
+        Walking (slice_set uses at (with_part w.frame.kept (part.Leaf (length places))) ++ []) (places ++ place_at at (length w.frame.kept.parts) ∷ []) at leaves n
+    walking-leaf l ls e d =
+        let x = w.frame.used in
+        let r = leaf-case x.scope x.around x.path x.bindings l ls w.inner w.m d (subst (λ xs. AreLeaves c x.scope x.around x.path x.bindings xs w.inner w.m) e w.frame.leads) in
+        let p = part.Leaf (length places) in
+        let f : Leaf = record { path = x.path ++ l.name ∷ []; class = r.class; text = r.text; first = first_token c l.head } in
+        let g = frame-part p [] [] w.upper l ls r.leaves r.m w.upper_is e r.leads in
+        let len : length (slice_set uses at (with_part w.frame.kept p) ++ []) ≡ length uses = ap length (append-nil (slice_set uses at (with_part w.frame.kept p))) ∙ length-set uses at (with_part w.frame.kept p) in
+        let pushed : length (places ++ place_at at (length w.frame.kept.parts) ∷ []) ≡ length places + 1 = length_push places (place_at at (length w.frame.kept.parts)) in
+        let count = w.count in let rc = r.count in
+        record {
+          known = w.known ++ [];
+          done = w.done ++ f ∷ [];
+          kept = kept-added c uses places w.known w.done at w.frame.kept x p [] (place_at at (length w.frame.kept.parts) ∷ []) [] (f ∷ [])
+              (record {
+                there = w.frame.kept_there;
+                used = w.frame.used_there;
+                local = l;
+                local_there = at-local l ls e;
+                part = (r.class, r.meaning, (place_at at (length w.frame.kept.parts), slice_get-last places (place_at at (length w.frame.kept.parts)), refl, refl));
+                uses_match = refl;
+                leaves_match = refl;
+                new_uses = λ j q h. absurd (cc h);
+                new_leaves = λ j q h. the-leaf l ls e r j q h;
+              })
+              w.kept;
+          inner = r.leaves;
+          outer = w.outer;
+          m = r.m;
+          k = w.k;
+          splits = w.splits ∙ ap (λ xs. w.done ++ (xs ++ w.outer)) r.is ∙ sym (append_assoc w.done (f ∷ []) (r.leaves ++ w.outer));
+          count = omega (arith, len, pushed, count, rc);
+          upper = w.upper;
+          upper_is = w.upper_is ∙ sym len;
+          frame = g.0;
+          chain = subst (λ a. Chain (slice_set uses at (with_part w.frame.kept p) ++ []) (w.known ++ []) at a w.outer w.k) (sym g.1) (chain-changed p [] []);
+        }
+      where
+        the-leaf : (l : Local) (ls : List Local) → w.frame.rest ≡ l ∷ ls → (r : LeafCase w.frame.used.scope w.frame.used.around w.frame.used.path w.frame.used.bindings l ls w.inner w.m) (j : ℕ) (q : Place) →
+            slice_get (place_at at (length w.frame.kept.parts) ∷ []) j ≡ Some q →
+            (f : Leaf) × (slice_get (record { path = w.frame.used.path ++ l.name ∷ []; class = r.class; text = r.text; first = first_token c l.head } ∷ []) j ≡ Some f)
+            × IsLeaf c (slice_set uses at (with_part w.frame.kept (part.Leaf (length places))) ++ []) (w.known ++ []) (length places + j) q f
+        the-leaf l ls e r zero q h =
+            let p = part.Leaf (length places) in
+            let same : place_at at (length w.frame.kept.parts) ≡ q = same_some h in
+            let f : Leaf = record { path = w.frame.used.path ++ l.name ∷ []; class = r.class; text = r.text; first = first_token c l.head } in
+            let none : length places ≡ length places + 0 = omega arith in (
+              f,
+              refl,
+              subst (λ k. IsLeaf c (slice_set uses at (with_part w.frame.kept p) ++ []) (w.known ++ []) k q f) none
+                  (subst (λ (y : Place). IsLeaf c (slice_set uses at (with_part w.frame.kept p) ++ []) (w.known ++ []) (length places) y f) same
+                  (record {
+                    use_kept = with_part w.frame.kept p;
+                    use_there = changed-there uses at (with_part w.frame.kept p) [] at-within;
+                    part_there = slice_get-last w.frame.kept.parts p;
+                    used = w.frame.used;
+                    used_there = slice_get-more w.known [] at w.frame.used w.frame.used_there;
+                    local = l;
+                    local_there = at-local l ls e;
+                    path = refl;
+                    meaning = r.meaning;
+                    text = r.replaced;
+                    first = refl;
+                  })),
+            )
+        the-leaf l ls e r (suc j) q h = absurd (cc h)

@@ -12,4 +12,10 @@ pub mod Finding
 pub mod Homes
 pub mod Adding
 pub mod Frames
+pub mod Contained
+pub mod Founded
+pub mod Distinct
+pub mod Leaves
+pub mod OrderedOnce
+pub mod FlatOnce
 pub mod ReadsBack
