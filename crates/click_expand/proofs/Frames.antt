@@ -32,7 +32,7 @@ use Rattle.click_expand.proofs.Adding.{slice_get-there, slice_get-behind, change
 
 module _ (c : Config) where
   -- a use has all its parts
-  abbrev IsFull : List Used → ℕ → Use → Type 0
+  abbrev pub IsFull : List Used → ℕ → Use → Type 0
   IsFull known u k = (x : Used) × (slice_get known u ≡ Some x) × (length k.parts ≡ length (locals_at c x))
 
   -- An open use: its elements that are still to come have these leaves and so many paths. Those behind it, up to a place, have all their parts.
@@ -75,7 +75,7 @@ module _ (c : Config) where
 
   -- the same in uses that are the same below a place
   module _ (uses new : List Use) (known wider : List Used) where
-    frame-same : (upper at : ℕ) (leaves : List Leaf) (n : ℕ) → at < upper → ((u : ℕ) → u < upper → slice_get new u ≡ slice_get uses u) → ((u : ℕ) (x : Used) → slice_get known u ≡ Some x → slice_get wider u ≡ Some x) →
+    pub frame-same : (upper at : ℕ) (leaves : List Leaf) (n : ℕ) → at < upper → ((u : ℕ) → u < upper → slice_get new u ≡ slice_get uses u) → ((u : ℕ) (x : Used) → slice_get known u ≡ Some x → slice_get wider u ≡ Some x) →
         (f : Frame uses known upper at leaves n) → (g : Frame new wider upper at leaves n) × (g.kept.around ≡ f.kept.around)
     frame-same upper at leaves n l s t f = (
       record {
@@ -93,7 +93,7 @@ module _ (c : Config) where
       refl,
     )
 
-    chain-same : (upper : ℕ) (o : Option Place) (leaves : List Leaf) (n : ℕ) → ((u : ℕ) → u < upper → slice_get new u ≡ slice_get uses u) → ((u : ℕ) (x : Used) → slice_get known u ≡ Some x → slice_get wider u ≡ Some x) →
+    pub chain-same : (upper : ℕ) (o : Option Place) (leaves : List Leaf) (n : ℕ) → ((u : ℕ) → u < upper → slice_get new u ≡ slice_get uses u) → ((u : ℕ) (x : Used) → slice_get known u ≡ Some x → slice_get wider u ≡ Some x) →
         Chain uses known upper o leaves n → Chain new wider upper o leaves n
     chain-same upper o leaves n s t (outermost upper') = outermost upper'
     chain-same upper o leaves n s t (within upper' p inner outer m k f l h) =
@@ -130,13 +130,13 @@ module _ (c : Config) where
     pub is : all ≡ inner ++ leaves
     pub count : n ≡ m + k + 1
 
-  leaf-case : (s : Scope) (around : List Scope) (path : List (List ℕ)) (bindings : Bindings) (l : Local) (ls : List Local) (all : List Leaf) (n : ℕ) → ((b : ℕ) → l.meaning ≡ Some (compound b) → ⊥) →
+  pub leaf-case : (s : Scope) (around : List Scope) (path : List (List ℕ)) (bindings : Bindings) (l : Local) (ls : List Local) (all : List Leaf) (n : ℕ) → ((b : ℕ) → l.meaning ≡ Some (compound b) → ⊥) →
       AreLeaves c s around path bindings (l ∷ ls) all n → LeafCase s around path bindings l ls all n
   leaf-case s around path bindings l ls all n d (leaf s1 a1 p1 b1 l1 ls1 class text leaves m e r h) =
       record { class = class; text = text; leaves = leaves; m = m; meaning = e; replaced = r; leads = h; is = refl; count = refl }
   leaf-case s around path bindings l ls all n d (branch s1 a1 p1 b1 l1 ls1 b visible outer spans values inner leaves m k e a v st h g) = absurd (d b e)
 
-  inner-case : (s : Scope) (around : List Scope) (path : List (List ℕ)) (bindings : Bindings) (l : Local) (ls : List Local) (b : ℕ) (all : List Leaf) (n : ℕ) → l.meaning ≡ Some (compound b) →
+  pub inner-case : (s : Scope) (around : List Scope) (path : List (List ℕ)) (bindings : Bindings) (l : Local) (ls : List Local) (b : ℕ) (all : List Leaf) (n : ℕ) → l.meaning ≡ Some (compound b) →
       AreLeaves c s around path bindings (l ∷ ls) all n → InnerCase s around path bindings l ls b all n
   inner-case s around path bindings l ls b all n d (leaf s1 a1 p1 b1 l1 ls1 class text leaves m e r h) = absurd (let x : Some (primitive class) ≡ Some (compound b) = sym e ∙ d in cc x)
   inner-case s around path bindings l ls b all n d (branch s1 a1 p1 b1 l1 ls1 b' visible outer spans values inner leaves m k e a v st h g) =
@@ -159,7 +159,7 @@ module _ (c : Config) where
         count = refl;
       }
 
-  end-case : (s : Scope) (around : List Scope) (path : List (List ℕ)) (bindings : Bindings) (all : List Leaf) (n : ℕ) → AreLeaves c s around path bindings [] all n → (all ≡ []) × (n ≡ 0)
+  pub end-case : (s : Scope) (around : List Scope) (path : List (List ℕ)) (bindings : Bindings) (all : List Leaf) (n : ℕ) → AreLeaves c s around path bindings [] all n → (all ≡ []) × (n ≡ 0)
   end-case s around path bindings all n (no_elements s1 a1 p1 b1) = (refl, refl)
 
   -- the beginning
@@ -214,34 +214,34 @@ module _ (c : Config) where
       first_each (suc u) k g = absurd (cc g)
 
   -- a body that is used in a scope is written in it or in one around it
-  founded-around : IsNested c → (x : Used) (i b : ℕ) (l : Local) (v : List Statement) (o : List Scope) → Stands c x.scope x.visible x.around → slice_get (locals_at c x) i ≡ Some l →
+  pub founded-around : IsNested c → (x : Used) (i b : ℕ) (l : Local) (v : List Statement) (o : List Scope) → Stands c x.scope x.visible x.around → slice_get (locals_at c x) i ≡ Some l →
       l.meaning ≡ Some (compound b) → Stands c (inside b) v o → (front : List Scope) × (x.scope ∷ x.around ≡ front ++ o)
   founded-around nested x i b l v o h e q k =
       let r = founded-at c nested x.scope x.visible x.around h i l b e q in
       let same = stands-once c nested (inside b) r.inner v r.outer o r.stands k in
       (r.front, r.is ∙ ap (λ a. r.front ++ a) same.1)
 
-  next-there : (done rest : List Local) (l : Local) → slice_get (done ++ l ∷ rest) (length done) ≡ Some l
+  pub next-there : (done rest : List Local) (l : Local) → slice_get (done ++ l ∷ rest) (length done) ≡ Some l
   next-there [] rest l = refl
   next-there (d ∷ done) rest l = next-there done rest l
 
   -- the use at which the walk is, as far as its parts go
   module _ (uses : List Use) (places : List Place) (at : ℕ) (leaves : List Leaf) (n : ℕ) (w : Walking uses places at leaves n) where
-    at-so_far : IsSoFar c uses places w.known at w.frame.kept w.frame.used
+    pub at-so_far : IsSoFar c uses places w.known at w.frame.kept w.frame.used
     at-so_far =
         let r = w.kept.each at w.frame.kept w.frame.kept_there in
         subst (IsSoFar c uses places w.known at w.frame.kept) (same_some (sym r.1 ∙ w.frame.used_there)) r.2
 
-    at-within : at < length uses
+    pub at-within : at < length uses
     at-within = slice_get_within uses at w.frame.kept w.frame.kept_there
 
-    at-local : (l : Local) (ls : List Local) → w.frame.rest ≡ l ∷ ls → slice_get (locals_at c w.frame.used) (length w.frame.kept.parts) ≡ Some l
+    pub at-local : (l : Local) (ls : List Local) → w.frame.rest ≡ l ∷ ls → slice_get (locals_at c w.frame.used) (length w.frame.kept.parts) ≡ Some l
     at-local l ls e =
         ap (λ xs. slice_get xs (length w.frame.kept.parts)) (w.frame.splits ∙ ap (λ xs. w.frame.done ++ xs) e)
         ∙ ap (slice_get (w.frame.done ++ l ∷ ls)) w.frame.as_far ∙ next-there w.frame.done ls l
 
     -- the frame with one more part
-    frame-part : (p : Part) (more : List Use) (wider : List Used) (upper : ℕ) (l : Local) (ls : List Local) (inner : List Leaf) (k : ℕ) → upper ≡ length uses → w.frame.rest ≡ l ∷ ls →
+    pub frame-part : (p : Part) (more : List Use) (wider : List Used) (upper : ℕ) (l : Local) (ls : List Local) (inner : List Leaf) (k : ℕ) → upper ≡ length uses → w.frame.rest ≡ l ∷ ls →
         AreLeaves c w.frame.used.scope w.frame.used.around w.frame.used.path w.frame.used.bindings ls inner k →
         (g : Frame (slice_set uses at (with_part w.frame.kept p) ++ more) (w.known ++ wider) upper at inner k) × (g.kept.around ≡ w.frame.kept.around)
     frame-part p more wider upper l ls inner k u e h = (
@@ -264,14 +264,14 @@ module _ (c : Config) where
       refl,
     )
 
-    chain-changed : (p : Part) (more : List Use) (wider : List Used) → Chain (slice_set uses at (with_part w.frame.kept p) ++ more) (w.known ++ wider) at w.frame.kept.around w.outer w.k
+    pub chain-changed : (p : Part) (more : List Use) (wider : List Used) → Chain (slice_set uses at (with_part w.frame.kept p) ++ more) (w.known ++ wider) at w.frame.kept.around w.outer w.k
     chain-changed p more wider =
         chain-same uses (slice_set uses at (with_part w.frame.kept p) ++ more) w.known (w.known ++ wider) at w.frame.kept.around w.outer w.k
         (λ u l. changed-other uses at (with_part w.frame.kept p) more u (let b = at-within in omega (arith, l, b)) (λ s. omega (arith, s, l)))
         (λ u x. slice_get-more w.known wider u x) w.chain
 
     -- a flat element
-    walking-leaf : (l : Local) (ls : List Local) → w.frame.rest ≡ l ∷ ls → ((b : ℕ) → l.meaning ≡ Some (compound b) → ⊥) →
+    pub walking-leaf : (l : Local) (ls : List Local) → w.frame.rest ≡ l ∷ ls → ((b : ℕ) → l.meaning ≡ Some (compound b) → ⊥) →
         Walking (slice_set uses at (with_part w.frame.kept (part.Leaf (length places))) ++ []) (places ++ place_at at (length w.frame.kept.parts) ∷ []) at leaves n
     walking-leaf l ls e d =
         let x = w.frame.used in

@@ -12,6 +12,7 @@ pub mod Finding
 pub mod Homes
 pub mod Adding
 pub mod Frames
+pub mod Entering
 pub mod Contained
 pub mod Founded
 pub mod Distinct
