@@ -13,6 +13,7 @@ pub mod Homes
 pub mod Adding
 pub mod Frames
 pub mod Entering
+pub mod Leaving
 pub mod Contained
 pub mod Founded
 pub mod Distinct
