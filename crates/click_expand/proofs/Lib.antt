@@ -14,6 +14,7 @@ pub mod Adding
 pub mod Frames
 pub mod Entering
 pub mod Leaving
+pub mod Stepping
 pub mod Contained
 pub mod Founded
 pub mod Distinct

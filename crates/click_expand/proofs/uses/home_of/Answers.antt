@@ -1,4 +1,4 @@
-use Rattle.click_expand.proofs.Leaving.{walked}
+use Rattle.click_expand.proofs.Stepping.{left-less}
 use Rattle.std.proofs.Common.{◌≡◌, ◌<◌, ℕ, Bool, true, false, Option, Some, None, cond, eqb, length, arith, refl, sym, ap, ◌∙◌}
 use Rattle.click_expand.specs.Using.{home_by, here, behind}
 use Rattle.click_expand.specs.declared.uses.Use.{Use}
