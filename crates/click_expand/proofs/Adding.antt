@@ -1,22 +1,21 @@
 -- A part, and what it stands for, is added to the uses that there are.
-use Rattle.std.proofs.Common.{◌≡◌, ◌⊎◌, inl, inr, ℕ, suc, zero, ◌+◌, ◌<◌, ◌≤◌, List, [], ◌∷◌, ◌++◌, length, Option, Some, None, refl, sym, ap, ◌∙◌, subst, arith}
+use Rattle.std.proofs.Common.{◌≡◌, ◌⊎◌, inl, inr, ℕ, suc, zero, ◌+◌, ◌<◌, List, [], ◌∷◌, ◌++◌, length, Option, Some, None, refl, sym, ap, ◌∙◌, subst, arith}
 use Rattle.std.specs.List.{slice_get, slice_set}
-use Rattle.std.proofs.lemmas.Bool.{cases_eq, cases_lt}
-use Rattle.std.proofs.lemmas.Option.{slice_get_within, slice_get-get_or}
+use Rattle.std.proofs.lemmas.Bool.{cases_eq}
+use Rattle.std.proofs.lemmas.Option.{slice_get_within}
 use Rattle.std.proofs.lemmas.List.{length-append, length-set}
-use Rattle.click_text.specs.declared.syntax.Statement.{Statement}
 use Rattle.click_text.specs.declared.syntax.Config.{Config}
 use Rattle.click_expand.specs.Scopes.{Stands}
 use Rattle.click_expand.specs.Elements.{Local}
 use Rattle.click_expand.specs.Instances.{Leaf, LeadsTo}
 use Rattle.click_expand.specs.Scoped.{place_of}
-use Rattle.click_expand.specs.Uses.{Used, the_whole, locals_at, IsInner, IsAround, IsPart, IsLeaf}
+use Rattle.click_expand.specs.Uses.{Used, the_whole, locals_at, IsAround, IsPart, IsLeaf}
 use Rattle.click_expand.specs.Using.{with_part}
 use Rattle.click_expand.specs.declared.uses.Part.{Part}
 use Rattle.click_expand.specs.declared.uses.Part.TheVariants as part
 use Rattle.click_expand.specs.declared.uses.Place.{Place}
 use Rattle.click_expand.specs.declared.uses.Use.{Use}
-use Rattle.click_expand.proofs.Keeping.{slice_get-more, slice_get-last}
+use Rattle.click_expand.proofs.Keeping.{slice_get-more}
 use Rattle.click_expand.proofs.Homes.{same_some, IsHomeKept}
 
 pub slice_get-there : {X : Type 0} (xs : List X) (i : ℕ) → i < length xs → (x : X) × (slice_get xs i ≡ Some x)
@@ -101,14 +100,14 @@ changed-grows uses at k p more h u q e =
     let l = slice_get_within uses at k h in let m = slice_get_within uses u q e in
     elim (cases_eq u at) [
       | inl s ↦
-        (let same : q ≡ k = same_some (sym e ∙ ap (slice_get uses) s ∙ h) in (
-          with_part k p,
-          ap (slice_get (slice_set uses at (with_part k p) ++ more)) s ∙ changed-there uses at (with_part k p) more l,
-          record {
-            around = sym (ap (λ (x : Use). x.around) same);
-            parts = λ i x g. slice_get-more k.parts (p ∷ []) i x (subst (λ (y : Use). slice_get y.parts i ≡ Some x) same g);
-          },
-        ))
+          (let same : q ≡ k = same_some (sym e ∙ ap (slice_get uses) s ∙ h) in (
+            with_part k p,
+            ap (slice_get (slice_set uses at (with_part k p) ++ more)) s ∙ changed-there uses at (with_part k p) more l,
+            record {
+              around = sym (ap (λ (x : Use). x.around) same);
+              parts = λ i x g. slice_get-more k.parts (p ∷ []) i x (subst (λ (y : Use). slice_get y.parts i ≡ Some x) same g);
+            },
+          ))
       | inr d ↦ (q, changed-other uses at (with_part k p) more u m d ∙ e, record { around = refl; parts = λ i x g. g })
     ]
 

@@ -1,16 +1,16 @@
 -- The walk enters a use of a body.
-use Rattle.std.proofs.Common.{◌≡◌, ℕ, suc, zero, ◌+◌, ◌<◌, ◌≤◌, List, [], ◌∷◌, ◌++◌, length, Option, Some, None, refl, sym, ap, ◌∙◌, subst, append_assoc, arith}
+use Rattle.std.proofs.Common.{◌≡◌, ℕ, suc, zero, ◌+◌, ◌<◌, List, [], ◌∷◌, ◌++◌, length, Some, refl, sym, ap, ◌∙◌, subst, append_assoc, arith}
 use Rattle.std.specs.List.{slice_get, slice_set}
 use Rattle.std.proofs.lemmas.List.{append-nil, length-set, length_push}
 use Rattle.click_text.specs.declared.syntax.Config.{Config}
-use Rattle.click_expand.specs.Scopes.{Scope, inside}
+use Rattle.click_expand.specs.Scopes.{inside}
 use Rattle.click_expand.specs.Classes.{compound}
 use Rattle.click_expand.specs.Elements.{Local}
 use Rattle.click_expand.specs.Faults.{scope_locals}
 use Rattle.click_expand.specs.Instances.{Leaf, AreLeaves, to_inner}
 use Rattle.click_expand.specs.Nesting.{IsNested}
 use Rattle.click_expand.specs.Scoped.{AreScopes}
-use Rattle.click_expand.specs.Uses.{Used, locals_at, IsInner, IsAround}
+use Rattle.click_expand.specs.Uses.{Used, locals_at, IsInner}
 use Rattle.click_expand.specs.Using.{with_part, bare_use, place_at, outer_by, IsHomeIn}
 use Rattle.click_expand.specs.declared.classes.Entry.{Entry}
 use Rattle.click_expand.specs.declared.scopes.Scope.{Scope as ScopeKept}
@@ -20,8 +20,8 @@ use Rattle.click_expand.specs.declared.uses.Place.{Place}
 use Rattle.click_expand.specs.declared.uses.Use.{Use}
 use Rattle.click_expand.proofs.Keeping.{slice_get-more, slice_get-last}
 use Rattle.click_expand.proofs.Homes.{same_some, IsHomeKept, AreHomes, new-home}
-use Rattle.click_expand.proofs.Adding.{slice_get-behind, changed-there, changed-behind, IsSoFar, Kept, kept-added}
-use Rattle.click_expand.proofs.Frames.{Frame, Chain, within, Walking, InnerCase, inner-case, founded-around, at-so_far, at-within, at-local, frame-part, chain-changed}
+use Rattle.click_expand.proofs.Adding.{changed-there, changed-behind, IsSoFar, Kept, kept-added}
+use Rattle.click_expand.proofs.Frames.{Chain, within, Walking, InnerCase, inner-case, founded-around, at-so_far, at-within, at-local, frame-part, chain-changed}
 
 -- what is kept says where the homes are
 pub homes-kept : (c : Config) (uses : List Use) (places : List Place) (known : List Used) (done : List Leaf) → Kept c uses places known done → AreHomes c uses known

@@ -1,9 +1,8 @@
 -- The walk over the uses: those that are open, from the one at which the walk is outwards, and what is still to come in each.
-use Rattle.std.proofs.Common.{◌≡◌, ◌⊎◌, inl, inr, ℕ, suc, zero, ◌+◌, ◌<◌, ◌≤◌, List, [], ◌∷◌, ◌++◌, length, Option, Some, None, refl, sym, ap, ◌∙◌, subst, append_assoc, arith}
+use Rattle.std.proofs.Common.{◌≡◌, ℕ, suc, zero, ◌+◌, ◌<◌, List, [], ◌∷◌, ◌++◌, length, Option, Some, None, refl, sym, ap, ◌∙◌, subst, append_assoc, arith}
 use Rattle.std.specs.List.{slice_get, slice_set}
-use Rattle.std.proofs.lemmas.Bool.{cases_order}
-use Rattle.std.proofs.lemmas.Option.{slice_get_within, slice_get_past}
-use Rattle.std.proofs.lemmas.List.{append-nil, length-append, length-set, length_push}
+use Rattle.std.proofs.lemmas.Option.{slice_get_within}
+use Rattle.std.proofs.lemmas.List.{append-nil, length-set, length_push}
 use Rattle.click_text.specs.declared.syntax.Span.{Span}
 use Rattle.click_text.specs.declared.syntax.Statement.{Statement}
 use Rattle.click_text.specs.declared.syntax.Config.{Config}
@@ -13,13 +12,10 @@ use Rattle.click_expand.specs.Classes.{primitive, compound}
 use Rattle.click_expand.specs.Elements.{Local}
 use Rattle.click_expand.specs.Faults.{scope_locals, first_token}
 use Rattle.click_expand.specs.Parameters.{Bindings, IsReplaced}
-use Rattle.click_expand.specs.Instances.{Leaf, AreValues, AreLeaves, no_elements, leaf, branch, LeavesOf, to_whole, to_inner}
+use Rattle.click_expand.specs.Instances.{Leaf, AreValues, AreLeaves, no_elements, leaf, branch, LeavesOf, to_whole}
 use Rattle.click_expand.specs.Nesting.{IsNested}
-use Rattle.click_expand.specs.Scoped.{place_of, AreScopes}
-use Rattle.click_expand.specs.Uses.{Used, the_whole, locals_at, IsLeaf, IsHome, AreParts, IsUse, AreUses}
-use Rattle.click_expand.specs.Using.{with_part, bare_use, place_at, outer_by, IsHomeIn}
-use Rattle.click_expand.specs.declared.classes.Entry.{Entry}
-use Rattle.click_expand.specs.declared.scopes.Scope.{Scope as ScopeKept}
+use Rattle.click_expand.specs.Uses.{Used, the_whole, locals_at, IsLeaf, AreUses}
+use Rattle.click_expand.specs.Using.{with_part, bare_use, place_at}
 use Rattle.click_expand.specs.declared.uses.Part.{Part}
 use Rattle.click_expand.specs.declared.uses.Part.TheVariants as part
 use Rattle.click_expand.specs.declared.uses.Place.{Place}
@@ -27,8 +23,8 @@ use Rattle.click_expand.specs.declared.uses.Use.{Use}
 use Rattle.click_expand.proofs.Keeping.{slice_get-more, slice_get-last}
 use Rattle.click_expand.proofs.Once.{stands-once}
 use Rattle.click_expand.proofs.Founded.{founded-at}
-use Rattle.click_expand.proofs.Homes.{same_some, IsHomeKept, agree-value, AreHomes, new-home}
-use Rattle.click_expand.proofs.Adding.{slice_get-there, slice_get-behind, changed-other, changed-there, changed-behind, IsSoFar, Kept, IsAddition, kept-added}
+use Rattle.click_expand.proofs.Homes.{same_some}
+use Rattle.click_expand.proofs.Adding.{changed-other, changed-there, IsSoFar, Kept, kept-added}
 
 module _ (c : Config) where
   -- a use has all its parts

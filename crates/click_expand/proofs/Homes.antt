@@ -1,7 +1,7 @@
 -- The use of the scope that a body is written in, where that body is used.
-use Rattle.std.proofs.Common.{◌≡◌, ◌⊎◌, inl, inr, ℕ, ◌+◌, ◌<◌, ◌≤◌, List, [], ◌∷◌, ◌++◌, length, Bool, true, false, cond, eqb, Option, Some, None, refl, sym, ap, ◌∙◌, subst, arith, Contains}
+use Rattle.std.proofs.Common.{◌≡◌, ◌⊎◌, inl, inr, ℕ, ◌<◌, ◌≤◌, List, [], ◌∷◌, ◌++◌, length, Bool, true, false, cond, eqb, Option, Some, None, refl, sym, ap, ◌∙◌, subst, arith, Contains}
 use Rattle.std.specs.List.{slice_get}
-use Rattle.std.proofs.lemmas.Bool.{ne_eqb, eq-eqb, eqb-false, eqb-true}
+use Rattle.std.proofs.lemmas.Bool.{ne_eqb, eqb-false, eqb-true}
 use Rattle.click_text.specs.declared.syntax.Statement.{Statement}
 use Rattle.click_text.specs.declared.syntax.Config.{Config}
 use Rattle.click_expand.specs.Scopes.{Scope, whole, inside, statements_of, formals_of, Stands, at_top, nested}
@@ -9,7 +9,7 @@ use Rattle.click_expand.specs.Parameters.{Bindings, arguments_for, argument_of, 
 use Rattle.click_expand.specs.Nesting.{direct, IsNested}
 use Rattle.click_expand.specs.Scoped.{place_of, outer_of, AreScopes}
 use Rattle.click_expand.specs.Uses.{Used}
-use Rattle.click_expand.specs.Using.{outer_by, home_by, Follows, here, behind, IsHomeIn}
+use Rattle.click_expand.specs.Using.{outer_by, Follows, here, behind, IsHomeIn}
 use Rattle.click_expand.specs.declared.classes.Entry.{Entry}
 use Rattle.click_expand.specs.declared.scopes.Scope.{Scope as ScopeKept}
 use Rattle.click_expand.specs.declared.uses.Use.{Use}
@@ -220,6 +220,10 @@ module _ (c : Config) where
       let t = scopes (inside b) v outer h in
       let q : outer_by (slice_get ks b) ≡ outer_of c outer = ap outer_by t.1 ∙ t.2.outer in
       let r = found uses known homes o.bindings outer (next-of (inside b) v outer b h refl) n u w (outer_by (slice_get ks b)) q k
-      (record { used = o; there = e; front = front; splits = s; agree = agree-refl o.bindings (o.scope ∷ o.around); within = omega arith }) in
-      (r.used, r.within, r.there, r.is,
-      agree-join ((b, values) ∷ o.bindings) o.bindings r.used.bindings outer (agree-new b values o.bindings outer (above n (inside b) v outer h b refl)) r.agree)
+      (record { used = o; there = e; front = front; splits = s; agree = agree-refl o.bindings (o.scope ∷ o.around); within = omega arith }) in (
+        r.used,
+        r.within,
+        r.there,
+        r.is,
+        agree-join ((b, values) ∷ o.bindings) o.bindings r.used.bindings outer (agree-new b values o.bindings outer (above n (inside b) v outer h b refl)) r.agree,
+      )

@@ -1,5 +1,5 @@
 -- The walk leaves a use that has all its parts, and ends behind the whole text.
-use Rattle.std.proofs.Common.{◌≡◌, ◌⊎◌, inl, inr, ℕ, ◌+◌, ◌<◌, ◌≤◌, List, [], ◌∷◌, ◌++◌, length, Option, Some, None, refl, sym, ap, ◌∙◌, subst, append_assoc, arith}
+use Rattle.std.proofs.Common.{◌≡◌, inl, inr, ℕ, ◌<◌, ◌≤◌, List, [], ◌∷◌, ◌++◌, length, Option, Some, None, refl, sym, ap, ◌∙◌, subst, arith}
 use Rattle.std.specs.List.{slice_get}
 use Rattle.std.proofs.lemmas.Bool.{cases_order}
 use Rattle.std.proofs.lemmas.Option.{slice_get_within}
@@ -8,13 +8,12 @@ use Rattle.click_text.specs.declared.syntax.Config.{Config}
 use Rattle.click_expand.specs.Elements.{Local}
 use Rattle.click_expand.specs.Instances.{Leaf, AreLeaves}
 use Rattle.click_expand.specs.Parameters.{value_in}
-use Rattle.click_expand.specs.Uses.{Used, locals_at, IsAround, IsHome, IsPart, AreParts, IsUse, AreUses}
-use Rattle.click_expand.specs.declared.uses.Part.{Part}
+use Rattle.click_expand.specs.Uses.{Used, locals_at, IsAround, IsHome, IsPart, IsUse, AreUses}
 use Rattle.click_expand.specs.declared.uses.Place.{Place}
 use Rattle.click_expand.specs.declared.uses.Use.{Use}
 use Rattle.click_expand.proofs.Homes.{same_some, IsHomeKept, agree-value}
-use Rattle.click_expand.proofs.Adding.{slice_get-there, IsSoFar, Kept}
-use Rattle.click_expand.proofs.Frames.{IsFull, Frame, Chain, outermost, within, Walking, IsWalked, end-case, at-so_far, at-within}
+use Rattle.click_expand.proofs.Adding.{slice_get-there, IsSoFar}
+use Rattle.click_expand.proofs.Frames.{IsFull, Frame, Chain, outermost, within, Walking, IsWalked, end-case, at-so_far}
 
 module _ (c : Config) where
   home-value : (known : List Used) (u : ℕ) (x : Used) (o : Option ℕ) → IsHomeKept c known u x o → IsHome c known u x o
@@ -52,11 +51,11 @@ module _ (c : Config) where
     full-behind u k a b e =
         elim (cases_order u at) [
           | inl s ↦
-            (let same : w.frame.kept ≡ k = same_some (sym w.frame.kept_there ∙ ap (slice_get uses) (sym s) ∙ e) in (
-              w.frame.used,
-              ap (slice_get w.known) s ∙ w.frame.used_there,
-              subst (λ (q : Use). length q.parts ≡ length (locals_at c w.frame.used)) same full-here,
-            ))
+              (let same : w.frame.kept ≡ k = same_some (sym w.frame.kept_there ∙ ap (slice_get uses) (sym s) ∙ e) in (
+                w.frame.used,
+                ap (slice_get w.known) s ∙ w.frame.used_there,
+                subst (λ (q : Use). length q.parts ≡ length (locals_at c w.frame.used)) same full-here,
+              ))
           | inr (inl s) ↦ absurd (omega (arith, s, a))
           | inr (inr s) ↦ (let t = w.upper_is in w.frame.full u k s (omega (arith, b, t)) e)
         ]
@@ -124,16 +123,18 @@ module _ (c : Config) where
         let start : at ≡ 0 = (subst (IsAround c w.known at w.frame.used) e (at-so_far c uses places at leaves n w).around).0 in
         let all : leaves ≡ w.done =
         w.splits ∙ ap (λ xs. w.done ++ (xs ++ w.outer)) last-leads.0
-        ∙ ap (λ xs. w.done ++ xs) (ended w.outer w.k (subst (λ o. Chain c uses w.known at o w.outer w.k) e w.chain)) ∙ append-nil w.done in
-        (w.known, subst (AreUses c uses places w.known) (sym all) (record {
-          as_many = w.kept.as_many;
-          as_many_leaves = w.kept.as_many_leaves;
-          first = w.kept.first;
-          each = λ u k g.
-              let r = w.kept.each u k g in
-              let b = slice_get_within uses u k g in
-              let f = full-behind u k (omega (arith, start)) b g in
-              let same : f.0 ≡ r.0 = same_some (sym f.1 ∙ r.1) in
-              (r.0, r.1, full-use uses places w.known u k r.0 (f.2 ∙ ap (λ (x : Used). length (locals_at c x)) same) r.2);
-          leaf = w.kept.leaf;
-        }))
+        ∙ ap (λ xs. w.done ++ xs) (ended w.outer w.k (subst (λ o. Chain c uses w.known at o w.outer w.k) e w.chain)) ∙ append-nil w.done in (
+          w.known,
+          subst (AreUses c uses places w.known) (sym all) (record {
+            as_many = w.kept.as_many;
+            as_many_leaves = w.kept.as_many_leaves;
+            first = w.kept.first;
+            each = λ u k g.
+                let r = w.kept.each u k g in
+                let b = slice_get_within uses u k g in
+                let f = full-behind u k (omega (arith, start)) b g in
+                let same : f.0 ≡ r.0 = same_some (sym f.1 ∙ r.1) in
+                (r.0, r.1, full-use uses places w.known u k r.0 (f.2 ∙ ap (λ (x : Used). length (locals_at c x)) same) r.2);
+            leaf = w.kept.leaf;
+          }),
+        )

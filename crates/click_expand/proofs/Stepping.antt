@@ -1,17 +1,16 @@
 -- One step of the walk over the uses.
-use Rattle.std.proofs.Common.{◌≡◌, ◌⊎◌, inl, inr, ℕ, suc, ◌+◌, ◌-◌, ◌*◌, ◌<◌, ◌≤◌, List, [], ◌∷◌, ◌++◌, map, length, Bool, true, false, cond, Option, Some, None, Vec, Global, refl, sym, ap, ◌∙◌, subst, arith}
+use Rattle.std.proofs.Common.{◌≡◌, ◌⊎◌, inl, inr, ℕ, ◌+◌, ◌-◌, ◌*◌, ◌<◌, ◌≤◌, List, [], ◌∷◌, ◌++◌, map, length, Bool, true, false, Option, Some, None, Vec, Global, refl, sym, ap, ◌∙◌, subst, arith}
 use Rattle.std.specs.List.{slice_get, slice_set}
 use Rattle.std.proofs.lemmas.List.{append-nil, length-set, length_push}
 use Rattle.click_text.specs.declared.syntax.Config.{Config}
-use Rattle.click_expand.specs.Classes.{Meaning, primitive, compound}
+use Rattle.click_expand.specs.Classes.{compound}
 use Rattle.click_expand.specs.Elements.{Local}
-use Rattle.click_expand.specs.Instances.{Leaf, LeavesOf}
+use Rattle.click_expand.specs.Instances.{Leaf}
 use Rattle.click_expand.specs.Nesting.{IsNested}
-use Rattle.click_expand.specs.Scoped.{place_of, AreScopes}
+use Rattle.click_expand.specs.Scoped.{AreScopes}
 use Rattle.click_expand.specs.Located.{AreAllLocals}
 use Rattle.click_expand.specs.Tables.{meaning_by, local_of}
-use Rattle.click_expand.specs.Uses.{Used, AreUses, locals_at}
-use Rattle.click_expand.specs.Using.{next_class, next_by, next_in, outer_by, with_part, bare_use, place_at, AreInward, IsAdded, IsEntered, IsLeft, IsStepBy, IsStep}
+use Rattle.click_expand.specs.Using.{next_class, next_by, next_in, with_part, bare_use, place_at, AreInward, IsAdded, IsEntered, IsLeft, IsStepBy, IsStep}
 use Rattle.click_expand.specs.declared.classes.ClassOf.{ClassOf}
 use Rattle.click_expand.specs.declared.classes.ClassOf.TheVariants as class
 use Rattle.click_expand.specs.declared.classes.Entry.{Entry}
@@ -24,8 +23,7 @@ use Rattle.click_expand.specs.declared.uses.Next.{Next}
 use Rattle.click_expand.specs.declared.uses.Next.TheVariants as next
 use Rattle.click_expand.specs.declared.uses.Walk.{Walk}
 use Rattle.click_expand.proofs.Homes.{same_some, IsHomeKept}
-use Rattle.click_expand.proofs.Adding.{IsSoFar, Kept}
-use Rattle.click_expand.proofs.Frames.{Walking, IsWalked, at-so_far, at-within, walking-first, walking-leaf}
+use Rattle.click_expand.proofs.Frames.{Walking, IsWalked, at-so_far, at-within, walking-leaf}
 use Rattle.click_expand.proofs.Entering.{walking-inner}
 use Rattle.click_expand.proofs.Leaving.{walking-back, walked}
 

@@ -1,7 +1,5 @@
-use Rattle.click_expand.proofs.Stepping.{left-less}
-use Rattle.std.proofs.Common.{◌≡◌, ◌<◌, ℕ, Bool, true, false, Option, Some, None, cond, eqb, length, arith, refl, sym, ap, ◌∙◌}
+use Rattle.std.proofs.Common.{◌≡◌, ℕ, Bool, true, false, Option, Some, None, cond, eqb, arith, sym}
 use Rattle.click_expand.specs.Using.{home_by, here, behind}
-use Rattle.click_expand.specs.declared.uses.Use.{Use}
 use Rattle.click_expand.proofs.uses.home_of.Goals as goal
 
 -- the use behind is the home
