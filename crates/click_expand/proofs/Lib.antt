@@ -11,6 +11,12 @@ pub mod Locating
 pub mod Ordered
 pub mod Least
 pub mod Finding
+pub mod Homes
+pub mod Adding
+pub mod Frames
+pub mod Entering
+pub mod Leaving
+pub mod Stepping
 pub mod Contained
 pub mod Founded
 pub mod Distinct

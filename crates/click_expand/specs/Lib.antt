@@ -20,3 +20,4 @@ pub mod Sizes
 pub mod Uses
 pub mod Tabled
 pub mod Misnamed
+pub mod Using
