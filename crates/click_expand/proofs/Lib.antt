@@ -9,4 +9,5 @@ pub mod Locating
 pub mod Ordered
 pub mod Least
 pub mod Finding
+pub mod Declaring
 pub mod ReadsBack
