@@ -10,4 +10,5 @@ pub mod Ordered
 pub mod Least
 pub mod Finding
 pub mod Declaring
+pub mod Ending
 pub mod ReadsBack
