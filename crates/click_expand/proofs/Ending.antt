@@ -14,7 +14,7 @@ use Rattle.click_text.specs.declared.syntax.Config.{Config}
 use Rattle.click_text.specs.Spans.{bytes_at}
 use Rattle.click_expand.specs.Elements.{Placed, Role, pseudo, refers, makes, role, role_by, word_role, word_of, is_port_name, input_name, output_name, counts, has_name, head_name, declared_names, element_meaning, made_name, Local, local, local_by, locals_from}
 use Rattle.click_expand.specs.Faults.{Names, end_by, end_of, first_token, number_behind, number_after, is_declared_as, declared_meaning}
-use Rattle.click_expand.specs.Tables.{elements_of, numbers_from}
+use Rattle.click_expand.specs.Tables.{elements_of, names_of, numbers_from}
 use Rattle.click_expand.specs.Joined.{IsOwner, IsEnd}
 use Rattle.click_expand.specs.Wrongs.{first_in}
 use Rattle.click_text.specs.declared.syntax.Body.{Body}
@@ -251,3 +251,32 @@ module _ (c : Config) (b : Bool) (ps : List Placed) (d : List (List ℕ)) (first
   pub ends-all : (i : ℕ) (ks : List EndKept) → length ws ≤ i → AreEnds (locals_in c.text b ps) c (names_in c.text b ps) 0 ks (take i ps) →
       AreEnds (locals_in c.text b ps) c (names_in c.text b ps) 0 ks ps
   ends-all i ks l = subst (AreEnds (locals_in c.text b ps) c (names_in c.text b ps) 0 ks) (take_all i ps (omega (arith, l, as_many)))
+
+names-placed : (text : List ℕ) (ps : List Placed) → names_of text (placed_elements ps) ≡ declared_names text ps
+names-placed text [] = refl
+names-placed text (p ∷ ps) = ap (cons_option (head_name text p.element.head)) (names-placed text ps)
+
+module _ (text : List ℕ) (b : Bool) where
+  pub numbers-length : (d : List (List ℕ)) (n : ℕ) (es : List Element) → length (numbers_from text b d n es) ≡ length es
+  unfolding numbers_from
+  numbers-length d n [] = refl
+  numbers-length d n (e ∷ es) = ap suc (numbers-length d (counts (role text b d e) n) es)
+
+  numbers-same : (d e : List (List ℕ)) (same : (q : List ℕ) → has_name q d ≡ has_name q e) (n : ℕ) (es : List Element) → numbers_from text b d n es ≡ numbers_from text b e n es
+  unfolding numbers_from
+  numbers-same d e same n [] = refl
+  numbers-same d e same n (x ∷ xs) =
+      ap (λ r. n ∷ numbers_from text b d (counts r n) xs) (role-same text b d e same x.head x.text)
+      ∙ ap (λ ns. n ∷ ns) (numbers-same d e same (counts (role text b e x) n) xs)
+
+  pub known-by : (ws : List Written) (d : List (List ℕ)) (firsts numbers : List ℕ) (ps : List Placed) → AreDeclared text (elements_of ws) d firsts →
+      ((q : List ℕ) → has_name q d ≡ has_name q (names_of text (elements_of ws))) → numbers ≡ numbers_from text b d 0 (elements_of ws) → placed_elements ps ≡ elements_of ws →
+      IsKnown text b d firsts numbers ps
+  known-by ws d firsts numbers ps h has counted same =
+      let names : names_of text (elements_of ws) ≡ declared_names text ps = ap (names_of text) (sym same) ∙ names-placed text ps in
+      let known : (q : List ℕ) → has_name q d ≡ has_name q (declared_names text ps) = λ q. has q ∙ ap (has_name q) names in
+      record {
+        declared = subst (λ es. AreDeclared text es d firsts) (sym same) h;
+        has = known;
+        counts = counted ∙ ap (numbers_from text b d 0) (sym same) ∙ numbers-same d (declared_names text ps) known 0 (placed_elements ps);
+      }

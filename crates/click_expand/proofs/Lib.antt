@@ -11,4 +11,5 @@ pub mod Least
 pub mod Finding
 pub mod Declaring
 pub mod Ending
+pub mod Pairing
 pub mod ReadsBack

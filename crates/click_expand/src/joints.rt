@@ -212,14 +212,15 @@ fn ends_of(
     let text = config.text.as_slice();
     let declared = declared_in(alloc, text, written)?;
     let numbers = numbers_of(alloc, text, in_body, &declared.names, written)?;
-    ends_at(
+    let ends = ends_at(
         alloc,
         config,
         in_body,
         &declared,
         numbers.as_slice(),
         written,
-    )
+    )?;
+    Ok(ends)
 }
 
 /// The connection from the end before to this one, where ports join them.
@@ -270,7 +271,8 @@ fn joints_in(
     ensures { IfOk result (λ joints. AreJointsOf config.now in_body written.now joints) }
 {
     let ends = ends_of(alloc, config, in_body, written)?;
-    joints_between(alloc, ends.as_slice(), written)
+    let joints = joints_between(alloc, ends.as_slice(), written)?;
+    Ok(joints)
 }
 
 /// Adds the connections of a scope at the end.
