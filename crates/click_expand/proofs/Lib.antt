@@ -12,4 +12,6 @@ pub mod Finding
 pub mod Declaring
 pub mod Ending
 pub mod Pairing
+pub mod Filling
+pub mod Connecting
 pub mod ReadsBack

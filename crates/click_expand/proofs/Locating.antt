@@ -92,7 +92,7 @@ ltb-self n = by_test (nat_lt n n) refl
     by_test true e = let l : n < n = ltb-true n n e in absurd (omega (arith, l))
     by_test false e = refl
 
-body-place : (c : Config) → IsNested c → (s : Scope) (v : List Statement) (a : List Scope) → Stands c s v a → nat_lt (place_of c s) (length c.bodies) ≡ is_body s
+pub body-place : (c : Config) → IsNested c → (s : Scope) (v : List Statement) (a : List Scope) → Stands c s v a → nat_lt (place_of c s) (length c.bodies) ≡ is_body s
 body-place c n whole v a h = ltb-self (length c.bodies)
 body-place c n (inside p) v a h = lt-ltb p (length c.bodies) (inside-within c n (inside p) v a h p refl)
 
