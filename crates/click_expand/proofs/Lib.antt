@@ -14,4 +14,12 @@ pub mod Ending
 pub mod Pairing
 pub mod Filling
 pub mod Connecting
+pub mod Contained
+pub mod Founded
+pub mod Distinct
+pub mod Leaves
+pub mod OrderedOnce
+pub mod FlatOnce
+pub mod Spelled
+pub mod FaultOnce
 pub mod ReadsBack
