@@ -4,6 +4,8 @@ pub mod Making
 pub mod Keeping
 pub mod Nesting
 pub mod Once
+pub mod Short
+pub mod Synonyms
 pub mod Walking
 pub mod Locating
 pub mod Ordered

@@ -16,7 +16,7 @@ use Rattle.click_expand.specs.Elements.{Placed, placed, pseudo, refers, makes, r
 use Rattle.click_expand.specs.Tables.{AreWritten, elements_of, names_of, local_of}
 use Rattle.click_expand.specs.Nesting.{IsNested}
 use Rattle.click_expand.specs.Scoped.{place_of, AreScopes}
-use Rattle.click_expand.specs.Located.{AreLocalsOf, AreAllLocals}
+use Rattle.click_expand.specs.Located.{AreLocalsOf, AreAllLocals, AreStringsOf, AreAllStrings, string_by, string_made, strings_made, strings_of}
 use Rattle.click_expand.specs.declared.classes.Entry.{Entry}
 use Rattle.click_expand.specs.declared.scopes.Written.{Written}
 use Rattle.click_expand.specs.declared.scopes.Scope.{Scope as ScopeKept}
@@ -34,6 +34,19 @@ module _ (text : List ℕ) where
       ap (λ (e : Element). cons_option (head_name text e.head) (names_of text (elements_of ws))) h.0.element
       ∙ ap (cons_option (head_name text p.element.head)) (declared-kept es ws ps h.1)
 
+  elements-kept : (es : List Entry) (ws : List Written) (ps : List Placed) → AreWritten text es ws ps → elements_of ws ≡ map (λ (p : Placed). p.element) ps
+  elements-kept es [] [] h = refl
+  elements-kept es [] (p ∷ ps) h = absurd h
+  elements-kept es (w ∷ ws) [] h = absurd h
+  elements-kept es (w ∷ ws) (p ∷ ps) h = ap (λ x. x ∷ elements_of ws) h.0.element ∙ ap (λ xs. p.element ∷ xs) (elements-kept es ws ps h.1)
+
+  -- the strings of a scope's elements as they are written
+  pub strings-kept : (es : List Entry) (in_body : Bool) (ws : List Written) (ps : List Placed) (ls : List LocalKept) → AreWritten text es ws ps → AreStringsOf text in_body ws ls →
+      strings_of ls ≡ strings_made text in_body (declared_names text ps) (map (λ (p : Placed). p.element) ps)
+  strings-kept es in_body ws ps ls k h =
+      h ∙ ap (λ d. strings_made text in_body d (elements_of ws)) (declared-kept es ws ps k)
+      ∙ ap (strings_made text in_body (declared_names text ps)) (elements-kept es ws ps k)
+
   module _ (in_body : Bool) (d e : List (List ℕ)) (same : (q : List ℕ) → has_name q d ≡ has_name q e) where
     pub role-same : (h : Head) (t : Option Span) → role_by text in_body d h t ≡ role_by text in_body e h t
     role-same (head.Word s) None =
@@ -41,6 +54,12 @@ module _ (text : List ℕ) where
     role-same (head.Word s) (Some t) = refl
     role-same (head.Declared s c) t = refl
     role-same (head.Compound b) t = refl
+
+    pub strings-same : (es : List Element) → strings_made text in_body d es ≡ strings_made text in_body e es
+    strings-same [] = refl
+    strings-same (x ∷ xs) =
+        ap (λ r. cons_option (string_by r x.text) (strings_made text in_body d xs)) (role-same x.head x.text)
+        ∙ ap (cons_option (string_made text in_body e x)) (strings-same xs)
 
     pub locals-same : (n : ℕ) (ps : List Placed) → locals_from text in_body d n ps ≡ locals_from text in_body e n ps
     unfolding locals_from
@@ -56,11 +75,16 @@ module _ (text : List ℕ) where
   locals-declared es in_body ws d ls same h = λ ps k.
       h ps k ∙ locals-same in_body d (declared_names text ps) (λ q. same q ∙ ap (has_name q) (declared-kept es ws ps k)) 0 ps
 
+pub strings-declared : (text : List ℕ) (in_body : Bool) (ws : List Written) (d : List (List ℕ)) (ls : List LocalKept) →
+    ((q : List ℕ) → has_name q d ≡ has_name q (names_of text (elements_of ws))) → strings_of ls ≡ strings_made text in_body d (elements_of ws) → AreStringsOf text in_body ws ls
+strings-declared text in_body ws d ls same h = h ∙ strings-same text in_body d (names_of text (elements_of ws)) same (elements_of ws)
+
 -- The scopes up to a place have their elements.
 pub record Located (c : Config) (es : List Entry) (ks : List ScopeKept) (all : List (Vec LocalKept Global)) (i : ℕ) : Type 0 where
   pub count : length all ≡ i
   pub each : (j : ℕ) (k : ScopeKept) → j < i → slice_get ks j ≡ Some k →
       (ls : Vec LocalKept Global) × (slice_get all j ≡ Some ls) × AreLocalsOf c.text es (nat_lt j (length c.bodies)) k.written.items ls.items
+      × AreStringsOf c.text (nat_lt j (length c.bodies)) k.written.items ls.items
 
 pub located-first : (c : Config) (es : List Entry) (ks : List ScopeKept) (all : List (Vec LocalKept Global)) → all ≡ [] → Located c es ks all 0
 located-first c es ks all e = record { count = ap length e; each = λ j k l. absurd (omega (arith, l)) }
@@ -69,8 +93,9 @@ some_same : {X : Type 0} {x y : X} → Some x ≡ Some y → x ≡ y
 some_same h = cc h
 
 pub located-next : (c : Config) (es : List Entry) (ks : List ScopeKept) (all new : List (Vec LocalKept Global)) (i : ℕ) (k : ScopeKept) (ls : Vec LocalKept Global) →
-    slice_get ks i ≡ Some k → AreLocalsOf c.text es (nat_lt i (length c.bodies)) k.written.items ls.items → new ≡ all ++ ls ∷ [] → Located c es ks all i → Located c es ks new (i + 1)
-located-next c es ks all new i k ls e h p w = record {
+    slice_get ks i ≡ Some k → AreLocalsOf c.text es (nat_lt i (length c.bodies)) k.written.items ls.items → AreStringsOf c.text (nat_lt i (length c.bodies)) k.written.items ls.items →
+    new ≡ all ++ ls ∷ [] → Located c es ks all i → Located c es ks new (i + 1)
+located-next c es ks all new i k ls e h g p w = record {
   count = ap length p ∙ length_push all ls ∙ ap (λ n. n + 1) w.count;
   each = λ j q l m. elim (cases_order j i) [
     | inl s ↦
@@ -79,8 +104,10 @@ located-next c es ks all new i k ls e h p w = record {
           ap (slice_get new) (s ∙ sym w.count) ∙ ap (λ x. slice_get x (length all)) p ∙ slice_get-last all ls,
           subst (λ n. AreLocalsOf c.text es (nat_lt n (length c.bodies)) q.written.items ls.items) (sym s)
               (subst (λ (x : ScopeKept). AreLocalsOf c.text es (nat_lt i (length c.bodies)) x.written.items ls.items) same h),
+          subst (λ n. AreStringsOf c.text (nat_lt n (length c.bodies)) q.written.items ls.items) (sym s)
+              (subst (λ (x : ScopeKept). AreStringsOf c.text (nat_lt i (length c.bodies)) x.written.items ls.items) same g),
         ))
-    | inr (inl s) ↦ (let r = w.each j q s m in (r.0, ap (λ x. slice_get x j) p ∙ slice_get-more all (ls ∷ []) j r.0 r.1, r.2))
+    | inr (inl s) ↦ (let r = w.each j q s m in (r.0, ap (λ x. slice_get x j) p ∙ slice_get-more all (ls ∷ []) j r.0 r.1, r.2, r.3))
     | inr (inr s) ↦ absurd (omega (arith, l, s))
   ];
 }
@@ -106,6 +133,21 @@ located-all c es ks all i n scopes l w = λ s v a h.
       r.2 (placed v (statements_of c s)) k.2.written
           ∙ ap (λ b. locals_from c.text b (declared_names c.text (placed v (statements_of c s))) 0 (placed v (statements_of c s))) (body-place c n s v a h),
     )
+
+pub located-strings : (c : Config) (es : List Entry) (ks : List ScopeKept) (all : List (Vec LocalKept Global)) (i : ℕ) → IsNested c → AreScopes c es ks → length ks ≤ i →
+    Located c es ks all i → AreAllStrings c all
+located-strings c es ks all i n scopes l w = λ s v a h.
+    let k = scopes s v a h in
+    let r = w.each (place_of c s) k.0 (let x = slice_get_within ks (place_of c s) k.0 k.1 in omega (arith, x, l)) k.1 in (
+      r.0,
+      r.1,
+      subst (λ b. strings_of r.0.items ≡ strings_made c.text b (declared_names c.text (placed v (statements_of c s))) (map (λ (p : Placed). p.element) (placed v (statements_of c s))))
+          (body-place c n s v a h) (strings-kept c.text es (nat_lt (place_of c s) (length c.bodies)) k.0.written.items (placed v (statements_of c s)) r.0.items k.2.written r.3),
+    )
+
+pub strings-as : (t t' : List ℕ) (b b' : Bool) (ws ws' : List Written) (ls : List LocalKept) → t ≡ t' → b ≡ b' → ws ≡ ws' → AreStringsOf t b ws ls → AreStringsOf t' b' ws' ls
+strings-as t t' b b' ws ws' ls p r s h =
+    subst (λ x. AreStringsOf x b' ws' ls) p (subst (λ x. AreStringsOf t x ws' ls) r (subst (λ x. AreStringsOf t b x ls) s h))
 
 pub locals-as : (t t' : List ℕ) (es es' : List Entry) (b b' : Bool) (ws ws' : List Written) (ls : List LocalKept) → t ≡ t' → es ≡ es' → b ≡ b' → ws ≡ ws' →
     AreLocalsOf t es b ws ls → AreLocalsOf t' es' b' ws' ls

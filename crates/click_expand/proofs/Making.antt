@@ -1,10 +1,11 @@
 -- The elements of a scope and the names that it declares, one after another.
-use Rattle.std.proofs.Common.{◌≡◌, ℕ, suc, zero, ◌+◌, ◌<◌, ◌≤◌, List, [], ◌∷◌, ◌++◌, map, length, get_or, take, drop, Bool, true, false, ◌||◌, cond, Some, None, refl, sym, ap, ◌∙◌, append_assoc, subst, arith}
+use Rattle.std.proofs.Common.{◌≡◌, ℕ, suc, zero, ◌+◌, ◌<◌, ◌≤◌, List, [], ◌∷◌, ◌++◌, map, length, get_or, take, drop, Bool, true, false, ◌||◌, cond, Option, Some, None, refl, sym, ap, ◌∙◌, append_assoc, subst, arith}
 use Rattle.std.specs.List.{list_any, cons_option}
 use Rattle.std.specs.Str.{bytes_eq}
 use Rattle.std.proofs.lemmas.List.{append-nil, at_drop_all, at_drop_more, take_more, take_all, map_push, length_push}
 use Rattle.std.proofs.lemmas.List.Elements.{filter_map-append}
 use Rattle.std.proofs.lemmas.Slice.Eq.{bytes_eq-Decides}
+use Rattle.click_text.specs.declared.syntax.Span.{Span}
 use Rattle.click_text.specs.declared.syntax.Element.{Element}
 use Rattle.click_text.specs.declared.syntax.Head.{Head}
 use Rattle.click_text.specs.declared.syntax.Head.TheVariants as head
@@ -15,6 +16,7 @@ use Rattle.click_expand.specs.declared.members.Role.{Role as RoleKept}
 use Rattle.click_expand.specs.declared.members.Role.TheVariants as kept
 use Rattle.click_expand.specs.Elements.{Placed, Role, pseudo, refers, makes, role, counts, has_name, head_name, Local, local, locals_from}
 use Rattle.click_expand.specs.Tables.{IsWritten, AreWritten, elements_of, names_of, numbers_from, local_of, role_by}
+use Rattle.click_expand.specs.Located.{string_by, string_made, strings_made, strings_of}
 
 any_push : {X : Type 0} (p : X → Bool) (xs : List X) (x : X) → list_any p (xs ++ x ∷ []) ≡ (list_any p xs || p x)
 any_push p [] x = elim (p x) as (λ b. (b || false) ≡ b) [ true ↦ refl | false ↦ refl ]
@@ -100,19 +102,19 @@ module _ (text : List ℕ) where
   written-length entries (w ∷ ws) (p ∷ ps) h = ap suc (written-length entries ws ps h.1)
 
   module _ (in_body : Bool) (declared : List (List ℕ)) where
-    locals-made : (n : ℕ) (p : Placed) (ps : List Placed) → role text in_body declared p.element ≡ makes →
+    pub locals-made : (n : ℕ) (p : Placed) (ps : List Placed) → role text in_body declared p.element ≡ makes →
         locals_from text in_body declared n (p ∷ ps) ≡ local text n p ∷ locals_from text in_body declared (n + 1) ps
     unfolding locals_from
     locals-made n p ps h = rw h refl
 
-    locals-other : (n : ℕ) (p : Placed) (ps : List Placed) (r : Role) → role text in_body declared p.element ≡ r → (r ≡ makes → ⊥) →
+    pub locals-other : (n : ℕ) (p : Placed) (ps : List Placed) (r : Role) → role text in_body declared p.element ≡ r → (r ≡ makes → ⊥) →
         locals_from text in_body declared n (p ∷ ps) ≡ locals_from text in_body declared n ps
     unfolding locals_from
     locals-other n p ps pseudo h k = rw h refl
     locals-other n p ps refers h k = rw h refl
     locals-other n p ps makes h k = absurd (k refl)
 
-    locals-end : (n : ℕ) → locals_from text in_body declared n [] ≡ []
+    pub locals-end : (n : ℕ) → locals_from text in_body declared n [] ≡ []
     unfolding locals_from
     locals-end n = refl
 
@@ -152,6 +154,41 @@ module _ (text : List ℕ) where
       made-all ls i l =
           at_drop_all (with_left ls) ps i (omega (arith, written-length entries ws ps h))
           ∙ ap (λ xs. map (local_of text) ls ++ xs) (locals-end (length ls)) ∙ append-nil (map (local_of text) ls)
+
+    -- the strings of the elements that are made, and of those that are left
+    abbrev pub strings_left : List LocalKept → List Written → List (Option Span)
+    strings_left ls ws = strings_of ls ++ strings_made text in_body declared (elements_of ws)
+
+    strings-next : (ls : List LocalKept) (ws : List Written) (i : ℕ) (d w : Written) (r : Role) → i < length ws → w ≡ get_or ws i d → role text in_body declared w.element ≡ r →
+        strings_left ls (drop i ws) ≡ strings_of ls ++ cons_option (string_by r w.element.text) (strings_made text in_body declared (elements_of (drop (i + 1) ws)))
+    strings-next ls ws i d w r l is m =
+        let rest = strings_made text in_body declared (elements_of (drop (i + 1) ws)) in
+        at_drop_more (strings_left ls) ws i d l
+        ∙ ap (λ (x : Written). strings_of ls ++ cons_option (string_made text in_body declared x.element) rest) (sym is)
+        ∙ ap (λ x. strings_of ls ++ cons_option (string_by x w.element.text) rest) m
+
+    pub strings-makes : (ls : List LocalKept) (l : LocalKept) (ws : List Written) (i : ℕ) (d w : Written) → i < length ws → w ≡ get_or ws i d →
+        role text in_body declared w.element ≡ makes → l.text ≡ w.element.text → strings_left ls (drop i ws) ≡ strings_left (ls ++ l ∷ []) (drop (i + 1) ws)
+    strings-makes ls l ws i d w lt is m t =
+        let rest = strings_made text in_body declared (elements_of (drop (i + 1) ws)) in
+        strings-next ls ws i d w makes lt is m
+        ∙ ap (λ x. strings_of ls ++ x ∷ rest) (sym t)
+        ∙ sym (append_assoc (strings_of ls) (l.text ∷ []) rest)
+        ∙ ap (λ xs. xs ++ rest) (sym (map_push (λ (x : LocalKept). x.text) ls l))
+
+    string-none : (r : Role) (t : Option Span) → (r ≡ makes → ⊥) → string_by r t ≡ None
+    string-none pseudo t h = refl
+    string-none refers t h = refl
+    string-none makes t h = absurd (h refl)
+
+    pub strings-other : (ls : List LocalKept) (ws : List Written) (i : ℕ) (d w : Written) (r : Role) → i < length ws → w ≡ get_or ws i d →
+        role text in_body declared w.element ≡ r → (r ≡ makes → ⊥) → strings_left ls (drop i ws) ≡ strings_left ls (drop (i + 1) ws)
+    strings-other ls ws i d w r lt is m k =
+        strings-next ls ws i d w r lt is m
+        ∙ ap (λ o. strings_of ls ++ cons_option o (strings_made text in_body declared (elements_of (drop (i + 1) ws)))) (string-none r w.element.text k)
+
+    pub strings-all : (ls : List LocalKept) (ws : List Written) (i : ℕ) → length ws ≤ i → strings_left ls (drop i ws) ≡ strings_of ls
+    strings-all ls ws i l = at_drop_all (strings_left ls) ws i l ∙ append-nil (strings_of ls)
 
     -- the numbers before these, of which so many are known
     abbrev pub numbers_left : List ℕ → ℕ → List Written → List ℕ

@@ -1,22 +1,27 @@
 -- The scopes of a configuration, one after another, from the whole text to the first body.
-use Rattle.std.proofs.Common.{◌≡◌, inl, inr, ℕ, ◌+◌, ◌-◌, ◌<◌, ◌≤◌, List, [], ◌∷◌, ◌++◌, map, reverse, length, get_or, Some, refl, sym, ap, ◌∙◌, subst, arith, Contains}
+use Rattle.std.proofs.Common.{◌≡◌, inl, inr, ℕ, ◌+◌, ◌-◌, ◌<◌, ◌≤◌, List, [], ◌∷◌, ◌++◌, map, reverse, length, get_or, None, Some, refl, sym, ap, ◌∙◌, subst, arith, Contains}
 use Rattle.std.specs.List.{slice_get}
 use Rattle.std.proofs.lemmas.Option.{slice_get-get_or}
 use Rattle.std.proofs.lemmas.Bool.{cases_order}
 use Rattle.std.proofs.lemmas.List.{map-append, length_push, length-reverse, get_or-reverse}
+use Rattle.click_text.specs.declared.syntax.Span.{Span}
 use Rattle.click_text.specs.declared.syntax.Statement.{Statement}
+use Rattle.click_text.specs.declared.syntax.Statement.TheVariants as statement
+use Rattle.click_text.specs.Spans.{bytes_at}
+use Rattle.click_expand.specs.Classes.{meaning}
 use Rattle.click_text.specs.declared.syntax.Body.{Body}
 use Rattle.click_text.specs.declared.syntax.Config.{Config}
 use Rattle.click_expand.specs.Scopes.{Scope, whole, inside, statements_of, Stands, at_top, nested}
 use Rattle.click_expand.specs.Elements.{placed}
-use Rattle.click_expand.specs.Tables.{Shows, AreWritten, IsMore}
+use Rattle.click_expand.specs.Tables.{meaning_by, Shows, AreWritten, IsMore}
 use Rattle.click_expand.specs.Nesting.{direct, Nests, no_bodies, next_body, IsNested}
-use Rattle.click_expand.specs.Standing.{Each, IsRoot, AreRoots}
-use Rattle.click_expand.specs.Scoped.{place_of, outer_of, IsScope, AreScopes}
+use Rattle.click_expand.specs.Standing.{Each, IsRoot, AreRoots, written_ports, HasSynonym, IsSynonymAmong, AddsSynonyms}
+use Rattle.click_expand.specs.Scoped.{place_of, outer_of, ports_in, IsScope, AreScopes, IsSynonym, AreSynonyms}
 use Rattle.click_expand.specs.declared.classes.Entry.{Entry}
 use Rattle.click_expand.specs.declared.scopes.Root.{Root}
 use Rattle.click_expand.specs.declared.scopes.Scope.{Scope as ScopeKept}
 use Rattle.click_expand.proofs.Keeping.{shows-grown, written-grown, each-append, slice_get-more, slice_get-last}
+use Rattle.click_expand.proofs.Synonyms.{synonym-grown}
 use Rattle.click_expand.proofs.Nesting.{nests-append}
 use Rattle.click_expand.proofs.Once.{inner, direct-has, child-range, root-range, place-in, stands-once}
 
@@ -49,6 +54,15 @@ module _ (c : Config) where
     pub shows : Shows c.text es r.top visible
     pub outer : r.outer ≡ outer_of c around
 
+  -- the synonyms of a scope are among the definitions
+  abbrev pub HasAll : List Entry → Scope → List Statement → Type 0
+  HasAll es s v = (before after : List Statement) (n w : Span) → statements_of c s ≡ before ++ statement.Synonym n w ∷ after →
+      HasSynonym c.text es w (meaning c.text (reverse before ++ v) (bytes_at c.text w))
+
+  -- the definitions with an original are synonyms
+  abbrev pub AreSound : List Entry → Type 0
+  AreSound es = (i : ℕ) (e : Entry) (w : Span) → slice_get es i ≡ Some e → e.original ≡ Some w → IsSynonym c w (meaning_by c.text e.class)
+
   -- A body that is done.
   pub record IsDone (es : List Entry) (ks : List ScopeKept) (p : ℕ) : Type 0 where
     pub visible : List Statement
@@ -57,6 +71,7 @@ module _ (c : Config) where
     pub stands : Stands c (inside p) visible around
     pub there : slice_get ks (length c.bodies - p) ≡ Some scope
     pub is : IsScope c es (inside p) visible around scope
+    pub synonyms : HasAll es (inside p) visible
 
   -- The whole text and all bodies from a place on are done; those that are left stand before it.
   pub record Walked (es : List Entry) (rs : List Root) (ks : List ScopeKept) : Type 0 where
@@ -67,6 +82,8 @@ module _ (c : Config) where
     pub first : ScopeKept
     pub first_there : slice_get ks 0 ≡ Some first
     pub first_is : IsScope c es whole [] [] first
+    pub first_synonyms : HasAll es whole []
+    pub sound : AreSound es
     pub done : (p : ℕ) → left ≤ p → p < length c.bodies → IsDone es ks p
 
   pending-grown : (es new : List Entry) (rs : List Root) → IsMore es new → Each (IsPending es) rs → Each (IsPending new) rs
@@ -77,7 +94,29 @@ module _ (c : Config) where
   )
 
   scope-grown : (es new : List Entry) (s : Scope) (v : List Statement) (a : List Scope) (k : ScopeKept) → IsMore es new → IsScope c es s v a k → IsScope c new s v a k
-  scope-grown es new s v a k m h = record { written = written-grown c.text es new k.written.items (placed v (statements_of c s)) m h.written; outer = h.outer }
+  scope-grown es new s v a k m h = record { written = written-grown c.text es new k.written.items (placed v (statements_of c s)) m h.written; ports = h.ports; outer = h.outer }
+
+  all-grown : (es new : List Entry) (s : Scope) (v : List Statement) → IsMore es new → HasAll es s v → HasAll new s v
+  all-grown es new s v m h = λ before after n w e. synonym-grown c.text es new w (meaning c.text (reverse before ++ v) (bytes_at c.text w)) m (h before after n w e)
+
+  sound-more : (es new : List Entry) (s : Scope) (v : List Statement) (a : List Scope) → Stands c s v a → AddsSynonyms c.text v (statements_of c s) es new → AreSound es → AreSound new
+  sound-more es new s v a st k h = λ i e w t o. elim (k.sound i e w t o) [
+    | inl p ↦ h i e w p o
+    | inr p ↦ record {
+      scope = s;
+      visible = v;
+      around = a;
+      stands = st;
+      before = p.before;
+      after = p.after;
+      name = p.name;
+      splits = p.splits;
+      meaning = p.meaning;
+    }
+  ]
+
+  sound-none : AreSound []
+  sound-none = λ i e w t o. let q : None ≡ Some e = t in absurd (cc q)
 
   roots-pending : (es : List Entry) (s : Scope) (v : List Statement) (a : List Scope) (rs : List Root) → Stands c s v a →
       Each (IsRoot c.text es (place_of c s) v (statements_of c s)) rs → Each (IsPending es) rs
@@ -93,16 +132,18 @@ module _ (c : Config) where
     roots-pending es s v a rs k h.1,
   )
 
-  pub walked-first : (es : List Entry) (rs : List Root) (k : ScopeKept) → IsNested c → AreWritten c.text es k.written.items (placed [] c.statements) → k.outer ≡ length c.bodies →
-      AreRoots c.text es (length c.bodies) [] c.statements [] rs → Walked es rs (k ∷ [])
-  walked-first es rs k n w o r = record {
+  pub walked-first : (es : List Entry) (rs : List Root) (k : ScopeKept) → IsNested c → AreWritten c.text es k.written.items (placed [] c.statements) → written_ports k.written.items ≡ ports_in c.statements → k.outer ≡ length c.bodies →
+      AreRoots c.text es (length c.bodies) [] c.statements [] rs → AddsSynonyms c.text [] c.statements [] es → Walked es rs (k ∷ [])
+  walked-first es rs k n w ports o r y = record {
     left = length c.bodies;
     count = omega arith;
     nests = subst (λ x. Nests c.bodies 0 (places x) (length c.bodies)) (sym r.is) (subst (λ x. Nests c.bodies 0 x (length c.bodies)) (sym r.bodies) n);
     pending = subst (Each (IsPending es)) (sym r.is) (roots-pending es whole [] [] r.more at_top r.each);
     first = k;
     first_there = refl;
-    first_is = record { written = w; outer = o };
+    first_is = record { written = w; ports = ports; outer = o };
+    first_synonyms = y.complete;
+    sound = sound-more [] es whole [] [] at_top y sound-none;
     done = λ p l m. absurd (omega (arith, l, m));
   }
 
@@ -140,6 +181,7 @@ module _ (c : Config) where
     stands = d.stands;
     there = ap (λ x. slice_get x (length c.bodies - p)) e ∙ slice_get-more ks (k ∷ []) (length c.bodies - p) d.scope d.there;
     is = scope-grown es new (inside p) d.visible d.around d.scope m d.is;
+    synonyms = all-grown es new (inside p) d.visible m d.synonyms;
   }
 
   done-next : (es new : List Entry) (ks ls : List ScopeKept) (k : ScopeKept) (b x : ℕ) → ls ≡ ks ++ k ∷ [] → IsMore es new → IsDone new ls b →
@@ -156,10 +198,11 @@ module _ (c : Config) where
 
   pub walked-next : (es new : List Entry) (all rs more : List Root) (r : Root) (ks ls : List ScopeKept) (k : ScopeKept) → all ≡ rs ++ r ∷ [] → Walked es all ks → IsMore es new →
       ((v : List Statement) → Shows c.text es r.top v → AreWritten c.text new k.written.items (placed v (statements_of c (inside r.body)))) →
-      k.outer ≡ r.outer →
+      written_ports k.written.items ≡ ports_in (statements_of c (inside r.body)) → k.outer ≡ r.outer →
       ((v : List Statement) → Shows c.text es r.top v → AreRoots c.text new r.body v (statements_of c (inside r.body)) rs more) →
+      ((v : List Statement) → Shows c.text es r.top v → AddsSynonyms c.text v (statements_of c (inside r.body)) es new) →
       ls ≡ ks ++ k ∷ [] → Walked new more ls
-  walked-next es new all rs more r ks ls k e w m f o g p =
+  walked-next es new all rs more r ks ls k e w m f ports o g y p =
       let t = taken es all rs r ks e w in
       let v = t.pending.visible in let a = t.pending.around in
       let q = g v t.pending.shows in
@@ -177,6 +220,8 @@ module _ (c : Config) where
         first = w.first;
         first_there = ap (λ x. slice_get x 0) p ∙ slice_get-more ks (k ∷ []) 0 w.first w.first_there;
         first_is = scope-grown es new whole [] [] w.first m w.first_is;
+        first_synonyms = all-grown es new whole [] m w.first_synonyms;
+        sound = sound-more es new (inside b) v a t.pending.stands (y v t.pending.shows) w.sound;
         done = λ x l n. done-next es new ks ls k b x p m
             (record {
               visible = v;
@@ -184,7 +229,8 @@ module _ (c : Config) where
               scope = k;
               stands = t.pending.stands;
               there = ap (λ y. slice_get y (length c.bodies - b)) p ∙ ap (slice_get (ks ++ k ∷ [])) (at_end b (length ks) (length c.bodies) count) ∙ slice_get-last ks k;
-              is = record { written = f v t.pending.shows; outer = o ∙ t.pending.outer };
+              is = record { written = f v t.pending.shows; ports = ports; outer = o ∙ t.pending.outer };
+              synonyms = (y v t.pending.shows).complete;
             }) t.done l n;
       }
 
@@ -237,29 +283,60 @@ module _ (c : Config) where
       by_scope whole h = by_whole v a h
       by_scope (inside p) h = by_body p h
 
+  pub walked-synonyms : (es : List Entry) (rs : List Root) (ks : List ScopeKept) → IsNested c → rs ≡ [] → Walked es rs ks → AreSynonyms c es
+  walked-synonyms es rs ks n e w = record {
+    sound = w.sound;
+    complete = λ s v a before after m x st q. let h = by_scope s v a st before after m x q in (h.place, h.entry, h.there, h.is, h.class);
+  }
+    where
+      none : 0 ≡ w.left
+      none = nests-end c.bodies 0 w.left (subst (λ x. Nests c.bodies 0 (places x) w.left) e w.nests)
+
+      by_whole : (v : List Statement) (a : List Scope) → Stands c whole v a → HasAll es whole v
+      by_whole v a at_top = w.first_synonyms
+
+      by_body : (p : ℕ) (v : List Statement) (a : List Scope) → Stands c (inside p) v a → HasAll es (inside p) v
+      by_body p v a h =
+          let d = w.done p (let x = none in omega arith) (inside-within n (inside p) v a h p refl) in
+          let o = stands-once c n (inside p) v d.visible a d.around h d.stands in
+          subst (HasAll es (inside p)) (sym o.0) d.synonyms
+
+      by_scope : (s : Scope) (v : List Statement) (a : List Scope) → Stands c s v a → HasAll es s v
+      by_scope whole v a h = by_whole v a h
+      by_scope (inside p) v a h = by_body p v a h
+
   -- the same for what the code reads
   pub walk-first : (text : List ℕ) (ss : List Statement) (n : ℕ) (es : List Entry) (rs0 rs : List Root) (ks0 ks : List ScopeKept) (k : ScopeKept) →
       ks ≡ ks0 ++ k ∷ [] → ks0 ≡ [] → rs0 ≡ [] → text ≡ c.text → ss ≡ c.statements → n ≡ length c.bodies → IsNested c →
-      AreWritten text es k.written.items (placed [] ss) → k.outer ≡ n → AreRoots text es n [] ss rs0 rs → Walked es rs ks
-  walk-first text ss n es rs0 rs ks0 ks k e e0 r0 te se ne is_nested w o r =
+      AreWritten text es k.written.items (placed [] ss) → written_ports k.written.items ≡ ports_in ss → k.outer ≡ n → AreRoots text es n [] ss rs0 rs →
+      (es0 : List Entry) → es0 ≡ [] → AddsSynonyms text [] ss es0 es → Walked es rs ks
+  walk-first text ss n es rs0 rs ks0 ks k e e0 r0 te se ne is_nested w ports o r es0 y0 y =
       subst (Walked es rs) (sym (e ∙ ap (λ x. x ++ k ∷ []) e0))
       (walked-first es rs k is_nested
       (subst (λ x. AreWritten x es k.written.items (placed [] c.statements)) te (subst (λ x. AreWritten text es k.written.items (placed [] x)) se w))
+      (ports ∙ ap ports_in se)
       (o ∙ ne)
       (subst (λ x. AreRoots x es (length c.bodies) [] c.statements [] rs) te
       (subst (λ x. AreRoots text es x [] c.statements [] rs) ne
       (subst (λ x. AreRoots text es n [] x [] rs) se
-      (subst (λ x. AreRoots text es n [] ss x rs) r0 r)))))
+      (subst (λ x. AreRoots text es n [] ss x rs) r0 r))))
+      (subst (λ x. AddsSynonyms x [] c.statements [] es) te
+      (subst (λ x. AddsSynonyms text [] x [] es) se
+      (subst (λ x. AddsSynonyms text [] ss x es) y0 y))))
 
   pub walk-next : (text : List ℕ) (ss : List Statement) (es new : List Entry) (all rs more : List Root) (r : Root) (ks ls : List ScopeKept) (k : ScopeKept) →
       ls ≡ ks ++ k ∷ [] → all ≡ rs ++ r ∷ [] → text ≡ c.text → ss ≡ statements_of c (inside r.body) → Walked es all ks → IsMore es new →
-      ((v : List Statement) → Shows text es r.top v → AreWritten text new k.written.items (placed v ss)) → k.outer ≡ r.outer →
-      ((v : List Statement) → Shows text es r.top v → AreRoots text new r.body v ss rs more) → Walked new more ls
-  walk-next text ss es new all rs more r ks ls k p e te se w m f o g =
+      ((v : List Statement) → Shows text es r.top v → AreWritten text new k.written.items (placed v ss)) → written_ports k.written.items ≡ ports_in ss → k.outer ≡ r.outer →
+      ((v : List Statement) → Shows text es r.top v → AreRoots text new r.body v ss rs more) →
+      ((v : List Statement) → Shows text es r.top v → AddsSynonyms text v ss es new) → Walked new more ls
+  walk-next text ss es new all rs more r ks ls k p e te se w m f ports o g y =
       walked-next es new all rs more r ks ls k e w m
       (λ v h. subst (λ x. AreWritten x new k.written.items (placed v (statements_of c (inside r.body)))) te
       (subst (λ x. AreWritten text new k.written.items (placed v x)) se (f v (subst (λ x. Shows x es r.top v) (sym te) h))))
+      (ports ∙ ap ports_in se)
       o
       (λ v h. subst (λ x. AreRoots x new r.body v (statements_of c (inside r.body)) rs more) te
       (subst (λ x. AreRoots text new r.body v x rs more) se (g v (subst (λ x. Shows x es r.top v) (sym te) h))))
+      (λ v h. subst (λ x. AddsSynonyms x v (statements_of c (inside r.body)) es new) te
+      (subst (λ x. AddsSynonyms text v x es new) se (y v (subst (λ x. Shows x es r.top v) (sym te) h))))
       p

@@ -1,12 +1,14 @@
 -- The elements of each scope, as the code keeps them.
-use Rattle.std.specs.Prelude.{◌≡◌, ℕ, List, map, slice_get, Bool, Some, Vec}
+use Rattle.std.specs.Prelude.{◌≡◌, ℕ, List, map, filter_map, slice_get, Bool, Option, Some, None, Vec}
 use Rattle.std.specs.Global.{Global}
+use Rattle.click_text.specs.declared.syntax.Span.{Span}
+use Rattle.click_text.specs.declared.syntax.Element.{Element}
 use Rattle.click_text.specs.declared.syntax.Statement.{Statement}
 use Rattle.click_text.specs.declared.syntax.Config.{Config}
-use Rattle.click_expand.specs.Scopes.{Scope, Stands}
-use Rattle.click_expand.specs.Elements.{Placed, declared_names, locals_from}
-use Rattle.click_expand.specs.Faults.{scope_locals}
-use Rattle.click_expand.specs.Tables.{AreWritten, local_of}
+use Rattle.click_expand.specs.Scopes.{Scope, is_body, Stands}
+use Rattle.click_expand.specs.Elements.{Placed, Role, pseudo, refers, makes, role, declared_names, locals_from}
+use Rattle.click_expand.specs.Faults.{scope_placed, scope_declared, scope_locals}
+use Rattle.click_expand.specs.Tables.{AreWritten, elements_of, names_of, local_of}
 use Rattle.click_expand.specs.Scoped.{place_of}
 use Rattle.click_expand.specs.declared.classes.Entry.{Entry}
 use Rattle.click_expand.specs.declared.scopes.Written.{Written}
@@ -22,3 +24,32 @@ abbrev pub AreAllLocals : Config → List (Vec LocalKept Global) → Type 0
 AreAllLocals c all =
     (s : Scope) (visible : List Statement) (around : List Scope) → Stands c s visible around →
     (ls : Vec LocalKept Global) × (slice_get all (place_of c s) ≡ Some ls) × (map (local_of c.text) ls.items ≡ scope_locals c s visible)
+
+-- the configuration string of an element that makes one: None where none is written
+abbrev pub string_by : Role → Option Span → Option (Option Span)
+string_by makes t = Some t
+string_by refers t = None
+string_by pseudo t = None
+
+abbrev pub string_made : List ℕ → Bool → List (List ℕ) → Element → Option (Option Span)
+string_made text in_body declared e = string_by (role text in_body declared e) e.text
+
+-- those of the elements that these make
+abbrev pub strings_made : List ℕ → Bool → List (List ℕ) → List Element → List (Option Span)
+strings_made text in_body declared es = filter_map (string_made text in_body declared) es
+
+abbrev pub strings_of : List LocalKept → List (Option Span)
+strings_of ls = map (λ (l : LocalKept). l.text) ls
+
+-- the strings of the elements of a scope that is written so
+abbrev pub AreStringsOf : List ℕ → Bool → List Written → List LocalKept → Type 0
+AreStringsOf text in_body ws ls = strings_of ls ≡ strings_made text in_body (names_of text (elements_of ws)) (elements_of ws)
+
+abbrev pub scope_strings : Config → Scope → List Statement → List (Option Span)
+scope_strings c s visible = strings_made c.text (is_body s) (scope_declared c s visible) (map (λ (p : Placed). p.element) (scope_placed c s visible))
+
+-- the configuration strings of the elements of each scope, by its place in the table
+abbrev pub AreAllStrings : Config → List (Vec LocalKept Global) → Type 0
+AreAllStrings c all =
+    (s : Scope) (visible : List Statement) (around : List Scope) → Stands c s visible around →
+    (ls : Vec LocalKept Global) × (slice_get all (place_of c s) ≡ Some ls) × (strings_of ls.items ≡ scope_strings c s visible)

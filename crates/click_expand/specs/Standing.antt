@@ -1,5 +1,6 @@
 -- What the code keeps of the statements of a scope.
-use Rattle.std.specs.Prelude.{◌≡◌, ℕ, List, [], ◌∷◌, ◌++◌, reverse, map, Contains, Option, Some, None}
+use Rattle.std.specs.Prelude.{◌≡◌, ◌⊎◌, ℕ, List, [], ◌∷◌, ◌++◌, reverse, map, slice_get, Contains, Option, Some, None}
+use Rattle.std.specs.List.{cons_option}
 use Rattle.click_text.specs.declared.syntax.Span.{Span}
 use Rattle.click_text.specs.declared.syntax.Head.TheVariants as head
 use Rattle.click_text.specs.declared.syntax.Element.{Element}
@@ -8,13 +9,15 @@ use Rattle.click_text.specs.declared.syntax.Declaration.{Declaration}
 use Rattle.click_text.specs.declared.syntax.Statement.{Statement}
 use Rattle.click_text.specs.declared.syntax.Statement.TheVariants as statement
 use Rattle.click_text.specs.Grammar.{element}
+use Rattle.click_text.specs.Spans.{bytes_at}
+use Rattle.click_expand.specs.Classes.{Meaning, meaning}
 use Rattle.click_expand.specs.Faults.{port_number}
 use Rattle.click_expand.specs.declared.scopes.Written.{Written}
 use Rattle.click_expand.specs.declared.scopes.Root.{Root}
 use Rattle.click_expand.specs.declared.classes.Entry.{Entry}
 use Rattle.click_expand.specs.Scopes.{bodies_in}
 use Rattle.click_expand.specs.Nesting.{direct}
-use Rattle.click_expand.specs.Tables.{Shows}
+use Rattle.click_expand.specs.Tables.{meaning_by, Shows, IsEntry}
 
 abbrev pub kept : Element → Option ℕ → Option (ℕ × ℕ) → Written
 kept e top ports = record { element = e; top = top; ports = ports }
@@ -57,3 +60,35 @@ pub record AreRoots (text : List ℕ) (entries : List Entry) (scope : ℕ) (visi
   pub is : new ≡ old ++ more
   pub bodies : map (λ (r : Root). r.body) more ≡ direct statements
   pub each : Each (IsRoot text entries scope visible statements) more
+
+abbrev pub written_ports : List Written → List (Option (ℕ × ℕ))
+written_ports ws = map (λ (w : Written). w.ports) ws
+
+-- What a statement adds to the definitions behind those that are visible before it: one at the end, or none.
+pub record IsDefined (text : List ℕ) (visible : List Statement) (top : Option ℕ) (st : Statement) (old new : List Entry) : Type 0 where
+  pub entry : Option Entry
+  pub is : IsEntry text visible top st entry
+  pub added : new ≡ old ++ cons_option entry []
+
+-- One of these definitions is that synonym, with that meaning.
+pub record HasSynonym (text : List ℕ) (entries : List Entry) (original : Span) (m : Option Meaning) : Type 0 where
+  pub place : ℕ
+  pub entry : Entry
+  pub there : slice_get entries place ≡ Some entry
+  pub is : entry.original ≡ Some original
+  pub class : meaning_by text entry.class ≡ m
+
+-- A synonym among these statements, and what its class means.
+pub record IsSynonymAmong (text : List ℕ) (visible statements : List Statement) (original : Span) (m : Option Meaning) : Type 0 where
+  pub before : List Statement
+  pub after : List Statement
+  pub name : Span
+  pub splits : statements ≡ before ++ statement.Synonym name original ∷ after
+  pub meaning : m ≡ meaning text (reverse before ++ visible) (bytes_at text original)
+
+-- the synonyms among the definitions that are added are those of these statements
+pub record AddsSynonyms (text : List ℕ) (visible statements : List Statement) (old new : List Entry) : Type 0 where
+  pub sound : (i : ℕ) (e : Entry) (w : Span) → slice_get new i ≡ Some e → e.original ≡ Some w →
+      (slice_get old i ≡ Some e) ⊎ IsSynonymAmong text visible statements w (meaning_by text e.class)
+  pub complete : (before after : List Statement) (n w : Span) → statements ≡ before ++ statement.Synonym n w ∷ after →
+      HasSynonym text new w (meaning text (reverse before ++ visible) (bytes_at text w))

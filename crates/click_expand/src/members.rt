@@ -5,7 +5,7 @@ ghost use Rattle.click_expand.specs.Elements as spec;
 ghost use Rattle.click_expand.specs.Elements.{Placed, has_name, locals_from};
 ghost use Rattle.click_expand.specs.Nesting.{IsNested};
 ghost use Rattle.click_expand.specs.Scoped.{AreScopes};
-ghost use Rattle.click_expand.specs.Located.{AreLocalsOf, AreAllLocals};
+ghost use Rattle.click_expand.specs.Located.{AreLocalsOf, AreStringsOf, AreAllLocals, AreAllStrings, strings_of, strings_made};
 ghost use Rattle.click_expand.specs.Tables.{IsWritten, AreWritten, elements_of, names_of, numbers_from, role_by, local_of};
 
 use crate::classes::{ClassOf, Entry, class_at};
@@ -123,7 +123,8 @@ fn made(
     one: Written,
 ) -> Result<Local, AllocError>
     requires { before < usize.MAX }
-    ensures { IfOk result (λ l. (p : Placed) → IsWritten text.now entries.now one p → local_of text.now l ≡ spec.local text.now before p) }
+    ensures local { IfOk result (λ l. (p : Placed) → IsWritten text.now entries.now one p → local_of text.now l ≡ spec.local text.now before p) }
+    ensures string { IfOk result (λ l. l.text ≡ one.element.text) }
 {
     Ok(Local {
         name: made_name(alloc, text, before, one.element.head)?,
@@ -150,7 +151,8 @@ fn locals_of(
     declared: &Names,
     written: &[Written],
 ) -> Result<Vec<Local>, AllocError>
-    ensures { IfOk result (λ ls. (ps : List Placed) → AreWritten text.now entries.now written.now ps → map (local_of text.now) ls.items ≡ locals_from text.now in_body declared.now 0 ps) }
+    ensures locals { IfOk result (λ ls. (ps : List Placed) → AreWritten text.now entries.now written.now ps → map (local_of text.now) ls.items ≡ locals_from text.now in_body declared.now 0 ps) }
+    ensures strings { IfOk result (λ ls. strings_of ls.items ≡ strings_made text.now in_body declared.now (elements_of written.now)) }
 {
     let mut locals = Vec::new(alloc);
     for one in written {
@@ -191,7 +193,8 @@ fn locals_in(
     in_body: bool,
     written: &[Written],
 ) -> Result<Vec<Local>, AllocError>
-    ensures { IfOk result (λ ls. AreLocalsOf text.now entries.now in_body written.now ls.items) }
+    ensures locals { IfOk result (λ ls. AreLocalsOf text.now entries.now in_body written.now ls.items) }
+    ensures strings { IfOk result (λ ls. AreStringsOf text.now in_body written.now ls.items) }
 {
     let declared = declared_of(alloc, text, written)?;
     let locals = locals_of(alloc, text, entries, in_body, &declared, written)?;
@@ -214,7 +217,8 @@ pub fn all_locals(
 ) -> Result<Vec<Vec<Local>>, AllocError>
     requires nested { IsNested config.now }
     requires scoped { AreScopes config.now scopes.now.entries.items scopes.now.scopes.items }
-    ensures { IfOk result (λ all. AreAllLocals config.now all.items) }
+    ensures locals { IfOk result (λ all. AreAllLocals config.now all.items) }
+    ensures strings { IfOk result (λ all. AreAllStrings config.now all.items) }
 {
     let text = config.text.as_slice();
     let count = config.bodies.len();

@@ -7,8 +7,8 @@ ghost use Rattle.click_expand.specs.Elements.{placed};
 ghost use Rattle.click_expand.specs.Faults as faults;
 ghost use Rattle.click_expand.specs.Tables.{Shows, AreWritten, IsMore, IsEntry};
 ghost use Rattle.click_expand.specs.Nesting.{IsNested};
-ghost use Rattle.click_expand.specs.Scoped.{AreScopes, AreSynonyms};
-ghost use Rattle.click_expand.specs.Standing.{kept_link, kept_name, kept_elements, root, AreRoots};
+ghost use Rattle.click_expand.specs.Scoped.{AreScopes, AreSynonyms, ports_in};
+ghost use Rattle.click_expand.specs.Standing.{kept_link, kept_name, kept_elements, root, AreRoots, written_ports, IsDefined, AddsSynonyms};
 
 use crate::classes::{ClassOf, Entry, find};
 use click_text::syntax::{
@@ -248,6 +248,7 @@ fn define(
 ) -> Result<Option<usize>, AllocError>
     ensures grows { IsMore entries.old.items entries.new.items }
     ensures shows { IfOk result (λ behind. (visible : List Stated) → Shows text.now entries.old.items top visible → Shows text.now entries.new.items behind (statement.now ∷ visible)) }
+    ensures adds { OnOk result ((visible : List Stated) → Shows text.now entries.old.items top visible → IsDefined text.now visible top statement.now entries.old.items entries.new.items) }
 {
     match entry_of(text, entries.as_slice(), statement, top) {
         None => Ok(top),
@@ -272,6 +273,8 @@ fn written_of(
     ensures grows { IsMore entries.old.items entries.new.items }
     ensures written { IfOk result (λ ws. (visible : List Stated) → Shows text.now entries.old.items outside visible → AreWritten text.now entries.new.items ws.items (placed visible statements.now)) }
     ensures roots { OnOk result ((visible : List Stated) → Shows text.now entries.old.items outside visible → AreRoots text.now entries.new.items scope visible statements.now roots.old.items roots.new.items) }
+    ensures ports { IfOk result (λ ws. written_ports ws.items ≡ ports_in statements.now) }
+    ensures synonyms { OnOk result ((visible : List Stated) → Shows text.now entries.old.items outside visible → AddsSynonyms text.now visible statements.now entries.old.items entries.new.items) }
 {
     let mut written = Vec::new(alloc);
     let mut top = outside;

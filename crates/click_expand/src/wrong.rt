@@ -48,7 +48,7 @@ fn comes_before(a: Wrong, b: Wrong) -> bool
 }
 
 /// The first of two, where there are such.
-fn first_of(a: Option<Wrong>, b: Option<Wrong>) -> Option<Wrong>
+pub fn first_of(a: Option<Wrong>, b: Option<Wrong>) -> Option<Wrong>
     ensures { result ≡ spec.first_of a b }
 {
     match (a, b) {

@@ -1,7 +1,7 @@
-use Rattle.std.proofs.Common.{◌≡◌, Some, length, nat_lt, refl, sym, ap, ◌∙◌, arith}
+use Rattle.std.proofs.Common.{◌≡◌, ◌≤◌, Some, length, nat_lt, refl, sym, ap, ◌∙◌, arith}
 use Rattle.std.specs.List.{slice_get}
 use Rattle.std.proofs.lemmas.Option.{slice_get_read}
-use Rattle.click_expand.proofs.Locating.{located-next, located-all, locals-as}
+use Rattle.click_expand.proofs.Locating.{located-next, located-all, located-strings, locals-as, strings-as}
 use Rattle.click_expand.proofs.members.all_locals.Goals as goal
 
 pub loop-place-preserved : goal.loop-place-preserved
@@ -14,12 +14,17 @@ loop-place-preserved c =
       v.0,
       located-next config es ks c.loop-place.all.items c.push_locals.new.all.items i k ls there
           (locals-as c.as_slice-text.result.now config.text c.as_slice-entries.result.now es _ _ c.as_slice.result.now k.written.items ls.items
-          c.as_slice-text.ensures c.as_slice-entries.ensures.value count c.as_slice.ensures.value c.in_ok-locals.ensures)
+          c.as_slice-text.ensures c.as_slice-entries.ensures.value count c.as_slice.ensures.value c.in_ok-locals.ensures.locals)
+          (strings-as c.as_slice-text.result.now config.text _ _ c.as_slice.result.now k.written.items ls.items c.as_slice-text.ensures count c.as_slice.ensures.value c.in_ok-locals.ensures.strings)
           c.in_ok-push_locals.ensures v.1,
     )
 
 pub returns : goal.returns
 returns c =
-    let v = c.loop-place.invariant in
-    located-all c.args.config.now c.args.scopes.now.entries.items c.args.scopes.now.scopes.items c.loop-place.all.items c.loop-place.place c.requires.nested c.requires.scoped
-    (let h = ap length v.0 in let t = c.loop-place-test.false in omega (arith, h, t)) v.1
+    let v = c.loop-place.invariant in let config = c.args.config.now in let es = c.args.scopes.now.entries.items in let ks = c.args.scopes.now.scopes.items in
+    let i = c.loop-place.place in
+    let past : length ks ≤ i = (let h = ap length v.0 in let t = c.loop-place-test.false in omega (arith, h, t)) in
+    record {
+      locals = located-all config es ks c.loop-place.all.items i c.requires.nested c.requires.scoped past v.1;
+      strings = located-strings config es ks c.loop-place.all.items i c.requires.nested c.requires.scoped past v.1;
+    }

@@ -1,4 +1,5 @@
-use Rattle.std.proofs.Common.{◌≡◌, ◌∷◌, Some, length, sym, subst, rules}
+use Rattle.std.proofs.Common.{◌≡◌, ◌∷◌, None, Some, length, sym, subst, rules}
+use Rattle.std.proofs.lemmas.List.{append-nil}
 use Rattle.click_expand.specs.Tables.{Shows}
 use Rattle.click_expand.proofs.Keeping.{defined}
 use Rattle.click_expand.proofs.scopes.define.Goals as goal
@@ -10,3 +11,20 @@ returns-in_ok-push-in-Some-clause-shows c = λ visible h.
     let d = defined text es c.args.top visible st e (c.in-Some.ensures visible (subst (λ x. Shows text x c.args.top visible) (sym c.as_slice.ensures.value) h)) h in
     subst (λ n. Shows text c.push.new.self.items (Some n) (st ∷ visible)) (sym k)
     (subst (λ x. Shows text x (Some (length es)) (st ∷ visible)) (sym c.in_ok-push-in-Some.ensures.items) d)
+
+pub returns-in_ok-push-in-Some-clause-adds : goal.returns-in_ok-push-in-Some-clause-adds
+returns-in_ok-push-in-Some-clause-adds c = λ visible h.
+    let text = c.args.text.now in let e = c.in-Some.entry in
+    record {
+      entry = Some e;
+      is = c.in-Some.ensures visible (subst (λ x. Shows text x c.args.top visible) (sym c.as_slice.ensures.value) h);
+      added = c.in_ok-push-in-Some.ensures.items;
+    }
+
+pub returns-in-None-clause-adds : goal.returns-in-None-clause-adds
+returns-in-None-clause-adds c = λ visible h.
+    record {
+      entry = None;
+      is = c.in-None.ensures visible (subst (λ x. Shows c.args.text.now x c.args.top visible) (sym c.as_slice.ensures.value) h);
+      added = sym (append-nil c.args.entries.now.items);
+    }
