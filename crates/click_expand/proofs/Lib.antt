@@ -23,5 +23,6 @@ pub mod Leaves
 pub mod OrderedOnce
 pub mod FlatOnce
 pub mod Spelled
+pub mod Porting
 pub mod FaultOnce
 pub mod ReadsBack

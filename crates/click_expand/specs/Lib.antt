@@ -19,3 +19,4 @@ pub mod Called
 pub mod Sizes
 pub mod Uses
 pub mod Joining
+pub mod Misused
