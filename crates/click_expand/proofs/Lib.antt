@@ -18,6 +18,11 @@ pub mod Entering
 pub mod Leaving
 pub mod Stepping
 pub mod Weighing
+pub mod Declaring
+pub mod Ending
+pub mod Pairing
+pub mod Filling
+pub mod Connecting
 pub mod Contained
 pub mod Founded
 pub mod Distinct
@@ -25,6 +30,7 @@ pub mod Leaves
 pub mod OrderedOnce
 pub mod FlatOnce
 pub mod Spelled
+pub mod Porting
 pub mod FaultOnce
 pub mod Misnaming
 pub mod Naming

@@ -22,3 +22,5 @@ pub mod Tabled
 pub mod Misnamed
 pub mod Using
 pub mod Counted
+pub mod Joining
+pub mod Misused

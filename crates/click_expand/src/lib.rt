@@ -15,6 +15,7 @@ pub mod misnamed;
 pub mod misused;
 pub mod names;
 pub mod order;
+pub mod ports;
 pub mod scopes;
 pub mod sizes;
 pub mod uses;
