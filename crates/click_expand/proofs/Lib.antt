@@ -10,3 +10,5 @@ pub mod Ordered
 pub mod Least
 pub mod Finding
 pub mod ReadsBack
+pub mod Indexing
+pub mod Derived

@@ -18,3 +18,4 @@ pub mod Joined
 pub mod Called
 pub mod Sizes
 pub mod Uses
+pub mod Wiring

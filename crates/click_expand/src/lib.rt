@@ -16,6 +16,7 @@ pub mod names;
 pub mod order;
 pub mod scopes;
 pub mod sizes;
+pub mod starts;
 pub mod uses;
 pub mod whole;
 pub mod wiring;
