@@ -12,3 +12,4 @@ pub mod Finding
 pub mod ReadsBack
 pub mod Indexing
 pub mod Derived
+pub mod Searching
