@@ -9,6 +9,14 @@ pub mod Locating
 pub mod Ordered
 pub mod Least
 pub mod Finding
+pub mod Contained
+pub mod Founded
+pub mod Distinct
+pub mod Leaves
+pub mod OrderedOnce
+pub mod FlatOnce
+pub mod Spelled
+pub mod FaultOnce
 pub mod ReadsBack
 pub mod Indexing
 pub mod Derived

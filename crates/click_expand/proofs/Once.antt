@@ -10,10 +10,10 @@ use Rattle.click_text.specs.declared.syntax.Config.{Config}
 use Rattle.click_expand.specs.Scopes.{Scope, whole, inside, bodies_in, body_statements, statements_of, Stands, at_top, nested}
 use Rattle.click_expand.specs.Nesting.{direct, Nests, no_bodies, next_body, IsNested}
 
-contains-nil : {X : Type 0} (x : X) → Contains [] x → ⊥
+pub contains-nil : {X : Type 0} (x : X) → Contains [] x → ⊥
 contains-nil x h = omega (arith, h.1)
 
-contains-cons : {X : Type 0} (x : X) (xs : List X) (y : X) → Contains (x ∷ xs) y → (x ≡ y) ⊎ Contains xs y
+pub contains-cons : {X : Type 0} (x : X) (xs : List X) (y : X) → Contains (x ∷ xs) y → (x ≡ y) ⊎ Contains xs y
 contains-cons x xs y (zero, l, e) = inl e
 contains-cons x xs y (suc k, l, e) = inr (k, omega (arith, l), e)
 
@@ -25,7 +25,7 @@ module _ (bodies : List Body) where
   abbrev pub inner : ℕ → List ℕ
   inner p = direct (body_statements (slice_get bodies p))
 
-  nests-order : (a : ℕ) (rs : List ℕ) (z : ℕ) → Nests bodies a rs z → a ≤ z
+  pub nests-order : (a : ℕ) (rs : List ℕ) (z : ℕ) → Nests bodies a rs z → a ≤ z
   nests-order a rs z (no_bodies at) = omega arith
   nests-order a rs z (next_body from b to bs l h k) = let p = nests-order from (inner b) b h in let q = nests-order (b + 1) bs to k in omega arith
 
