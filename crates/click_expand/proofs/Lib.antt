@@ -21,3 +21,5 @@ pub mod ReadsBack
 pub mod Indexing
 pub mod Derived
 pub mod Searching
+pub mod Chains
+pub mod Following

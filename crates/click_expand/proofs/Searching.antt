@@ -1,5 +1,5 @@
 -- A search over the ports of uses, one connection as written after another.
-use Rattle.std.proofs.Common.{◌≡◌, ◌⊎◌, inl, inr, ℕ, ◌+◌, ◌<◌, ◌≤◌, zero, suc, List, [], ◌∷◌, ◌++◌, length, get_or, take, map, Bool, true, false, ◌&&◌, nat_eq, cond, Option, Some, None, Vec, Global, Contains, refl, sym, ap, ◌∙◌, subst, append_assoc, arith}
+use Rattle.std.proofs.Common.{◌≡◌, ◌⊎◌, inl, inr, ℕ, ◌+◌, ◌<◌, ◌≤◌, zero, suc, List, [], ◌∷◌, ◌++◌, length, get_or, take, map, Bool, true, false, ◌&&◌, nat_eq, cond, Option, Some, None, Vec, Global, Contains, refl, sym, ap, ◌∙◌, subst, append_assoc, append-nil, arith}
 use Rattle.std.specs.List.{slice_get, list_any}
 use Rattle.std.proofs.lemmas.Bool.{and_parts, eqb-true, cases_Bool, cases_order}
 use Rattle.std.proofs.lemmas.List.{take_more, map_push, length_push, length-append}
@@ -54,7 +54,7 @@ map-contains f (z ∷ xs) x (suc k, l, e) = Contains-append_right (f z ∷ []) (
 
 module _ {X : Type 0} (P : X → Type 0) where
   pub gains-none : (xs : List X) → Gains P xs xs
-  gains-none xs = record { more = []; is = simp append_nil; each = λ x h. absurd (omega (arith, h.1)) }
+  gains-none xs = record { more = []; is = simp append-nil; each = λ x h. absurd (omega (arith, h.1)) }
 
   pub gains-trans : (a b d : List X) → Gains P a b → Gains P b d → Gains P a d
   gains-trans a b d g h = record {
@@ -183,11 +183,11 @@ module _ (uses : List Use) (indices : List Index) where
     }
 
   pub visits-none : (s : Start) (leaf number : ℕ) (a : List Start) (f : List Connection) → ((n : Next) → StepsTo uses indices s n → ⊥) → Visits uses indices s leaf number a a f f
-  visits-none s leaf number a f no = record {
+  visits-none s leaf number a f none = record {
     seen = gains-none (λ u. StepsTo uses indices s (next.Start u)) a;
-    seen_all = λ u h. absurd (no (next.Start u) h);
+    seen_all = λ u h. absurd (none (next.Start u) h);
     found = gains-none (IsAtOnce uses indices s leaf number) f;
-    found_all = λ k h. absurd (no (next.Leaf h.0) h.1);
+    found_all = λ k h. absurd (none (next.Leaf h.0) h.1);
   }
 
   pub no-use : (s : Start) → slice_get uses s.within ≡ None → (n : Next) → StepsTo uses indices s n → ⊥
