@@ -23,3 +23,5 @@ pub mod Derived
 pub mod Searching
 pub mod Chains
 pub mod Following
+pub mod Gathering
+pub mod Connected
