@@ -1,20 +1,18 @@
 -- Chains of connections as written, and the steps from use to use by which they are followed.
-use Rattle.std.proofs.Common.{◌≡◌, ◌≢◌, ◌⊎◌, inl, inr, ℕ, ◌+◌, ◌<◌, ◌≤◌, zero, suc, List, [], ◌∷◌, ◌++◌, length, Bool, true, false, Option, Some, None, Contains, refl, sym, ap, ◌∙◌, subst, arith}
+use Rattle.std.proofs.Common.{◌≡◌, ◌≢◌, ℕ, ◌<◌, zero, suc, List, [], ◌∷◌, ◌++◌, length, true, false, Some, Contains, refl, sym, ap, ◌∙◌, subst, arith}
 use Rattle.std.specs.List.{slice_get}
 use Rattle.std.specs.Str.{bytes_eq}
 use Rattle.std.proofs.lemmas.Slice.Eq.{bytes_eq-Decides}
-use Rattle.std.proofs.lemmas.Option.{slice_get_within}
 use Rattle.click_text.specs.declared.syntax.Statement.{Statement}
 use Rattle.click_text.specs.declared.syntax.Config.{Config}
 use Rattle.click_expand.specs.Scopes.{Scope, inside, Stands, at_top}
-use Rattle.click_expand.specs.Classes.{Meaning, primitive, compound}
+use Rattle.click_expand.specs.Classes.{primitive, compound}
 use Rattle.click_expand.specs.Elements.{Local, Role, pseudo, refers, makes, input_name, output_name}
 use Rattle.click_expand.specs.Faults.{End, Joint, is_pseudo, scope_locals, scope_joints, IsSound, output_as_source, input_as_target}
-use Rattle.click_expand.specs.Instances.{Leaf, LeadsTo, to_whole, to_inner}
+use Rattle.click_expand.specs.Instances.{LeadsTo, to_whole, to_inner}
 use Rattle.click_expand.specs.Connections.{Node, output_of, input_of, begins_by, ends_by, Leads, joined, further}
 use Rattle.click_expand.specs.Nesting.{IsNested}
-use Rattle.click_expand.specs.Scoped.{place_of}
-use Rattle.click_expand.specs.Joined.{IsOwner, IsEnd, IsJoint, AreJoints, AreAllJoints}
+use Rattle.click_expand.specs.Joined.{IsOwner, IsJoint, AreJoints}
 use Rattle.click_expand.specs.declared.fault.FaultKind.TheVariants as kind
 use Rattle.click_expand.specs.declared.joints.Owner.{Owner}
 use Rattle.click_expand.specs.declared.joints.Owner.TheVariants as owner

@@ -1,5 +1,5 @@
 -- What is found, in order, are the connections of the flat elements.
-use Rattle.std.proofs.Common.{◌≡◌, ◌↔◌, ℕ, ◌<◌, ◌≤◌, List, length, Contains, sym, ap, ◌∙◌, subst, arith}
+use Rattle.std.proofs.Common.{◌↔◌, ◌≤◌, List, length, Contains, arith}
 use Rattle.std.specs.List.{IsDistinct}
 use Rattle.click_text.specs.declared.syntax.Config.{Config}
 use Rattle.click_expand.specs.Faults.{IsSound}

@@ -1,5 +1,5 @@
 -- The tests of equality that are derived are those of the definitions.
-use Rattle.std.proofs.Common.{◌≡◌, Bool, ◌&&◌, nat_eq, refl, ap}
+use Rattle.std.proofs.Common.{◌≡◌, ◌&&◌, nat_eq, refl, ap}
 use Rattle.click_expand.specs.declared.joints.Owner.{Owner}
 use Rattle.click_expand.specs.declared.joints.Owner.TheVariants as owner
 use Rattle.click_expand.specs.declared.starts.Port.{Port}

@@ -1,11 +1,11 @@
 -- The steps of a search are the connections as written: what a search finds are the connections of the flat elements.
-use Rattle.std.proofs.Common.{◌≡◌, ◌≢◌, ◌⊎◌, inl, inr, ℕ, ◌+◌, ◌<◌, ◌≤◌, zero, suc, List, [], ◌∷◌, ◌++◌, length, Option, Some, None, Contains, refl, sym, ap, ◌∙◌, subst, arith}
+use Rattle.std.proofs.Common.{◌≡◌, ℕ, ◌<◌, zero, suc, List, [], ◌∷◌, ◌++◌, Option, Some, None, Contains, refl, sym, ap, ◌∙◌, subst, arith}
 use Rattle.std.specs.List.{slice_get}
 use Rattle.std.proofs.lemmas.Option.{slice_get_within}
 use Rattle.click_text.specs.declared.syntax.Statement.{Statement}
 use Rattle.click_text.specs.declared.syntax.Config.{Config}
 use Rattle.click_expand.specs.Scopes.{Scope, Stands}
-use Rattle.click_expand.specs.Classes.{Meaning, primitive, compound}
+use Rattle.click_expand.specs.Classes.{primitive}
 use Rattle.click_expand.specs.Elements.{Local}
 use Rattle.click_expand.specs.Faults.{Joint, scope_locals, scope_joints, IsSound}
 use Rattle.click_expand.specs.Instances.{Leaf, LeadsTo}
@@ -13,8 +13,8 @@ use Rattle.click_expand.specs.Connections.{Node, output_of, input_of, begins_by,
 use Rattle.click_expand.specs.Flat.{Joins}
 use Rattle.click_expand.specs.Nesting.{IsNested}
 use Rattle.click_expand.specs.Scoped.{place_of}
-use Rattle.click_expand.specs.Joined.{IsJoint, AreJoints, AreAllJoints}
-use Rattle.click_expand.specs.Uses.{Used, the_whole, locals_at, IsInner, IsAround, IsPart, AreParts, IsUse, IsLeaf, AreUses}
+use Rattle.click_expand.specs.Joined.{IsJoint, AreAllJoints}
+use Rattle.click_expand.specs.Uses.{Used, locals_at, IsInner, IsAround, IsPart, IsUse, AreUses}
 use Rattle.click_expand.specs.declared.joints.Owner.{Owner}
 use Rattle.click_expand.specs.declared.joints.Owner.TheVariants as owner
 use Rattle.click_expand.specs.declared.joints.Joint.{Joint as JointKept}
@@ -29,9 +29,9 @@ use Rattle.click_expand.specs.declared.starts.Next.{Next}
 use Rattle.click_expand.specs.declared.starts.Next.TheVariants as next
 use Rattle.click_expand.specs.declared.starts.Index.{Index}
 use Rattle.click_expand.specs.declared.flat.Connection.{Connection}
-use Rattle.click_expand.specs.Wiring.{port, start, input, AreIndices, IsJoined, ends_in, next_by, outward, inward, StepsTo, Arrives, at_once, behind, connection, IsFrom, IsFromPort, IsFromUse, Connects}
+use Rattle.click_expand.specs.Wiring.{port, start, input, AreIndices, ends_in, next_by, outward, inward, StepsTo, Arrives, at_once, behind, Connects}
 use Rattle.click_expand.proofs.Indexing.{index-at}
-use Rattle.click_expand.proofs.Chains.{some_same, push-not-nil, push-same, at-some, joint-of, kept-of, Denotes, Ends, denotes-same, apart, path-same, denotes-once, leads-stands, names-apart, local-same, leads-once, no-scope, nothing-behind, nothing-out, joint-begins, joint-ends}
+use Rattle.click_expand.proofs.Chains.{some_same, push-not-nil, push-same, at-some, joint-of, kept-of, Denotes, Ends, denotes-same, apart, path-same, denotes-once, leads-stands, names-apart, leads-once, no-scope, nothing-behind, nothing-out, joint-begins, joint-ends}
 
 module _ (c : Config) (nested : IsNested c) (sound : IsSound c) (uses : List Use) (places : List Place) (known : List Used) (leaves : List Leaf) (are : AreUses c uses places known leaves) where
   -- a use at its place, as the code keeps it and in the words of the definitions

@@ -1,5 +1,5 @@
 -- The connections that searches from all outputs find.
-use Rattle.std.proofs.Common.{◌≡◌, ◌⊎◌, ◌↔◌, inl, inr, ℕ, ◌+◌, ◌<◌, ◌≤◌, zero, suc, List, [], ◌∷◌, ◌++◌, length, Bool, true, false, ◌||◌, Option, Some, None, Vec, Global, Contains, refl, sym, ap, ◌∙◌, subst, arith}
+use Rattle.std.proofs.Common.{◌≡◌, inl, inr, ℕ, ◌+◌, ◌<◌, ◌≤◌, zero, suc, List, [], ◌∷◌, length, Bool, true, false, ◌||◌, Option, Some, None, Vec, Global, Contains, refl, sym, ap, ◌∙◌, subst, arith}
 use Rattle.std.specs.List.{slice_get, list_any, IsDistinct}
 use Rattle.std.specs.Option.{option_copied}
 use Rattle.std.specs.Slice.{IsItemAt}
@@ -18,7 +18,6 @@ use Rattle.click_expand.specs.declared.starts.Next.{Next}
 use Rattle.click_expand.specs.declared.starts.Next.TheVariants as next
 use Rattle.click_expand.specs.declared.starts.Index.{Index}
 use Rattle.click_expand.specs.declared.flat.Connection.{Connection}
-use Rattle.click_expand.specs.Flat.{InOrder, most_connections}
 use Rattle.click_expand.specs.Wiring.{start, ends_in, StepsTo, Arrives, at_once, behind, IsFrom, IsFromPort, IsFromUse, Connects, Gains, HasAll}
 use Rattle.click_expand.proofs.Indexing.{key-at}
 use Rattle.click_expand.proofs.Ordered.{same, same_equiv, exact}

@@ -1,7 +1,7 @@
 -- The connections of a scope by the ports that they begin at.
-use Rattle.std.proofs.Common.{◌≡◌, ◌⊎◌, inl, inr, ℕ, ◌+◌, ◌<◌, zero, suc, List, [], ◌∷◌, ◌++◌, length, get_or, take, Bool, true, false, ◌&&◌, nat_eq, cond, Option, Some, None, Vec, Global, Contains, refl, sym, ap, ◌∙◌, subst, arith}
+use Rattle.std.proofs.Common.{◌≡◌, inl, inr, ℕ, ◌+◌, ◌<◌, zero, suc, List, [], ◌∷◌, ◌++◌, length, get_or, take, Bool, true, false, ◌&&◌, nat_eq, cond, Option, Some, None, Vec, Global, Contains, refl, sym, ap, ◌∙◌, subst, arith}
 use Rattle.std.specs.Map.{lookup}
-use Rattle.std.specs.List.{slice_get, IsDistinct}
+use Rattle.std.specs.List.{slice_get}
 use Rattle.std.proofs.lemmas.Bool.{and_parts, eqb-true, cases_Bool}
 use Rattle.std.proofs.lemmas.Bool.Decides.{nat_tests}
 use Rattle.std.proofs.lemmas.List.{take_more}
@@ -82,7 +82,7 @@ module _ (ks : List Joint) (k : Joint) (old new : List (Port × Vec Port Global)
         elim (cases_Bool (same_port source a)) [
           | inl t ↦
               subst (λ x. Contains x b) (sym (changed a ∙ ap (λ t. cond t (ends_in old source ++ target ∷ []) (ends_in old a)) t))
-                  (Contains-append_left (ends_in old source) (target ∷ []) b (subst (λ x. Contains (ends_in old x) b) (sym (port-exact source a t)) m))
+              (Contains-append_left (ends_in old source) (target ∷ []) b (subst (λ x. Contains (ends_in old x) b) (sym (port-exact source a t)) m))
           | inr f ↦ subst (λ x. Contains x b) (sym (changed a ∙ ap (λ t. cond t (ends_in old source ++ target ∷ []) (ends_in old a)) f)) m
         ]
 
@@ -94,8 +94,8 @@ module _ (ks : List Joint) (k : Joint) (old new : List (Port × Vec Port Global)
               (let p : a ≡ source = j.from ∙ ap (λ (x : Joint). port x.from.owner x.out_port) (sym s) in
               let q : b ≡ target = j.to ∙ ap (λ (x : Joint). port x.to.owner x.in_port) (sym s) in
               subst (λ x. Contains (ends_in new x) b) (sym p) (subst (λ x. Contains (ends_in new source) x) (sym q)
-                  (subst (λ x. Contains x target) (sym (changed source ∙ ap (λ t. cond t (ends_in old source ++ target ∷ []) (ends_in old source)) (port-same source)))
-                      (Contains-push (ends_in old source) target))))
+              (subst (λ x. Contains x target) (sym (changed source ∙ ap (λ t. cond t (ends_in old source ++ target ∷ []) (ends_in old source)) (port-same source)))
+              (Contains-push (ends_in old source) target))))
         ]
 
     pub index-push : IsIndex (ks ++ k ∷ []) new

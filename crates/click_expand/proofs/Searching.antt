@@ -1,15 +1,12 @@
 -- A search over the ports of uses, one connection as written after another.
-use Rattle.std.proofs.Common.{◌≡◌, ◌⊎◌, inl, inr, ℕ, ◌+◌, ◌<◌, ◌≤◌, zero, suc, List, [], ◌∷◌, ◌++◌, length, get_or, take, map, Bool, true, false, ◌&&◌, nat_eq, cond, Option, Some, None, Vec, Global, Contains, refl, sym, ap, ◌∙◌, subst, append_assoc, append-nil, arith}
+use Rattle.std.proofs.Common.{◌≡◌, ◌⊎◌, inl, inr, ℕ, ◌+◌, ◌<◌, ◌≤◌, zero, suc, List, [], ◌∷◌, ◌++◌, length, get_or, take, map, Bool, true, false, nat_eq, cond, Some, None, Contains, refl, sym, ap, ◌∙◌, subst, append_assoc, append-nil, arith}
 use Rattle.std.specs.List.{slice_get, list_any}
-use Rattle.std.proofs.lemmas.Bool.{and_parts, eqb-true, cases_Bool, cases_order}
-use Rattle.std.proofs.lemmas.List.{take_more, map_push, length_push, length-append}
+use Rattle.std.proofs.lemmas.Bool.{and_parts, eqb-true, cases_order}
+use Rattle.std.proofs.lemmas.List.{take_more, map_push, length-append}
 use Rattle.std.proofs.lemmas.Option.{slice_get_within, get_or_from_slice_get, slice_get-get_or}
-use Rattle.std.proofs.lemmas.List.Elements.{Contains-push, Contains-push_cases, Contains-append_left, Contains-append_right, Contains-append_cases}
+use Rattle.std.proofs.lemmas.List.Elements.{Contains-append_left, Contains-append_right, Contains-append_cases}
 use Rattle.indexmap.specs.IndexSet.{insert_key}
 use Rattle.indexmap.proofs.CallerLemmas.{Contains-insert_key}
-use Rattle.click_expand.specs.declared.joints.Owner.{Owner}
-use Rattle.click_expand.specs.declared.joints.Owner.TheVariants as owner
-use Rattle.click_expand.specs.declared.uses.Part.TheVariants as part
 use Rattle.click_expand.specs.declared.uses.Use.{Use}
 use Rattle.click_expand.specs.declared.starts.Port.{Port}
 use Rattle.click_expand.specs.declared.starts.Start.{Start}
@@ -18,8 +15,8 @@ use Rattle.click_expand.specs.declared.starts.Next.{Next}
 use Rattle.click_expand.specs.declared.starts.Next.TheVariants as next
 use Rattle.click_expand.specs.declared.starts.Index.{Index}
 use Rattle.click_expand.specs.declared.flat.Connection.{Connection}
-use Rattle.click_expand.specs.Wiring.{start, same_start, same_port, next_by, nexts, ends_in, StepsTo, Arrives, at_once, behind, connection, IsFrom, IsFromPort, IsFromUse, Connects, Gains, HasAll, IsOn, IsEnd, Takes, IsAtOnce, Visits}
-use Rattle.click_expand.proofs.Indexing.{port-exact, key-at}
+use Rattle.click_expand.specs.Wiring.{start, same_start, same_port, next_by, nexts, ends_in, StepsTo, Arrives, at_once, behind, connection, IsFrom, Gains, HasAll, IsOn, IsEnd, Takes, IsAtOnce, Visits}
+use Rattle.click_expand.proofs.Indexing.{port-exact}
 use Rattle.click_expand.proofs.Ordered.{same, exact}
 
 some_same : {X : Type 0} {x y : X} → Some x ≡ Some y → x ≡ y
@@ -123,7 +120,7 @@ module _ (leaf number : ℕ) where
     found = gains-insert (IsEnd leaf number (next.Leaf i ∷ [])) same found new (connection leaf number i) e (i, (0, omega arith, refl), refl);
     found_all = λ k h. (let same_input : i ≡ h.0 = (let e = contains-single (next.Leaf i) (next.Leaf h.0) h.1 in cc e) in
         subst (Contains new) (ap (connection leaf number) same_input ∙ sym h.2)
-            (subst (λ l. Contains l (connection leaf number i)) (sym e) (Contains-insert_key same exact found (connection leaf number i))));
+        (subst (λ l. Contains l (connection leaf number i)) (sym e) (Contains-insert_key same exact found (connection leaf number i))));
   }
 
   end-left : (ns ms : List Next) (k : Connection) → IsEnd leaf number ns k → IsEnd leaf number (ns ++ ms) k

@@ -1,5 +1,5 @@
 -- How the connections of a flat configuration are found: from a port of a use of a scope, one connection as written after another.
-use Rattle.std.specs.Prelude.{◌≡◌, ◌⊎◌, ℕ, List, [], ◌∷◌, ◌++◌, map, slice_get, nat_eq, Bool, true, false, ◌&&◌, Contains, Vec, Option, Some, None}
+use Rattle.std.specs.Prelude.{◌≡◌, ℕ, List, [], ◌∷◌, ◌++◌, map, slice_get, nat_eq, Bool, true, false, ◌&&◌, Contains, Vec, Option, Some, None}
 use Rattle.std.specs.Global.{Global}
 use Rattle.std.specs.Map.{lookup}
 use Rattle.click_expand.specs.declared.joints.Owner.{Owner}

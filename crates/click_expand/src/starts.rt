@@ -1,6 +1,6 @@
 //! The connections of a scope by the ports that they begin at, and what lies behind the ports that they lead to.
 
-ghost use Rattle.std.specs.Prelude.{◌≡◌, ◌∷◌, ◌++◌, [], slice_get, OnOk, IfOk, if◌then◌else◌};
+ghost use Rattle.std.specs.Prelude.{◌≡◌, ◌∷◌, ◌++◌, [], OnOk, IfOk, if◌then◌else◌};
 ghost use Rattle.click_expand.specs.declared.starts.Port.{Port as Jack};
 ghost use Rattle.click_expand.specs.Wiring as spec;
 ghost use Rattle.click_expand.specs.Wiring.{IsIndex, AreIndices, ends_in, same_port, next_by};
@@ -96,10 +96,7 @@ fn index_of(alloc: Global, joints: &[Joint]) -> Result<Index, AllocError>
 }
 
 /// The indices of all scopes.
-pub fn all_indices(
-    alloc: Global,
-    joints: &[Sequence<Joint>],
-) -> Result<Vec<Index>, AllocError>
+pub fn all_indices(alloc: Global, joints: &[Sequence<Joint>]) -> Result<Vec<Index>, AllocError>
     ensures { IfOk result (λ xs. AreIndices joints.now xs.items) }
 {
     let mut indices = Vec::new(alloc);

@@ -1,11 +1,7 @@
 //! The connections of a flat configuration.
 
-ghost use Rattle.std.specs.Prelude.{◌≡◌, ◌≤◌, ◌<◌, ◌++◌, ◌∷◌, [], ℕ, List, length, slice_get, Contains, OnOk, IfOk, MatchOption};
+ghost use Rattle.std.specs.Prelude.{◌≡◌, ◌≤◌, ◌<◌, ◌∷◌, [], ℕ, List, length, Contains, OnOk, IfOk, MatchOption};
 ghost use Rattle.click_expand.specs.declared.flat.Connection.{Connection as Joined};
-ghost use Rattle.click_expand.specs.declared.starts.Next.TheVariants as next;
-ghost use Rattle.click_expand.specs.declared.starts.Start.{Start as Reached};
-ghost use Rattle.click_expand.specs.declared.joints.Owner.TheVariants as owner;
-ghost use Rattle.click_expand.specs.declared.uses.Part.TheVariants as part;
 ghost use Rattle.click_expand.specs.Nesting.{IsNested};
 ghost use Rattle.click_expand.specs.Faults.{IsSound};
 ghost use Rattle.click_expand.specs.Joined.{AreAllJoints};
@@ -13,7 +9,7 @@ ghost use Rattle.click_expand.specs.Instances.{Leaf as Flattened};
 ghost use Rattle.click_expand.specs.Uses.{Used, AreUses};
 ghost use Rattle.click_expand.specs.Flat.{AreConnections, InOrder, Joins, most_connections};
 ghost use Rattle.click_expand.specs.Wiring as spec;
-ghost use Rattle.click_expand.specs.Wiring.{StepsTo, Connects, IsFrom, IsFromPort, IsFromUse, Gains, HasAll, Takes};
+ghost use Rattle.click_expand.specs.Wiring.{Connects, IsFrom, IsFromPort, IsFromUse, Gains, HasAll, Takes};
 
 use crate::flat::Connection;
 use crate::joints::{Joint, Owner};
@@ -216,3 +212,6 @@ pub fn connections_of(
         Ok(Some(all))
     }
 }
+
+#[cfg(test)]
+mod tests;

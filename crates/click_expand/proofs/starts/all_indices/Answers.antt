@@ -1,4 +1,4 @@
-use Rattle.std.proofs.Common.{◌≡◌, ◌∙◌, sym, ap, refl, subst}
+use Rattle.std.proofs.Common.{subst}
 use Rattle.click_expand.specs.Wiring.{IsIndex}
 use Rattle.click_expand.proofs.Indexing.{indices-more}
 use Rattle.click_expand.proofs.starts.all_indices.Goals as goal

@@ -1,7 +1,7 @@
 use Rattle.std.proofs.Common.{refl}
 use Rattle.click_expand.specs.declared.joints.Joint.{Joint}
 use Rattle.click_expand.specs.declared.joints.Owner.TheVariants as owner
-use Rattle.click_expand.proofs.Indexing.{index-none, index-more}
+use Rattle.click_expand.proofs.Indexing.{index-more}
 use Rattle.click_expand.proofs.starts.index_of.Goals as goal
 
 blank : Joint

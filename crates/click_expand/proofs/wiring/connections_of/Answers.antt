@@ -1,5 +1,4 @@
-use Rattle.std.proofs.Common.{◌≡◌, ◌↔◌, ◌<◌, ◌≤◌, List, length, Contains, sym, ap, ◌∙◌, subst, arith}
-use Rattle.click_expand.specs.declared.joints.Joint.{Joint}
+use Rattle.std.proofs.Common.{◌≡◌, ◌↔◌, ◌≤◌, List, length, Contains, sym, ◌∙◌, subst, arith}
 use Rattle.click_expand.specs.declared.uses.Use.{Use}
 use Rattle.click_expand.specs.declared.starts.Index.{Index}
 use Rattle.click_expand.specs.declared.flat.Connection.{Connection}

@@ -1,4 +1,4 @@
-use Rattle.std.proofs.Common.{◌≡◌, [], arith}
+use Rattle.std.proofs.Common.{[], arith}
 use Rattle.click_expand.specs.Flat.{most_connections}
 use Rattle.click_expand.specs.Wiring.{IsFromUse}
 use Rattle.click_expand.proofs.Gathering.{gathers-more, all-sound, all-complete}

@@ -1,4 +1,4 @@
-use Rattle.std.proofs.Common.{◌≡◌, ◌+◌, ◌≤◌, List, Some, None, length, sym, ap, subst, ◌∙◌, arith}
+use Rattle.std.proofs.Common.{◌≡◌, ◌+◌, List, Some, None, sym, ap, subst, ◌∙◌, arith}
 use Rattle.std.specs.List.{slice_get}
 use Rattle.std.specs.Option.{option_copied, option_map}
 use Rattle.std.specs.Map.Iter.{deref_pair}
@@ -15,8 +15,8 @@ loop-at-preserved c =
     elim c.match-get_index.branch [
       | in-Some-get_index+in_ok-search_port w ↦
           subst (λ (x : List Connection). Gathers (IsFromKey uses indices within entries) most_connections (i + 1) old x) (sym (ap (λ m. m.keys) w.found-is))
-              (key-more uses indices within entries most_connections i w.in-Some-get_index.port.now w.in-Some-get_index.field-0-1.now old mid w.search_port.new.found.keys
-                  w.in-Some-get_index.ensures.entry c.loop-at.invariant w.in_ok-search_port.ensures.more w.in_ok-search_port.ensures.all)
+          (key-more uses indices within entries most_connections i w.in-Some-get_index.port.now w.in-Some-get_index.field-0-1.now old mid w.search_port.new.found.keys
+          w.in-Some-get_index.ensures.entry c.loop-at.invariant w.in_ok-search_port.ensures.more w.in_ok-search_port.ensures.all)
       | in_default-get_index w ↦
           (let e : None ≡ slice_get entries i = ap (option_map deref_pair) (sym w.in_default-get_index.is) ∙ c.get_index.ensures.entry in
           subst (λ (x : List Connection). Gathers (IsFromKey uses indices within entries) most_connections (i + 1) old x) (sym (ap (λ m. m.keys) w.found-is))

@@ -1,4 +1,4 @@
-use Rattle.std.proofs.Common.{◌≡◌, ◌∷◌, [], get_or, subst, refl}
+use Rattle.std.proofs.Common.{◌∷◌, [], get_or, subst, refl}
 use Rattle.click_expand.specs.declared.joints.Owner.TheVariants as owner
 use Rattle.click_expand.specs.declared.starts.Port.{Port}
 use Rattle.click_expand.specs.declared.starts.Next.{Next}

@@ -1,4 +1,4 @@
-use Rattle.std.proofs.Common.{◌≡◌, List, Some, None, sym, ap, subst, ◌∙◌}
+use Rattle.std.proofs.Common.{◌≡◌, List, Some, ap, subst, ◌∙◌}
 use Rattle.std.specs.List.{slice_get}
 use Rattle.std.proofs.lemmas.Result.{on_ok_weaker}
 use Rattle.std.specs.Option.{option_copied}
@@ -12,7 +12,7 @@ pub returns-in_default : goal.returns-in_default
 returns-in_default c =
     visits-none c.args.uses.now c.args.indices.now c.args.start c.args.from.leaf c.args.from.start.port.number c.args.seen.now.keys c.args.found.now.keys
     (no-use c.args.uses.now c.args.indices.now c.args.start
-        (item-is c.args.uses.now c.args.start.within c.get.result c.get.ensures.lookup ∙ ap option_copied c.in_default.is))
+    (item-is c.args.uses.now c.args.start.within c.get.result c.get.ensures.lookup ∙ ap option_copied c.in_default.is))
 
 pub returns-in_default-get : goal.returns-in_default-get
 returns-in_default-get c =
@@ -30,5 +30,5 @@ returns c =
     let index_there : slice_get c.args.indices.now one.scope ≡ Some index = item-is c.args.indices.now one.scope c.get-2.result c.get-2.ensures.lookup ∙ ap option_copied c.in-Some-get.is in
     on_ok_weaker c.take_all.result
     (λ t. visits c.args.uses.now c.args.indices.now c.args.start one index there index_there leaf number a b f g
-        (subst (λ (es : List Port). Takes leaf number (nexts one es) a b f g) c.ends.ensures t))
+    (subst (λ (es : List Port). Takes leaf number (nexts one es) a b f g) c.ends.ensures t))
     c.take_all.ensures

@@ -1,4 +1,4 @@
-use Rattle.std.proofs.Common.{◌≡◌, [], Some, None, Bool, cond, refl, sym, ap, ◌∙◌, subst, rules}
+use Rattle.std.proofs.Common.{◌≡◌, [], Some, None, Bool, cond, sym, ap, ◌∙◌, subst, rules}
 use Rattle.std.specs.Map.{lookup}
 use Rattle.click_expand.specs.Wiring.{ends_by, ends_in, same_port}
 use Rattle.click_expand.specs.declared.starts.Port.{Port}
