@@ -41,3 +41,10 @@ pub mod ReadsBack
 pub mod Ways
 pub mod Tokens
 pub mod Answering
+pub mod Indexing
+pub mod Derived
+pub mod Searching
+pub mod Chains
+pub mod Following
+pub mod Gathering
+pub mod Connected

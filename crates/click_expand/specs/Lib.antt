@@ -24,3 +24,4 @@ pub mod Using
 pub mod Counted
 pub mod Joining
 pub mod Misused
+pub mod Wiring

@@ -18,6 +18,7 @@ pub mod order;
 pub mod ports;
 pub mod scopes;
 pub mod sizes;
+pub mod starts;
 pub mod uses;
 pub mod whole;
 pub mod wiring;
