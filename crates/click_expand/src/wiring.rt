@@ -201,7 +201,7 @@ pub fn connections_of(
     requires used { (leaves : List Flattened) × (known : List Used) × AreUses config.now uses.now.uses.items uses.now.leaves.items known leaves }
     ensures { IfOk result (λ r. (leaves : List Flattened) (known : List Used) → AreUses config.now uses.now.uses.items uses.now.leaves.items known leaves →
         MatchOption r ((ks : List Joined) × InOrder ks × ((k : Joined) → Contains ks k → Joins config.now leaves k) × (most_connections < length ks))
-        (λ ks. AreConnections config.now leaves ks.items)) }
+        (λ ks. AreConnections config.now leaves ks.items × (length ks.items ≤ most_connections))) }
 {
     let indices = all_indices(alloc, joints)?;
     let found = search_all(alloc, uses.uses.as_slice(), indices.as_slice())?;

@@ -31,6 +31,8 @@ returns c = λ leaves known are.
     let found_all : length found ≤ most_connections → HasAll (Connects uses indices) found =
     λ few k h. c.in_ok-found.ensures.all few k
     (subst (λ (us : List Use). Connects us c.as_slice-2.result.now k) (sym c.as_slice.ensures.value) (subst (λ (xs : List Index). Connects uses xs k) (sym c.as_slice-2.ensures.value) h)) in
-    ordered-all c.args.config.now c.requires.nested c.requires.sound c.args.joints.now c.requires.joined uses c.args.uses.now.leaves.items indices c.in_ok-indices.ensures found ordered
-    c.in_order-all.ensures.order alike found_sound known leaves are c.as_slice-3.ensures.unique found_all
-    (let n = c.len.ensures in let t = c.if-len-gt-MOST_CONNECTIONS.false in omega (arith, n, t))
+    let few : length ordered ≤ most_connections = let n = c.len.ensures in let t = c.if-len-gt-MOST_CONNECTIONS.false in omega (arith, n, t) in (
+      ordered-all c.args.config.now c.requires.nested c.requires.sound c.args.joints.now c.requires.joined uses c.args.uses.now.leaves.items indices c.in_ok-indices.ensures found ordered
+          c.in_order-all.ensures.order alike found_sound known leaves are c.as_slice-3.ensures.unique found_all few,
+      few,
+    )
