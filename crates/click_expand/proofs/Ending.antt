@@ -252,7 +252,7 @@ module _ (c : Config) (b : Bool) (ps : List Placed) (d : List (List ℕ)) (first
       AreEnds (locals_in c.text b ps) c (names_in c.text b ps) 0 ks ps
   ends-all i ks l = subst (AreEnds (locals_in c.text b ps) c (names_in c.text b ps) 0 ks) (take_all i ps (omega (arith, l, as_many)))
 
-names-placed : (text : List ℕ) (ps : List Placed) → names_of text (placed_elements ps) ≡ declared_names text ps
+pub names-placed : (text : List ℕ) (ps : List Placed) → names_of text (placed_elements ps) ≡ declared_names text ps
 names-placed text [] = refl
 names-placed text (p ∷ ps) = ap (cons_option (head_name text p.element.head)) (names-placed text ps)
 
