@@ -21,7 +21,7 @@ use Rattle.click_expand.specs.Scoped.{place_of}
 use Rattle.click_expand.specs.Located.{AreAllLocals}
 use Rattle.click_expand.specs.Called.{AreArgumentsOf, AreAllArguments}
 use Rattle.click_expand.specs.Joined.{IsOwner, IsJoint, AreJoints, AreAllJoints}
-use Rattle.click_expand.specs.Wrongs.{IsMisused, first_in, wrong, wrong_if}
+use Rattle.click_expand.specs.Wrongs.{IsLeast, IsMisused, first_of, first_in, wrong, wrong_if}
 use Rattle.click_expand.specs.Misused.{Among, IsWrongCall, IsWrongJoint, IsWrongIn, IsWrongBody, ArePorts, ports_or, compound_by, compound_in, call_by, call_of, call_at, outputs_by, inputs_by, lacking, source_by, target_by, gap_at, items_of, row_of, HasGap}
 use Rattle.click_expand.specs.declared.classes.ClassOf.{ClassOf}
 use Rattle.click_expand.specs.declared.classes.ClassOf.TheVariants as class
@@ -39,6 +39,7 @@ use Rattle.click_expand.proofs.Leaves.{arguments-once}
 use Rattle.click_expand.proofs.Ending.{numbers-after, made-there, first-in}
 use Rattle.click_expand.proofs.Counting.{is_by, body-stands}
 use Rattle.click_expand.proofs.Walking.{inside-within}
+use Rattle.click_expand.proofs.Least.{least-first_of, least-same}
 
 -- the class of an element as it is kept
 compound-means : (text : List ℕ) (o : Option ClassOf) (b : ℕ) → compound_by o ≡ Some b → meaning_by text o ≡ Some (compound b)
@@ -152,7 +153,7 @@ module _ (c : Config) (s : Scope) (v : List Statement) (a : List Scope) (st : St
   local-kept i l h = map-there (local_of c.text) ls i l (ap (λ xs. slice_get xs i) same ∙ h)
 
   module _ (args : List (List Span)) (ha : AreArgumentsOf (scope_locals c s v) args) where
-    call-to : (i : ℕ) (w : Wrong) → IsWrongCall c.bodies ls args i w → IsMisused c w
+    pub call-to : (i : ℕ) (w : Wrong) → IsWrongCall c.bodies ls args i w → IsMisused c w
     call-to i w h =
         let l = h.element in
         let r = call-is c.bodies (compound_by l.class) (slice_get args i) (first_in c.bodies l.head) w h.is in
@@ -170,7 +171,7 @@ module _ (c : Config) (s : Scope) (v : List Statement) (a : List Scope) (st : St
         (subst (IsWrong c kind.WrongParameters) first
             (wrong_parameters s v a split.0 split.1 p r.body r.found st split.2 m.makes (sym (ap (λ (x : Local). x.meaning) m.is) ∙ means) read r.other))
 
-    call-from : (front back : List Placed) (p : Placed) (b : ℕ) (spans : List Span) → scope_placed c s v ≡ front ++ p ∷ back → role_in c s v p ≡ makes →
+    pub call-from : (front back : List Placed) (p : Placed) (b : ℕ) (spans : List Span) → scope_placed c s v ≡ front ++ p ∷ back → role_in c s v p ≡ makes →
         element_meaning c.text p ≡ Some (compound b) → AreArguments (string_by c.text p.element.text) spans → length spans ≢ length (formals_of c (inside b)) →
         Among (IsWrongCall c.bodies ls args) (length ls) (wrong kind.WrongParameters (first_token c p.element.head))
     call-from front back p b spans split made means read other =
@@ -232,7 +233,7 @@ module _ (c : Config) (s : Scope) (v : List Statement) (a : List Scope) (st : St
         least-kind c kind.CompoundPort j.to.first w (omega arith) (r.is ∙ ap (wrong kind.CompoundPort) f)
         (no_input s v a j r.body st i h.0 (joined-means n r.body j.to h r.compound) (let x = r.past in let y = (hp.each r.body).ins in omega (arith, x, y, p)))
 
-    joint-to : (i : ℕ) (w : Wrong) → IsWrongJoint ls ports ks i w → IsMisused c w
+    pub joint-to : (i : ℕ) (w : Wrong) → IsWrongJoint ls ports ks i w → IsMisused c w
     joint-to i w h =
         let r = joints-at (scope_locals c s v) ks (scope_joints c s v) i h.joint hk h.there in
         let there = contains-at (scope_joints c s v) i r.0 r.1 in
@@ -241,7 +242,7 @@ module _ (c : Config) (s : Scope) (v : List Statement) (a : List Scope) (st : St
           | inr e ↦ target-to r.0 there h.joint.to.owner r.2.to.owner h.joint.in_port r.2.in_port h.joint.to.first r.2.to.first w e
         ]
 
-    lack-source : (j : Joint) (b : ℕ) → (j.from.role ≡ pseudo → ⊥) → j.from.meaning ≡ Some (compound b) → port_count (outputs_of c b) ≤ j.out_port →
+    pub lack-source : (j : Joint) (b : ℕ) → (j.from.role ≡ pseudo → ⊥) → j.from.meaning ≡ Some (compound b) → port_count (outputs_of c b) ≤ j.out_port →
         (o : Owner) → IsOwner (scope_locals c s v) o j.from → (port : ℕ) → port ≡ j.out_port → (first : Span) → source_by ls ports o port first ≡ Some (wrong kind.CompoundPort first)
     lack-source j b r m l owner.Input h port p first = absurd (r h.0)
     lack-source j b r m l owner.Output h port p first = absurd (r h.0)
@@ -249,7 +250,7 @@ module _ (c : Config) (s : Scope) (v : List Statement) (a : List Scope) (st : St
         ap (λ x. lacking (outputs_by ports x) port first) (means-joined n b j.from h m)
         ∙ ap (λ t. wrong_if (not t) kind.CompoundPort first) (not-below port ((ports_or (slice_get ports b)).outputs) (let y = (hp.each b).outs in omega (arith, y, l, p)))
 
-    lack-target : (j : Joint) (b : ℕ) → (j.to.role ≡ pseudo → ⊥) → j.to.meaning ≡ Some (compound b) → port_count (inputs_of c b) ≤ j.in_port →
+    pub lack-target : (j : Joint) (b : ℕ) → (j.to.role ≡ pseudo → ⊥) → j.to.meaning ≡ Some (compound b) → port_count (inputs_of c b) ≤ j.in_port →
         (o : Owner) → IsOwner (scope_locals c s v) o j.to → (port : ℕ) → port ≡ j.in_port → (first : Span) → target_by ls ports o port first ≡ Some (wrong kind.CompoundPort first)
     lack-target j b r m l owner.Input h port p first = absurd (r h.0)
     lack-target j b r m l owner.Output h port p first = absurd (r h.0)
@@ -257,13 +258,13 @@ module _ (c : Config) (s : Scope) (v : List Statement) (a : List Scope) (st : St
         ap (λ x. lacking (inputs_by ports x) port first) (means-joined n b j.to h m)
         ∙ ap (λ t. wrong_if (not t) kind.CompoundPort first) (not-below port ((ports_or (slice_get ports b)).inputs) (let y = (hp.each b).ins in omega (arith, y, l, p)))
 
-    own-source : (e : End) → is_by output_name e.name e.role ≡ true → (o : Owner) → IsOwner (scope_locals c s v) o e → (port : ℕ) (first : Span) →
+    pub own-source : (e : End) → is_by output_name e.name e.role ≡ true → (o : Owner) → IsOwner (scope_locals c s v) o e → (port : ℕ) (first : Span) →
         source_by ls ports o port first ≡ Some (wrong kind.CompoundPort first)
     own-source e t owner.Input h port first = absurd (let f : is_by output_name e.name e.role ≡ false = own-port output_name e.name e.role input_name h.0 h.1 in cc (t, f))
     own-source e t owner.Output h port first = refl
     own-source e t (owner.Element n) h port first = absurd (let f : is_by output_name e.name e.role ≡ false = other-port output_name e.name e.role h.0 in cc (t, f))
 
-    own-target : (e : End) → is_by input_name e.name e.role ≡ true → (o : Owner) → IsOwner (scope_locals c s v) o e → (port : ℕ) (first : Span) →
+    pub own-target : (e : End) → is_by input_name e.name e.role ≡ true → (o : Owner) → IsOwner (scope_locals c s v) o e → (port : ℕ) (first : Span) →
         target_by ls ports o port first ≡ Some (wrong kind.CompoundPort first)
     own-target e t owner.Input h port first = refl
     own-target e t owner.Output h port first = absurd (let f : is_by input_name e.name e.role ≡ false = own-port input_name e.name e.role output_name h.0 h.1 in cc (t, f))
@@ -278,3 +279,121 @@ module _ (c : Config) (s : Scope) (v : List Statement) (a : List Scope) (st : St
         let n = at-contains (scope_joints c s v) j i in
         let r = joints-kept (scope_locals c s v) ks (scope_joints c s v) n.0 j hk n.1 in
         record { place = n.0; within = slice_get_within ks n.0 r.0 r.1; is = record { joint = r.0; there = r.1; is = f r.0 r.2 } }
+
+wrong-yes : (b : Bool) (k : FaultKind) (s : Span) (w : Wrong) → wrong_if b k s ≡ Some w → (b ≡ true) × (w ≡ wrong k s)
+wrong-yes true k s w h = (refl, sym (same_Some (wrong k s) w h))
+wrong-yes false k s w h = absurd (cc h)
+
+module _ (c : Config) (n : IsNested c) (locals : List (Vec LocalKept Global)) (arguments : List (List (List Span))) (joints : List (List JointKept)) (ports : List Ports)
+    (hl : AreAllLocals c locals) (ha : AreAllArguments c arguments) (hj : AreAllJoints c joints) (hp : ArePorts c ports) where
+  -- a wrong use in a body, of its ports, or in the whole text
+  abbrev pub IsWrongSomewhere : Wrong → Type 0
+  IsWrongSomewhere w =
+      Among (IsWrongBody c.bodies locals arguments joints ports) (length c.bodies) w ⊎ IsWrongIn c.bodies locals arguments joints ports (length c.bodies) w
+
+  module _ (s : Scope) (v : List Statement) (a : List Scope) (st : Stands c s v a) where
+    in-to : (w : Wrong) → IsWrongIn c.bodies locals arguments joints ports (place_of c s) w → IsMisused c w
+    in-to w h =
+        let i = place_of c s in
+        let l = hl s v a st in let r = ha s v a st in let j = hj s v a st in
+        elim h [
+          | inl x ↦
+              call-to c s v a st l.0.items l.2 r.0 r.2 x.place w
+              (subst (λ y. IsWrongCall c.bodies l.0.items y x.place w) (ap row_of r.1) (subst (λ y. IsWrongCall c.bodies y (row_of (slice_get arguments i)) x.place w) (ap items_of l.1) x.is))
+          | inr x ↦
+              joint-to c s v a st l.0.items l.2 ports hp j.0 j.2 x.place w
+              (subst (λ y. IsWrongJoint l.0.items ports y x.place w) (ap row_of j.1) (subst (λ y. IsWrongJoint y ports (row_of (slice_get joints i)) x.place w) (ap items_of l.1) x.is))
+        ]
+
+    placed-in : (w : Wrong) → IsWrongIn c.bodies locals arguments joints ports (place_of c s) w → IsWrongSomewhere w
+    placed-in w h = by_scope s refl h
+      where
+        by_scope : (t : Scope) → s ≡ t → IsWrongIn c.bodies locals arguments joints ports (place_of c t) w → IsWrongSomewhere w
+        by_scope whole e k = inr k
+        by_scope (inside b) e k = inl (record { place = b; within = inside-within c n s v a st b e; is = inl k })
+
+    calls-in : (w : Wrong) → ((args : List (List Span)) (ls : List LocalKept) → map (local_of c.text) ls ≡ scope_locals c s v → AreArgumentsOf (scope_locals c s v) args →
+        Among (IsWrongCall c.bodies ls args) (length ls) w) → IsWrongSomewhere w
+    calls-in w f =
+        let i = place_of c s in
+        let l = hl s v a st in let r = ha s v a st in
+        placed-in w
+        (inl (subst (λ x. Among (IsWrongCall c.bodies x (row_of (slice_get arguments i))) (length x) w) (sym (ap items_of l.1))
+                (subst (λ x. Among (IsWrongCall c.bodies l.0.items x) (length l.0.items) w) (sym (ap row_of r.1)) (f r.0 l.0.items l.2 r.2))))
+
+    joints-in : (w : Wrong) → ((ls : List LocalKept) → map (local_of c.text) ls ≡ scope_locals c s v → (ks : List JointKept) → AreJoints (scope_locals c s v) ks (scope_joints c s v) →
+        Among (IsWrongJoint ls ports ks) (length ks) w) → IsWrongSomewhere w
+    joints-in w f =
+        let i = place_of c s in
+        let l = hl s v a st in let j = hj s v a st in
+        placed-in w
+        (inr (subst (λ x. Among (IsWrongJoint x ports (row_of (slice_get joints i))) (length (row_of (slice_get joints i))) w) (sym (ap items_of l.1))
+                (subst (λ x. Among (IsWrongJoint l.0.items ports x) (length x) w) (sym (ap row_of j.1)) (f l.0.items l.2 j.0 j.2))))
+
+  gap-to : (b : ℕ) → b < length c.bodies → (w : Wrong) → gap_at c.bodies ports b ≡ Some w → IsMisused c w
+  gap-to b l w h =
+      let r = wrong-yes ((ports_or (slice_get ports b)).gap) kind.CompoundPort (brace_of c b) w h in
+      let st = body-stands c n b l in
+      least-kind c kind.CompoundPort (brace_of c b) w (omega arith) r.1
+      (elim ((hp.each b).gaps.0 r.0) [
+        | inl g ↦ input_gap b st.visible st.around g.port st.stands g.below g.unused
+        | inr g ↦ output_gap b st.visible st.around g.port st.stands g.below g.unused
+      ])
+
+  gap-from : (b : ℕ) → b < length c.bodies → HasGap (inputs_of c b) ⊎ HasGap (outputs_of c b) → IsWrongSomewhere (wrong kind.CompoundPort (brace_of c b))
+  gap-from b l g = inl (record { place = b; within = l; is = inr (ap (λ t. wrong_if t kind.CompoundPort (brace_of c b)) ((hp.each b).gaps.1 g)) })
+
+  somewhere-to : (w : Wrong) → IsWrongSomewhere w → IsMisused c w
+  somewhere-to w h = elim h [
+    | inl x ↦
+        (let st = body-stands c n x.place x.within in
+        elim x.is [
+          | inl y ↦ in-to (inside x.place) st.visible st.around st.stands w y
+          | inr y ↦ gap-to x.place x.within w y
+        ])
+    | inr y ↦ in-to whole [] [] at_top w y
+  ]
+
+  wrong-somewhere : (k : FaultKind) (p : Span) → IsWrong c k p → 14 ≤ number_of k → IsWrongSomewhere (wrong k p)
+  wrong-somewhere k p (unknown_name s v a front back q w st e r x y z) l = absurd (omega (arith, l))
+  wrong-somewhere k p (unknown_class s v a front back q w string st e x y z) l = absurd (omega (arith, l))
+  wrong-somewhere k p (unknown_declared s v a front back q m w st e x y) l = absurd (omega (arith, l))
+  wrong-somewhere k p (unknown_original s v a before after m w st e x) l = absurd (omega (arith, l))
+  wrong-somewhere k p (named_twice s v a front back q st e r x y) l = absurd (omega (arith, l))
+  wrong-somewhere k p (port_declared b v a front back q m d st e x y) l = absurd (omega (arith, l))
+  wrong-somewhere k p (formal_twice b v a front back f st e x) l = absurd (omega (arith, l))
+  wrong-somewhere k p (wrong_parameters s v a front back q b spans st e r m read other) l =
+      calls-in s v a st (wrong kind.WrongParameters (first_token c q.element.head))
+      (λ args ls same h. call-from c s v a st ls same args h front back q b spans e r m read other)
+  wrong-somewhere k p (no_output s v a j b st i r m x) l =
+      joints-in s v a st (wrong kind.CompoundPort j.from.first)
+      (λ ls same ks hk. joint-from c s v a st ls same ports hp ks hk j i j.from.first
+          (λ kj h. inl (lack-source c s v a st ls same ports hp ks hk j b r m x kj.from.owner h.from.owner kj.out_port h.out_port kj.from.first ∙ ap (λ y. Some (wrong kind.CompoundPort y)) h.from.first)))
+  wrong-somewhere k p (no_input s v a j b st i r m x) l =
+      joints-in s v a st (wrong kind.CompoundPort j.to.first)
+      (λ ls same ks hk. joint-from c s v a st ls same ports hp ks hk j i j.to.first
+          (λ kj h. inr (lack-target c s v a st ls same ports hp ks hk j b r m x kj.to.owner h.to.owner kj.in_port h.in_port kj.to.first ∙ ap (λ y. Some (wrong kind.CompoundPort y)) h.to.first)))
+  wrong-somewhere k p (output_as_source s v a j st i t) l =
+      joints-in s v a st (wrong kind.CompoundPort j.from.first)
+      (λ ls same ks hk. joint-from c s v a st ls same ports hp ks hk j i j.from.first
+          (λ kj h. inl (own-source c s v a st ls same ports hp ks hk j.from t kj.from.owner h.from.owner kj.out_port kj.from.first ∙ ap (λ y. Some (wrong kind.CompoundPort y)) h.from.first)))
+  wrong-somewhere k p (input_as_target s v a j st i t) l =
+      joints-in s v a st (wrong kind.CompoundPort j.to.first)
+      (λ ls same ks hk. joint-from c s v a st ls same ports hp ks hk j i j.to.first
+          (λ kj h. inr (own-target c s v a st ls same ports hp ks hk j.to t kj.to.owner h.to.owner kj.in_port kj.to.first ∙ ap (λ y. Some (wrong kind.CompoundPort y)) h.to.first)))
+  wrong-somewhere k p (input_gap b v a q st x y) l =
+      gap-from b (inside-within c n (inside b) v a st b refl) (inl (record { port = q; below = x; unused = y }))
+  wrong-somewhere k p (output_gap b v a q st x y) l =
+      gap-from b (inside-within c n (inside b) v a st b refl) (inr (record { port = q; below = x; unused = y }))
+
+  pub misused-least : (bs : List Body) (ps qs : List Ports) (len : ℕ) (x y o : Option Wrong) → bs ≡ c.bodies → ps ≡ ports → qs ≡ ports → len ≡ length c.bodies →
+      IsLeast (Among (IsWrongBody bs locals arguments joints ps) (length bs)) x → IsLeast (IsWrongIn bs locals arguments joints qs len) y → o ≡ first_of x y → IsLeast (IsMisused c) o
+  misused-least bs ps qs len x y o eb ep eq el h k e =
+      let h1 = subst (λ z. IsLeast (Among (IsWrongBody z locals arguments joints ps) (length z)) x) eb h in
+      let h2 = subst (λ z. IsLeast (Among (IsWrongBody c.bodies locals arguments joints z) (length c.bodies)) x) ep h1 in
+      let k1 = subst (λ z. IsLeast (IsWrongIn z locals arguments joints qs len) y) eb k in
+      let k2 = subst (λ z. IsLeast (IsWrongIn c.bodies locals arguments joints z len) y) eq k1 in
+      let k3 = subst (λ z. IsLeast (IsWrongIn c.bodies locals arguments joints ports z) y) el k2 in
+      subst (IsLeast (IsMisused c)) (sym e)
+      (least-same IsWrongSomewhere (IsMisused c) (first_of x y) somewhere-to (λ w m. wrong-somewhere w.kind w.span m.wrong m.kind)
+          (least-first_of (Among (IsWrongBody c.bodies locals arguments joints ports) (length c.bodies)) (IsWrongIn c.bodies locals arguments joints ports (length c.bodies)) x y h2 k3))
