@@ -1,12 +1,11 @@
 -- The ports of each body, which do not depend on what is visible before it.
-use Rattle.std.proofs.Common.{◌≡◌, ◌⊎◌, inl, inr, ℕ, suc, zero, ◌+◌, ◌<◌, ◌≤◌, List, [], ◌∷◌, ◌++◌, map, length, Bool, true, false, cond, Option, Some, None, refl, sym, ap, ◌∙◌, subst, arith, IsTrue, ◌↔◌, Contains}
+use Rattle.std.proofs.Common.{◌≡◌, inl, inr, ℕ, ◌+◌, ◌<◌, ◌≤◌, List, [], ◌∷◌, ◌++◌, map, length, Bool, true, false, cond, None, refl, sym, ap, ◌∙◌, subst, arith, Contains}
 use Rattle.std.specs.List.{slice_get}
 use Rattle.std.specs.Str.{bytes_eq}
 use Rattle.std.proofs.lemmas.Bool.{cases_order, cases_lt}
 use Rattle.std.proofs.lemmas.List.{map-append, length_push}
 use Rattle.std.proofs.lemmas.List.Elements.{Contains-append_cases}
 use Rattle.std.proofs.lemmas.Option.{slice_get_past}
-use Rattle.std.proofs.lemmas.Slice.Eq.{bytes_eq-Decides}
 use Rattle.click_text.specs.declared.syntax.Element.{Element}
 use Rattle.click_text.specs.declared.syntax.Link.{Link}
 use Rattle.click_text.specs.declared.syntax.Statement.{Statement}
@@ -14,7 +13,7 @@ use Rattle.click_text.specs.declared.syntax.Statement.TheVariants as statement
 use Rattle.click_text.specs.declared.syntax.Config.{Config}
 use Rattle.click_expand.specs.Scopes.{Scope, whole, inside, is_body, body_statements, bodies_in, statement_elements, statements_of, Stands, at_top, nested}
 use Rattle.click_expand.specs.Elements.{Placed, place, placed, declared_names, Role, pseudo, refers, makes, input_name, output_name, Local}
-use Rattle.click_expand.specs.Faults.{Names, End, end_of, Joint, port_number, number_behind, number_after, joints_behind, joints_from, statement_joints, scope_joints, is_pseudo, input_ports, output_ports, port_count, inputs_of, outputs_of}
+use Rattle.click_expand.specs.Faults.{Names, End, end_of, Joint, number_behind, number_after, joints_behind, joints_from, statement_joints, scope_joints, input_ports, output_ports, inputs_of, outputs_of}
 use Rattle.click_expand.specs.Nesting.{direct, Nests, no_bodies, next_body, IsNested}
 use Rattle.click_expand.specs.Joined.{IsOwner, AreJoints, AreAllJoints}
 use Rattle.click_expand.specs.Joining.{placed_elements}

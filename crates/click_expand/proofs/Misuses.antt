@@ -1,20 +1,19 @@
 -- The wrong uses that the code looks for are those of the configuration.
-use Rattle.std.proofs.Common.{◌≡◌, ◌≢◌, ◌⊎◌, inl, inr, ℕ, suc, zero, ◌+◌, ◌<◌, ◌≤◌, List, [], ◌∷◌, ◌++◌, map, length, take, Bool, true, false, not, nat_eq, nat_lt, Vec, Global, Option, Some, None, refl, sym, ap, ◌∙◌, subst, arith, Contains}
+use Rattle.std.proofs.Common.{◌≡◌, ◌≢◌, ◌⊎◌, inl, inr, ℕ, suc, zero, ◌<◌, ◌≤◌, List, [], ◌∷◌, ◌++◌, map, length, take, Bool, true, false, not, nat_eq, nat_lt, Vec, Global, Option, Some, None, refl, sym, ap, ◌∙◌, subst, arith, Contains}
 use Rattle.std.specs.List.{slice_get}
 use Rattle.std.specs.Option.{option_map}
 use Rattle.std.specs.Str.{bytes_eq}
 use Rattle.std.proofs.lemmas.Bool.Decides.{nat_tests}
 use Rattle.std.proofs.lemmas.Option.{same_Some, slice_get-map, slice_get_within}
 use Rattle.click_text.specs.declared.syntax.Span.{Span}
-use Rattle.click_text.specs.declared.syntax.Head.{Head}
 use Rattle.click_text.specs.declared.syntax.Statement.{Statement}
 use Rattle.click_text.specs.declared.syntax.Body.{Body}
 use Rattle.click_text.specs.declared.syntax.Config.{Config}
 use Rattle.click_text.specs.Arguments.{AreArguments}
 use Rattle.click_expand.specs.Scopes.{Scope, whole, inside, is_body, formals_of, body_formals, Stands, at_top}
-use Rattle.click_expand.specs.Classes.{Meaning, primitive, compound}
-use Rattle.click_expand.specs.Elements.{Placed, Role, pseudo, refers, makes, role, string_by, element_meaning, input_name, output_name, Local, local}
-use Rattle.click_expand.specs.Faults.{scope_placed, scope_declared, scope_locals, scope_joints, role_in, names_of, first_token, brace_of, number_after, End, Joint, is_pseudo, port_count, inputs_of, outputs_of, number_of, IsWrong, unknown_name, unknown_class, unknown_declared, unknown_original, named_twice, port_declared, formal_twice, wrong_parameters, no_output, no_input, output_as_source, input_as_target, input_gap, output_gap}
+use Rattle.click_expand.specs.Classes.{compound}
+use Rattle.click_expand.specs.Elements.{Placed, Role, pseudo, refers, makes, string_by, element_meaning, input_name, output_name, Local, local}
+use Rattle.click_expand.specs.Faults.{scope_placed, scope_declared, scope_locals, scope_joints, role_in, names_of, first_token, brace_of, number_after, End, Joint, port_count, inputs_of, outputs_of, number_of, IsWrong, unknown_name, unknown_class, unknown_declared, unknown_original, named_twice, port_declared, formal_twice, wrong_parameters, no_output, no_input, output_as_source, input_as_target, input_gap, output_gap}
 use Rattle.click_expand.specs.Tables.{meaning_by, local_of}
 use Rattle.click_expand.specs.Nesting.{IsNested}
 use Rattle.click_expand.specs.Scoped.{place_of}
@@ -22,7 +21,7 @@ use Rattle.click_expand.specs.Located.{AreAllLocals}
 use Rattle.click_expand.specs.Called.{AreArgumentsOf, AreAllArguments}
 use Rattle.click_expand.specs.Joined.{IsOwner, IsJoint, AreJoints, AreAllJoints}
 use Rattle.click_expand.specs.Wrongs.{IsLeast, IsMisused, first_of, first_in, wrong, wrong_if}
-use Rattle.click_expand.specs.Misused.{Among, IsWrongCall, IsWrongJoint, IsWrongIn, IsWrongBody, ArePorts, ports_or, compound_by, compound_in, call_by, call_of, call_at, outputs_by, inputs_by, lacking, source_by, target_by, gap_at, items_of, row_of, HasGap}
+use Rattle.click_expand.specs.Misused.{Among, IsWrongCall, IsWrongJoint, IsWrongIn, IsWrongBody, ArePorts, ports_or, compound_by, compound_in, call_by, call_of, outputs_by, inputs_by, lacking, source_by, target_by, gap_at, items_of, row_of, HasGap}
 use Rattle.click_expand.specs.declared.classes.ClassOf.{ClassOf}
 use Rattle.click_expand.specs.declared.classes.ClassOf.TheVariants as class
 use Rattle.click_expand.specs.declared.fault.FaultKind.{FaultKind}

@@ -1,4 +1,4 @@
-use Rattle.std.proofs.Common.{◌≡◌, length, ap, ◌∙◌, sym, subst}
+use Rattle.std.proofs.Common.{length, ap, sym, subst}
 use Rattle.click_expand.specs.Wrongs.{AreShort}
 use Rattle.click_expand.proofs.Misuses.{misused-least}
 use Rattle.click_expand.proofs.misused.first_misused.Goals as goal

@@ -1,4 +1,4 @@
-use Rattle.std.proofs.Common.{◌≡◌, ◌+◌, None, sym, subst, arith}
+use Rattle.std.proofs.Common.{◌+◌, sym, subst, arith}
 use Rattle.click_expand.specs.Wrongs.{IsLeast}
 use Rattle.click_expand.specs.Misused.{Among, IsWrongBody}
 use Rattle.click_expand.proofs.Misusing.{among-none, among-next, among-all, body-here}

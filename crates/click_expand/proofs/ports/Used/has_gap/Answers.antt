@@ -1,4 +1,4 @@
-use Rattle.std.proofs.Common.{◌≡◌, ◌<◌, refl, arith}
+use Rattle.std.proofs.Common.{refl, arith}
 use Rattle.click_expand.proofs.Porting.{gap-found, gap-none}
 use Rattle.click_expand.proofs.ports.Used.has_gap.Goals as goal
 
