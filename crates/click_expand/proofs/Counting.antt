@@ -162,9 +162,13 @@ module _ (c : Config) (b : Bool) (d : List (List ℕ)) (ps qs : List Placed) whe
   alike-links : (v w : List Statement) (n : ℕ) (e f : End) (ls : List Link) → IsAlike e f → AreAlike (joints_behind c these v n e ls) (joints_behind c those w n f ls)
   unfolding joints_behind
   alike-links v w n e f [] h = tt
-  alike-links v w n e f (l ∷ ls) h =
-      (h, refl, (λ x. refl), refl,
-        alike-links v w (number_behind c these n (place v l.element)) (end_of c these n (place v l.element)) (end_of c those n (place w l.element)) ls (λ x. refl))
+  alike-links v w n e f (l ∷ ls) h = (
+    h,
+    refl,
+    (λ x. refl),
+    refl,
+    alike-links v w (number_behind c these n (place v l.element)) (end_of c these n (place v l.element)) (end_of c those n (place w l.element)) ls (λ x. refl),
+  )
 
   alike-statement : (v w : List Statement) (n : ℕ) (st : Statement) → AreAlike (statement_joints c these v n st) (statement_joints c those w n st)
   alike-statement v w n (statement.Chain k) =
@@ -180,7 +184,7 @@ module _ (c : Config) (b : Bool) (d : List (List ℕ)) (ps qs : List Placed) whe
   alike-all v w n (st ∷ ss) =
       alike-append (statement_joints c these v n st) (statement_joints c those w n st) _ _ (alike-statement v w n st)
       (subst (λ m. AreAlike (joints_from c these (st ∷ v) (number_after c these n (map (place v) (statement_elements st))) ss) (joints_from c those (st ∷ w) m ss))
-          (number-same v w n (statement_elements st)) (alike-all (st ∷ v) (st ∷ w) (number_after c these n (map (place v) (statement_elements st))) ss))
+      (number-same v w n (statement_elements st)) (alike-all (st ∷ v) (st ∷ w) (number_after c these n (map (place v) (statement_elements st))) ss))
 
 elements-placed : (v w : List Statement) (es : List Element) → placed_elements (map (place v) es) ≡ placed_elements (map (place w) es)
 elements-placed v w [] = refl

@@ -186,16 +186,15 @@ module _ (c : Config) (b : Bool) (ps : List Placed) (d : List (List ℕ)) (first
       let r : role c.text b (declared_names c.text ps) q.element ≡ makes = declared-makes c.text b (declared_names c.text ps) w q.element.head q.element.text f.2.declared in (
         m,
         ap (at numbers) (known.declared.first w ∙ f.1) ∙ counted,
-        subst (λ o. IsOwner (locals_in c.text b ps) (owner.Element m) (end_by c (names_in c.text b ps) number p o)) (sym (same-role refers h))
-            (
-              (λ z. cc z),
-              (
-                local c.text m q,
-                made-number f.0 q m f.2.there counted r,
-                declared-named c.text w m q.element.head f.2.declared ∙ word,
-                sym f.2.meaning ∙ ap (declared_meaning c.text ps) word,
-              ),
-            ),
+        subst (λ o. IsOwner (locals_in c.text b ps) (owner.Element m) (end_by c (names_in c.text b ps) number p o)) (sym (same-role refers h)) (
+          (λ z. cc z),
+          (
+            local c.text m q,
+            made-number f.0 q m f.2.there counted r,
+            declared-named c.text w m q.element.head f.2.declared ∙ word,
+            sym f.2.meaning ∙ ap (declared_meaning c.text ps) word,
+          ),
+        ),
       )
 
 pub first-in : (c : Config) (h : Head) (bodies : List Body) → bodies ≡ c.bodies → first_in bodies h ≡ first_token c h
@@ -242,7 +241,7 @@ module _ (c : Config) (b : Bool) (ps : List Placed) (d : List (List ℕ)) (first
       let after : number ≡ number_after c names 0 (take i ps) = some_same (sym there ∙ ap (λ ns. slice_get ns i) known.counts ∙ numbers-after c names 0 ps i p.0 p.1) in
       let element : p.0.element ≡ w.element =
       some_same (sym (slice_get-map (λ (x : Placed). x.element) ps i ∙ ap (option_map (λ (x : Placed). x.element)) p.1) ∙ ap (λ es. slice_get es i) same
-          ∙ slice_get-map (λ (x : Written). x.element) ws i ∙ ap (option_map (λ (x : Written). x.element)) (slice_get-get_or ws i dw l) ∙ ap (λ (x : Written). Some x.element) (sym is)) in
+      ∙ slice_get-map (λ (x : Written). x.element) ws i ∙ ap (option_map (λ (x : Written). x.element)) (slice_get-get_or ws i dw l) ∙ ap (λ (x : Written). Some x.element) (sym is)) in
       let end = h p.0 (record { place = i; there = p.1; before = there; element = element }) in
       subst (λ xs. AreEnds (locals_in c.text b ps) c names 0 xs (take (i + 1) ps)) (sym e)
       (subst (AreEnds (locals_in c.text b ps) c names 0 (ks ++ k ∷ [])) (sym (take-there ps i p.0 within p.1))

@@ -168,7 +168,7 @@ module _ (c : Config) (s : Scope) (v : List Statement) (a : List Scope) (st : St
         let first : first_token c p.element.head ≡ first_in c.bodies l.head = sym (first-in c l.head c.bodies refl ∙ ap (λ (x : Local). first_token c x.head) m.is) in
         least-kind c kind.WrongParameters (first_in c.bodies l.head) w (omega arith) r.is
         (subst (IsWrong c kind.WrongParameters) first
-            (wrong_parameters s v a split.0 split.1 p r.body r.found st split.2 m.makes (sym (ap (λ (x : Local). x.meaning) m.is) ∙ means) read r.other))
+        (wrong_parameters s v a split.0 split.1 p r.body r.found st split.2 m.makes (sym (ap (λ (x : Local). x.meaning) m.is) ∙ means) read r.other))
 
     pub call-from : (front back : List Placed) (p : Placed) (b : ℕ) (spans : List Span) → scope_placed c s v ≡ front ++ p ∷ back → role_in c s v p ≡ makes →
         element_meaning c.text p ≡ Some (compound b) → AreArguments (string_by c.text p.element.text) spans → length spans ≢ length (formals_of c (inside b)) →
@@ -271,8 +271,8 @@ module _ (c : Config) (s : Scope) (v : List Statement) (a : List Scope) (st : St
 
     pub joint-from : (j : Joint) → Contains (scope_joints c s v) j → (first : Span) →
         ((k : JointKept) → IsJoint (scope_locals c s v) k j →
-            (source_by ls ports k.from.owner k.out_port k.from.first ≡ Some (wrong kind.CompoundPort first))
-            ⊎ (target_by ls ports k.to.owner k.in_port k.to.first ≡ Some (wrong kind.CompoundPort first))) →
+        (source_by ls ports k.from.owner k.out_port k.from.first ≡ Some (wrong kind.CompoundPort first))
+        ⊎ (target_by ls ports k.to.owner k.in_port k.to.first ≡ Some (wrong kind.CompoundPort first))) →
         Among (IsWrongJoint ls ports ks) (length ks) (wrong kind.CompoundPort first)
     joint-from j i first f =
         let n = at-contains (scope_joints c s v) j i in
@@ -318,7 +318,7 @@ module _ (c : Config) (n : IsNested c) (locals : List (Vec LocalKept Global)) (a
         let l = hl s v a st in let r = ha s v a st in
         placed-in w
         (inl (subst (λ x. Among (IsWrongCall c.bodies x (row_of (slice_get arguments i))) (length x) w) (sym (ap items_of l.1))
-                (subst (λ x. Among (IsWrongCall c.bodies l.0.items x) (length l.0.items) w) (sym (ap row_of r.1)) (f r.0 l.0.items l.2 r.2))))
+        (subst (λ x. Among (IsWrongCall c.bodies l.0.items x) (length l.0.items) w) (sym (ap row_of r.1)) (f r.0 l.0.items l.2 r.2))))
 
     joints-in : (w : Wrong) → ((ls : List LocalKept) → map (local_of c.text) ls ≡ scope_locals c s v → (ks : List JointKept) → AreJoints (scope_locals c s v) ks (scope_joints c s v) →
         Among (IsWrongJoint ls ports ks) (length ks) w) → IsWrongSomewhere w
@@ -327,7 +327,7 @@ module _ (c : Config) (n : IsNested c) (locals : List (Vec LocalKept Global)) (a
         let l = hl s v a st in let j = hj s v a st in
         placed-in w
         (inr (subst (λ x. Among (IsWrongJoint x ports (row_of (slice_get joints i))) (length (row_of (slice_get joints i))) w) (sym (ap items_of l.1))
-                (subst (λ x. Among (IsWrongJoint l.0.items ports x) (length x) w) (sym (ap row_of j.1)) (f l.0.items l.2 j.0 j.2))))
+        (subst (λ x. Among (IsWrongJoint l.0.items ports x) (length x) w) (sym (ap row_of j.1)) (f l.0.items l.2 j.0 j.2))))
 
   gap-to : (b : ℕ) → b < length c.bodies → (w : Wrong) → gap_at c.bodies ports b ≡ Some w → IsMisused c w
   gap-to b l w h =
@@ -367,19 +367,19 @@ module _ (c : Config) (n : IsNested c) (locals : List (Vec LocalKept Global)) (a
   wrong-somewhere k p (no_output s v a j b st i r m x) l =
       joints-in s v a st (wrong kind.CompoundPort j.from.first)
       (λ ls same ks hk. joint-from c s v a st ls same ports hp ks hk j i j.from.first
-          (λ kj h. inl (lack-source c s v a st ls same ports hp ks hk j b r m x kj.from.owner h.from.owner kj.out_port h.out_port kj.from.first ∙ ap (λ y. Some (wrong kind.CompoundPort y)) h.from.first)))
+      (λ kj h. inl (lack-source c s v a st ls same ports hp ks hk j b r m x kj.from.owner h.from.owner kj.out_port h.out_port kj.from.first ∙ ap (λ y. Some (wrong kind.CompoundPort y)) h.from.first)))
   wrong-somewhere k p (no_input s v a j b st i r m x) l =
       joints-in s v a st (wrong kind.CompoundPort j.to.first)
       (λ ls same ks hk. joint-from c s v a st ls same ports hp ks hk j i j.to.first
-          (λ kj h. inr (lack-target c s v a st ls same ports hp ks hk j b r m x kj.to.owner h.to.owner kj.in_port h.in_port kj.to.first ∙ ap (λ y. Some (wrong kind.CompoundPort y)) h.to.first)))
+      (λ kj h. inr (lack-target c s v a st ls same ports hp ks hk j b r m x kj.to.owner h.to.owner kj.in_port h.in_port kj.to.first ∙ ap (λ y. Some (wrong kind.CompoundPort y)) h.to.first)))
   wrong-somewhere k p (output_as_source s v a j st i t) l =
       joints-in s v a st (wrong kind.CompoundPort j.from.first)
       (λ ls same ks hk. joint-from c s v a st ls same ports hp ks hk j i j.from.first
-          (λ kj h. inl (own-source c s v a st ls same ports hp ks hk j.from t kj.from.owner h.from.owner kj.out_port kj.from.first ∙ ap (λ y. Some (wrong kind.CompoundPort y)) h.from.first)))
+      (λ kj h. inl (own-source c s v a st ls same ports hp ks hk j.from t kj.from.owner h.from.owner kj.out_port kj.from.first ∙ ap (λ y. Some (wrong kind.CompoundPort y)) h.from.first)))
   wrong-somewhere k p (input_as_target s v a j st i t) l =
       joints-in s v a st (wrong kind.CompoundPort j.to.first)
       (λ ls same ks hk. joint-from c s v a st ls same ports hp ks hk j i j.to.first
-          (λ kj h. inr (own-target c s v a st ls same ports hp ks hk j.to t kj.to.owner h.to.owner kj.in_port kj.to.first ∙ ap (λ y. Some (wrong kind.CompoundPort y)) h.to.first)))
+      (λ kj h. inr (own-target c s v a st ls same ports hp ks hk j.to t kj.to.owner h.to.owner kj.in_port kj.to.first ∙ ap (λ y. Some (wrong kind.CompoundPort y)) h.to.first)))
   wrong-somewhere k p (input_gap b v a q st x y) l =
       gap-from b (inside-within c n (inside b) v a st b refl) (inl (record { port = q; below = x; unused = y }))
   wrong-somewhere k p (output_gap b v a q st x y) l =
@@ -395,4 +395,4 @@ module _ (c : Config) (n : IsNested c) (locals : List (Vec LocalKept Global)) (a
       let k3 = subst (λ z. IsLeast (IsWrongIn c.bodies locals arguments joints ports z) y) el k2 in
       subst (IsLeast (IsMisused c)) (sym e)
       (least-same IsWrongSomewhere (IsMisused c) (first_of x y) somewhere-to (λ w m. wrong-somewhere w.kind w.span m.wrong m.kind)
-          (least-first_of (Among (IsWrongBody c.bodies locals arguments joints ports) (length c.bodies)) (IsWrongIn c.bodies locals arguments joints ports (length c.bodies)) x y h2 k3))
+      (least-first_of (Among (IsWrongBody c.bodies locals arguments joints ports) (length c.bodies)) (IsWrongIn c.bodies locals arguments joints ports (length c.bodies)) x y h2 k3))

@@ -40,9 +40,9 @@ pub call-here : (bodies : List Body) (ls : List LocalKept) (arguments : List (Li
 call-here bodies ls arguments i l o there e =
     subst (IsLeast (IsWrongCall bodies ls arguments i)) (sym e)
     (least-same (λ w. call_at bodies l (slice_get arguments i) ≡ Some w) (IsWrongCall bodies ls arguments i) (call_at bodies l (slice_get arguments i))
-        (λ w p. record { element = l; there = there; is = p })
-        (λ w p. ap (λ (x : LocalKept). call_at bodies x (slice_get arguments i)) (same_Some l p.element (sym there ∙ p.there)) ∙ p.is)
-        (least-alone (call_at bodies l (slice_get arguments i))))
+    (λ w p. record { element = l; there = there; is = p })
+    (λ w p. ap (λ (x : LocalKept). call_at bodies x (slice_get arguments i)) (same_Some l p.element (sym there ∙ p.there)) ∙ p.is)
+    (least-alone (call_at bodies l (slice_get arguments i))))
 
 pub joint-here : (ls : List LocalKept) (ports : List Ports) (ks : List JointKept) (i : ℕ) (k : JointKept) (a b o : Option Wrong) → slice_get ks i ≡ Some k →
     a ≡ source_by ls ports k.from.owner k.out_port k.from.first → b ≡ target_by ls ports k.to.owner k.in_port k.to.first → o ≡ first_of a b → IsLeast (IsWrongJoint ls ports ks i) o
@@ -51,9 +51,9 @@ joint-here ls ports ks i k a b o there p q e =
     let target = λ (x : JointKept). target_by ls ports x.to.owner x.in_port x.to.first in
     subst (IsLeast (IsWrongJoint ls ports ks i)) (sym (e ∙ ap (λ x. first_of x b) p ∙ ap (first_of (source k)) q))
     (least-same (λ w. (source k ≡ Some w) ⊎ (target k ≡ Some w)) (IsWrongJoint ls ports ks i) (first_of (source k) (target k))
-        (λ w c. record { joint = k; there = there; is = c })
-        (λ w c. let s : c.joint ≡ k = same_Some c.joint k (sym c.there ∙ there) in subst (λ x. (source x ≡ Some w) ⊎ (target x ≡ Some w)) s c.is)
-        (least-first_of (λ w. source k ≡ Some w) (λ w. target k ≡ Some w) (source k) (target k) (least-alone (source k)) (least-alone (target k))))
+    (λ w c. record { joint = k; there = there; is = c })
+    (λ w c. let s : c.joint ≡ k = same_Some c.joint k (sym c.there ∙ there) in subst (λ x. (source x ≡ Some w) ⊎ (target x ≡ Some w)) s c.is)
+    (least-first_of (λ w. source k ≡ Some w) (λ w. target k ≡ Some w) (source k) (target k) (least-alone (source k)) (least-alone (target k))))
 
 module _ (bodies : List Body) (locals : List (Vec LocalKept Global)) (arguments : List (List (List Span))) (joints : List (List JointKept)) (ports : List Ports) where
   pub body-here : (i : ℕ) (a b o : Option Wrong) → IsLeast (IsWrongIn bodies locals arguments joints ports i) a → b ≡ gap_at bodies ports i → o ≡ first_of a b →

@@ -185,14 +185,7 @@ fn ends_at(
     let mut ends = Vec::new(alloc);
     for (place, one) in written.iter().enumerate() {
         let number = numbers[place];
-        ends.push(end_at(
-            config,
-            in_body,
-            declared,
-            numbers,
-            number,
-            one.element,
-        ))?;
+        ends.push(end_at(config, in_body, declared, numbers, number, one.element))?;
     }
     Ok(ends)
 }

@@ -31,10 +31,7 @@ fn locals_at(locals: &[Vec<Local>], place: usize) -> &[Local]
 }
 
 /// The arguments of the scope at a place.
-fn arguments_at(
-    arguments: &[Sequence<Sequence<Span>>],
-    place: usize,
-) -> &[Sequence<Span>]
+fn arguments_at(arguments: &[Sequence<Sequence<Span>>], place: usize) -> &[Sequence<Span>]
     ensures { result.now ≡ row_of (slice_get arguments.now place) }
 {
     match arguments.get(place) {
@@ -74,7 +71,12 @@ fn formals_count(bodies: &[Body], body: usize) -> usize
 }
 
 /// An element with more or fewer arguments than its compound has parameters.
-fn wrong_call(bodies: &[Body], local: &Local, arguments: &[Sequence<Span>], place: usize) -> Option<Wrong>
+fn wrong_call(
+    bodies: &[Body],
+    local: &Local,
+    arguments: &[Sequence<Span>],
+    place: usize,
+) -> Option<Wrong>
     requires { AreShort bodies.now }
     ensures { result ≡ call_at bodies.now local.now (slice_get arguments.now place) }
 {

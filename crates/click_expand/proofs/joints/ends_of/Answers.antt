@@ -18,5 +18,5 @@ returns-clause-ends c = λ ps same.
     let text = c.args.config.now.text in let t = c.as_slice-text.ensures in let d = c.in_ok-declared.declared in let ws = c.args.written.now in
     c.in_ok-ends.ensures.ends ps
     (known-by text c.args.in_body ws d.names d.firsts.items c.as_slice.result.now ps (subst (λ x. AreDeclared x (elements_of ws) d.names d.firsts.items) t c.in_ok-declared.ensures.first)
-        (λ q. c.in_ok-declared.ensures.has q ∙ ap (λ x. has_name q (names_of x (elements_of ws))) t)
-        (c.as_slice.ensures.value ∙ c.in_ok-numbers.ensures ∙ ap (λ x. numbers_from x c.args.in_body d.names 0 (elements_of ws)) t) same) same
+    (λ q. c.in_ok-declared.ensures.has q ∙ ap (λ x. has_name q (names_of x (elements_of ws))) t)
+    (c.as_slice.ensures.value ∙ c.in_ok-numbers.ensures ∙ ap (λ x. numbers_from x c.args.in_body d.names 0 (elements_of ws)) t) same) same

@@ -19,11 +19,11 @@ loop-place-preserved c =
       | in-Some+in_ok-push w ↦
           subst (λ b. Paired ends ws c.match-joint_of.joints b (i + 1)) (sym w.before-is)
           (paired-next ends ws js c.match-joint_of.joints c.loop-place.before i _ _ _ _ c.joint_of.result l m refl refl c.joint_of.ensures
-              (w.joints-is ∙ w.in_ok-push.ensures.ok ∙ ap (λ o. js ++ cons_option o []) (sym w.in-Some.is)) c.loop-place.invariant)
+          (w.joints-is ∙ w.in_ok-push.ensures.ok ∙ ap (λ o. js ++ cons_option o []) (sym w.in-Some.is)) c.loop-place.invariant)
       | in_default w ↦
           subst (λ b. Paired ends ws c.match-joint_of.joints b (i + 1)) (sym w.before-is)
           (paired-next ends ws js c.match-joint_of.joints c.loop-place.before i _ _ _ _ c.joint_of.result l m refl refl c.joint_of.ensures
-              (w.joints-is ∙ sym (append-nil js) ∙ ap (λ o. js ++ cons_option o []) (sym (not-some c.joint_of.result w.in_default.not-Some))) c.loop-place.invariant)
+          (w.joints-is ∙ sym (append-nil js) ∙ ap (λ o. js ++ cons_option o []) (sym (not-some c.joint_of.result w.in_default.not-Some))) c.loop-place.invariant)
     ]
 
 pub returns : goal.returns

@@ -12,8 +12,8 @@ loop-place-preserved c =
     let C = IsWrongBody c.args.bodies.now c.args.locals.now c.args.arguments.now c.args.joints.now c.args.ports.now in let i = c.loop-place.place in
     subst (IsLeast (Among C (i + 1))) (sym c.first_of-first.ensures)
     (among-next C i c.loop-place.first c.first_of.result c.loop-place.invariant
-        (body-here c.args.bodies.now c.args.locals.now c.args.arguments.now c.args.joints.now c.args.ports.now i c.in_scope-inside.result c.wrong_ports-gap.result c.first_of.result
-            c.in_scope-inside.ensures c.wrong_ports-gap.ensures c.first_of.ensures))
+    (body-here c.args.bodies.now c.args.locals.now c.args.arguments.now c.args.joints.now c.args.ports.now i c.in_scope-inside.result c.wrong_ports-gap.result c.first_of.result
+    c.in_scope-inside.ensures c.wrong_ports-gap.ensures c.first_of.ensures))
 
 pub returns : goal.returns
 returns c =

@@ -14,8 +14,8 @@ loop-joint-preserved c =
     let C = IsWrongJoint ls ports ks in
     subst (IsLeast (Among C (i + 1))) (sym c.first_of-first.ensures)
     (among-next C i c.loop-joint.first c.first_of.result c.loop-joint.invariant
-        (joint-here ls ports ks i _ c.wrong_source-source.result c.wrong_target-target.result c.first_of.result (slice_get-get_or ks i _ c.loop-joint-test.true)
-            c.wrong_source-source.ensures c.wrong_target-target.ensures c.first_of.ensures))
+    (joint-here ls ports ks i _ c.wrong_source-source.result c.wrong_target-target.result c.first_of.result (slice_get-get_or ks i _ c.loop-joint-test.true)
+    c.wrong_source-source.ensures c.wrong_target-target.ensures c.first_of.ensures))
 
 pub returns : goal.returns
 returns c =

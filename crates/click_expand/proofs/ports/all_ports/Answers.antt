@@ -10,7 +10,7 @@ pub loop-place-preserved : goal.loop-place-preserved
 loop-place-preserved c =
     counted-next c.args.config.now c.loop-place.ports.items c.push.new.self.items c.loop-place.place c.ports_by.result
     (body-ports c.args.config.now c.requires.nested c.args.joints.now c.requires.joined c.loop-place.place c.ports_by.result
-        (let t = c.loop-place-test.true in let e = c.len-place-end.ensures in omega (arith, t, e)) (subst (λ ks. IsPorts (inputs_kept ks) (outputs_kept ks) c.ports_by.result) c.joints_at.ensures c.ports_by.ensures))
+    (let t = c.loop-place-test.true in let e = c.len-place-end.ensures in omega (arith, t, e)) (subst (λ ks. IsPorts (inputs_kept ks) (outputs_kept ks) c.ports_by.result) c.joints_at.ensures c.ports_by.ensures))
     c.in_ok-push.ensures.items c.loop-place.invariant
 
 pub returns : goal.returns

@@ -12,9 +12,9 @@ loop-joint-preserved c =
       | in-Input w ↦
           subst (λ (u : Used). IsUsed (inputs_kept (take (i + 1) ks)) u.count u.ports) (sym w.used-is)
           (subst (λ ps. IsUsed ps w.add.new.self.count w.add.new.self.ports)
-              (sym (inputs-yes ks i _ _ c.loop-joint-test.true refl w.in-Input.is)) (w.add.ensures (inputs_kept (take i ks)) c.loop-joint.invariant))
+          (sym (inputs-yes ks i _ _ c.loop-joint-test.true refl w.in-Input.is)) (w.add.ensures (inputs_kept (take i ks)) c.loop-joint.invariant))
       | in_default w ↦
           subst (λ (u : Used). IsUsed (inputs_kept (take (i + 1) ks)) u.count u.ports) (sym w.used-is)
           (subst (λ ps. IsUsed ps c.loop-joint.used.count c.loop-joint.used.ports)
-              (sym (inputs-no ks i _ _ c.loop-joint-test.true refl w.in_default.not-Input)) c.loop-joint.invariant)
+          (sym (inputs-no ks i _ _ c.loop-joint-test.true refl w.in_default.not-Input)) c.loop-joint.invariant)
     ]

@@ -12,9 +12,9 @@ loop-joint-preserved c =
       | in-Output w ↦
           subst (λ (u : Used). IsUsed (outputs_kept (take (i + 1) ks)) u.count u.ports) (sym w.used-is)
           (subst (λ ps. IsUsed ps w.add.new.self.count w.add.new.self.ports)
-              (sym (outputs-yes ks i _ _ c.loop-joint-test.true refl w.in-Output.is)) (w.add.ensures (outputs_kept (take i ks)) c.loop-joint.invariant))
+          (sym (outputs-yes ks i _ _ c.loop-joint-test.true refl w.in-Output.is)) (w.add.ensures (outputs_kept (take i ks)) c.loop-joint.invariant))
       | in_default w ↦
           subst (λ (u : Used). IsUsed (outputs_kept (take (i + 1) ks)) u.count u.ports) (sym w.used-is)
           (subst (λ ps. IsUsed ps c.loop-joint.used.count c.loop-joint.used.ports)
-              (sym (outputs-no ks i _ _ c.loop-joint-test.true refl w.in_default.not-Output)) c.loop-joint.invariant)
+          (sym (outputs-no ks i _ _ c.loop-joint-test.true refl w.in_default.not-Output)) c.loop-joint.invariant)
     ]
