@@ -1,18 +1,16 @@
 -- The connections of each scope.
-use Rattle.std.proofs.Common.{◌≡◌, ℕ, ◌<◌, ◌≤◌, List, [], ◌∷◌, map, length, Bool, nat_lt, Some, refl, sym, ap, ◌∙◌, subst, arith}
-use Rattle.std.specs.List.{slice_get}
+use Rattle.std.proofs.Common.{◌≡◌, ℕ, ◌≤◌, List, [], ◌∷◌, length, nat_lt, refl, sym, ap, ◌∙◌, subst, arith}
 use Rattle.std.proofs.lemmas.Option.{slice_get_within}
 use Rattle.click_text.specs.declared.syntax.Element.{Element}
-use Rattle.click_text.specs.declared.syntax.Statement.{Statement}
 use Rattle.click_text.specs.declared.syntax.Config.{Config}
-use Rattle.click_expand.specs.Scopes.{Scope, is_body, statements_of, Stands}
+use Rattle.click_expand.specs.Scopes.{statements_of}
 use Rattle.click_expand.specs.Elements.{Placed, placed}
 use Rattle.click_expand.specs.Faults.{joints_from}
 use Rattle.click_expand.specs.Tables.{AreWritten, elements_of}
 use Rattle.click_expand.specs.Nesting.{IsNested}
 use Rattle.click_expand.specs.Scoped.{place_of, AreScopes}
 use Rattle.click_expand.specs.Joined.{AreJoints, AreAllJoints}
-use Rattle.click_expand.specs.Joining.{placed_elements, names_in, locals_in, AreEnds, AreJointsOf}
+use Rattle.click_expand.specs.Joining.{placed_elements, names_in, locals_in, AreJointsOf}
 use Rattle.click_expand.specs.declared.classes.Entry.{Entry}
 use Rattle.click_expand.specs.declared.scopes.Written.{Written}
 use Rattle.click_expand.specs.declared.scopes.Scope.{Scope as ScopeKept}

@@ -1,6 +1,6 @@
 -- The ends of connections: whose ports they are.
-use Rattle.std.proofs.Common.{◌≡◌, ◌≢◌, ◌⊎◌, inl, inr, ℕ, suc, zero, ◌+◌, ◌<◌, ◌≤◌, List, [], ◌∷◌, ◌++◌, map, length, get_or, take, Bool, true, false, ◌&&◌, ◌||◌, cond, Option, Some, None, refl, sym, ap, ◌∙◌, subst, arith, position}
-use Rattle.std.specs.List.{slice_get, position_from, list_any, cons_option}
+use Rattle.std.proofs.Common.{◌≡◌, ◌⊎◌, inl, inr, ℕ, suc, zero, ◌+◌, ◌<◌, ◌≤◌, List, [], ◌∷◌, ◌++◌, length, get_or, take, Bool, true, false, ◌&&◌, ◌||◌, cond, Option, Some, None, refl, sym, ap, ◌∙◌, subst, arith, position}
+use Rattle.std.specs.List.{slice_get, position_from, cons_option}
 use Rattle.std.specs.Str.{bytes_eq}
 use Rattle.std.proofs.lemmas.Slice.Eq.{bytes_eq-Decides}
 use Rattle.std.proofs.lemmas.Option.{slice_get-map, slice_get-get_or, get_or_from_slice_get}
@@ -12,7 +12,7 @@ use Rattle.click_text.specs.declared.syntax.Head.TheVariants as head
 use Rattle.click_text.specs.declared.syntax.Element.{Element}
 use Rattle.click_text.specs.declared.syntax.Config.{Config}
 use Rattle.click_text.specs.Spans.{bytes_at}
-use Rattle.click_expand.specs.Elements.{Placed, Role, pseudo, refers, makes, role, role_by, word_role, word_of, is_port_name, input_name, output_name, counts, has_name, head_name, declared_names, element_meaning, made_name, Local, local, local_by, locals_from}
+use Rattle.click_expand.specs.Elements.{Placed, Role, pseudo, refers, makes, role, role_by, word_of, is_port_name, input_name, output_name, counts, has_name, head_name, declared_names, element_meaning, made_name, Local, local, locals_from}
 use Rattle.click_expand.specs.Faults.{Names, end_by, end_of, first_token, number_behind, number_after, is_declared_as, declared_meaning}
 use Rattle.click_expand.specs.Tables.{elements_of, names_of, numbers_from}
 use Rattle.click_expand.specs.Joined.{IsOwner, IsEnd}
@@ -251,7 +251,7 @@ module _ (c : Config) (b : Bool) (ps : List Placed) (d : List (List ℕ)) (first
       AreEnds (locals_in c.text b ps) c (names_in c.text b ps) 0 ks ps
   ends-all i ks l = subst (AreEnds (locals_in c.text b ps) c (names_in c.text b ps) 0 ks) (take_all i ps (omega (arith, l, as_many)))
 
-names-placed : (text : List ℕ) (ps : List Placed) → names_of text (placed_elements ps) ≡ declared_names text ps
+pub names-placed : (text : List ℕ) (ps : List Placed) → names_of text (placed_elements ps) ≡ declared_names text ps
 names-placed text [] = refl
 names-placed text (p ∷ ps) = ap (cons_option (head_name text p.element.head)) (names-placed text ps)
 

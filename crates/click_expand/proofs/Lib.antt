@@ -31,6 +31,9 @@ pub mod OrderedOnce
 pub mod FlatOnce
 pub mod Spelled
 pub mod Porting
+pub mod Counting
+pub mod Misusing
+pub mod Misuses
 pub mod FaultOnce
 pub mod Misnaming
 pub mod Naming

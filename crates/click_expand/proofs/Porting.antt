@@ -1,9 +1,8 @@
 -- The ports of a body that are in use, one after another.
-use Rattle.std.proofs.Common.{◌≡◌, ◌≢◌, inl, inr, ℕ, suc, zero, ◌+◌, ◌<◌, ◌≤◌, max, List, [], ◌∷◌, ◌++◌, length, get_or, set, take, replicate, Bool, true, false, ◌||◌, nat_eq, Some, refl, sym, ap, ◌∙◌, subst, arith, IsTrue, ◌↔◌, Contains}
-use Rattle.std.specs.List.{slice_get, list_any}
-use Rattle.std.proofs.lemmas.Bool.{cases_order, cases_lt}
+use Rattle.std.proofs.Common.{◌≡◌, ◌≢◌, inl, inr, ℕ, ◌+◌, ◌<◌, ◌≤◌, max, List, [], ◌∷◌, ◌++◌, length, get_or, set, take, replicate, Bool, true, false, ◌||◌, nat_eq, refl, sym, ap, ◌∙◌, subst, arith, Contains}
+use Rattle.std.proofs.lemmas.Bool.{cases_order}
 use Rattle.std.proofs.lemmas.Bool.Decides.{nat_tests}
-use Rattle.std.proofs.lemmas.List.{append-nil, length-set, length-replicate, get_or-set_same, get_or-set_other, get_or-replicate, take_more, take_all}
+use Rattle.std.proofs.lemmas.List.{append-nil, length-set, length-replicate, get_or-set_same, get_or-set_other, get_or-replicate, take_more}
 use Rattle.click_expand.specs.Faults.{port_count}
 use Rattle.click_expand.specs.Misused.{from_input, to_output, inputs_kept, outputs_kept, HasGap, has_port, IsUsed}
 use Rattle.click_expand.specs.declared.joints.Owner.{Owner}

@@ -5,12 +5,11 @@ use Rattle.click_text.specs.declared.syntax.Element.{Element}
 use Rattle.click_text.specs.declared.syntax.Statement.{Statement}
 use Rattle.click_text.specs.declared.syntax.Config.{Config}
 use Rattle.click_expand.specs.Elements.{Placed, placed, has_name, head_name, declared_names, Local, locals_from}
-use Rattle.click_expand.specs.Faults.{Names, End, end_of, number_behind, is_declared_as, joints_from}
+use Rattle.click_expand.specs.Faults.{Names, end_of, number_behind, is_declared_as, joints_from}
 use Rattle.click_expand.specs.Tables.{elements_of, numbers_from}
 use Rattle.click_expand.specs.Scoped.{ports_in}
-use Rattle.click_expand.specs.Joined.{IsOwner, IsEnd, AreJoints}
+use Rattle.click_expand.specs.Joined.{IsEnd, AreJoints}
 use Rattle.click_expand.specs.declared.scopes.Written.{Written}
-use Rattle.click_expand.specs.declared.joints.Owner.{Owner}
 use Rattle.click_expand.specs.declared.joints.End.{End as EndKept}
 use Rattle.click_expand.specs.declared.joints.Joint.{Joint as JointKept}
 

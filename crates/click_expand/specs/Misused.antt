@@ -1,5 +1,5 @@
 -- Wrong uses of compounds, as the code looks for them.
-use Rattle.std.specs.Prelude.{◌≡◌, ◌⊎◌, ℕ, ◌<◌, List, [], ◌∷◌, length, slice_get, slice_index_or, Bool, true, false, not, Contains, nat_eq, nat_lt, Option, Some, None, Vec, ◌↔◌, IsTrue}
+use Rattle.std.specs.Prelude.{◌≡◌, ◌⊎◌, ℕ, ◌<◌, List, [], ◌∷◌, length, slice_get, slice_index_or, Bool, false, not, Contains, nat_eq, nat_lt, Option, Some, None, Vec, ◌↔◌, IsTrue}
 use Rattle.std.specs.List.{list_any}
 use Rattle.std.specs.Global.{Global}
 use Rattle.click_text.specs.declared.syntax.Span.{Span}

@@ -1,8 +1,8 @@
-use Rattle.std.proofs.Common.{◌≡◌, ◌+◌, ◌++◌, ◌∷◌, [], Some, None, cond, sym, ap, ◌∙◌, refl, subst}
+use Rattle.std.proofs.Common.{◌≡◌, ◌+◌, [], Some, sym, ap, ◌∙◌, refl}
 use Rattle.click_expand.specs.Elements.{has_name, head_name}
 use Rattle.click_expand.specs.declared.joints.Declared.{Declared}
 use Rattle.click_expand.proofs.Making.{undeclared, has_name-added, declared_by, declared_by-yes, declared_by-no, declared_by-all}
-use Rattle.click_expand.proofs.Declaring.{Declaring, declaring-none, declaring-no, declaring-yes, declaring-as, declaring-next, declaring-other, elements_by, declaring-all}
+use Rattle.click_expand.proofs.Declaring.{declaring-none, declaring-as, declaring-next, declaring-other, elements_by, declaring-all}
 use Rattle.click_expand.proofs.joints.declared_in.Goals as goal
 use Rattle.click_expand.proofs.joints.declared_in.Goals.{in-Declared+in_ok-add, in_default}
 

@@ -1,4 +1,4 @@
-use Rattle.std.proofs.Common.{◌≡◌, sym, ap, ◌∙◌, subst}
+use Rattle.std.proofs.Common.{sym, ap, ◌∙◌, subst}
 use Rattle.click_text.specs.declared.syntax.Element.{Element}
 use Rattle.click_expand.specs.Faults.{first_token}
 use Rattle.click_expand.specs.Wrongs.{AreShort}

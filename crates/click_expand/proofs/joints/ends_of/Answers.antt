@@ -1,4 +1,4 @@
-use Rattle.std.proofs.Common.{◌≡◌, ℕ, List, length, sym, ap, ◌∙◌, subst}
+use Rattle.std.proofs.Common.{length, ap, ◌∙◌, subst}
 use Rattle.std.proofs.lemmas.List.{length-map}
 use Rattle.click_expand.specs.declared.scopes.Written.{Written}
 use Rattle.click_expand.specs.Tables.{elements_of, names_of, numbers_from}

@@ -1,4 +1,4 @@
-use Rattle.std.proofs.Common.{◌≡◌, length, sym, ap, ◌∙◌, subst}
+use Rattle.std.proofs.Common.{length, sym, ap, ◌∙◌, subst}
 use Rattle.click_expand.specs.Elements.{placed}
 use Rattle.click_expand.specs.Joining.{names_in, locals_in, AreEnds}
 use Rattle.click_expand.proofs.joints.joints_in.Goals as goal

@@ -1,4 +1,4 @@
-use Rattle.std.proofs.Common.{◌≡◌, ◌+◌, take, refl, sym, subst}
+use Rattle.std.proofs.Common.{◌+◌, take, refl, sym, subst}
 use Rattle.click_expand.specs.Misused.{inputs_kept, IsUsed}
 use Rattle.click_expand.specs.declared.ports.Used.{Used}
 use Rattle.click_expand.proofs.Porting.{inputs-yes, inputs-no}

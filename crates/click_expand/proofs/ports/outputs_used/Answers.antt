@@ -1,4 +1,4 @@
-use Rattle.std.proofs.Common.{◌≡◌, ◌+◌, take, refl, sym, subst}
+use Rattle.std.proofs.Common.{◌+◌, take, refl, sym, subst}
 use Rattle.click_expand.specs.Misused.{outputs_kept, IsUsed}
 use Rattle.click_expand.specs.declared.ports.Used.{Used}
 use Rattle.click_expand.proofs.Porting.{outputs-yes, outputs-no}

@@ -1,4 +1,4 @@
-use Rattle.std.proofs.Common.{◌≡◌, ◌+◌, arith}
+use Rattle.std.proofs.Common.{◌+◌, arith}
 use Rattle.click_expand.proofs.Porting.{used-add}
 use Rattle.click_expand.proofs.ports.Used.add.Goals as goal
 

@@ -1,4 +1,4 @@
-use Rattle.std.proofs.Common.{◌≡◌, refl}
+use Rattle.std.proofs.Common.{refl}
 use Rattle.click_expand.proofs.Porting.{used-none}
 use Rattle.click_expand.proofs.ports.Used.none.Goals as goal
 
