@@ -51,3 +51,4 @@ pub mod Chains
 pub mod Following
 pub mod Gathering
 pub mod Connected
+pub mod FlatNaming

@@ -25,3 +25,4 @@ pub mod Counted
 pub mod Joining
 pub mod Misused
 pub mod Wiring
+pub mod Ways
