@@ -43,7 +43,7 @@ smaller-is None u p e = absurd (none-some p e)
 smaller-is (Some q) u p e = by-test (nat_lt q.within u) refl e
   where
     by-test : (b : Bool) → nat_lt q.within u ≡ b → cond b (Some q) None ≡ Some p → (Some q ≡ Some p) × (p.within < u)
-    by-test true t f = (f, subst (λ (r : Place). r.within < u) (same_Some q p f) (omega (nat_tests, t)))
+    by-test true t f = (f, subst (λ (r : Place). r.within < u) (same_Some q p f) (let l : q.within < u = grind (arith, nat_tests) in l))
     by-test false t f = absurd (none-some p f)
 
 use-at : (uses : List UseKept) (u : ℕ) (p : Place) → around_in uses u ≡ Some p → (k : UseKept) × (slice_get uses u ≡ Some k) × (k.around ≡ Some p) × (p.within < u)
@@ -82,7 +82,7 @@ outermost c known u x (Some p) e h = absurd (none-some p (sym e ∙ below (nat_l
   where
     below : (b : Bool) → nat_lt p.within u ≡ b → cond b (Some p) None ≡ Some p
     below true t = refl
-    below false t = absurd (omega (nat_tests, t, h.0))
+    below false t = let l : p.within < u = h.0 in absurd (grind (arith, nat_tests))
 
 around-none : (uses : List UseKept) (u : ℕ) (k : UseKept) → slice_get uses u ≡ Some k → around_in uses u ≡ None → smaller k.around u ≡ None
 around-none uses u k t e = sym (ap (λ o. use_around o u) t) ∙ e
