@@ -2,11 +2,12 @@
 //! does all it can at the greatest sizes. Else:
 //!
 //! - `KIND SIZE` parses a text of that kind and size in bytes: its kind, its size, how many statements and bodies it has;
-//! - `input` parses what stands on standard input;
+//! - `input` parses what stands on standard input, `flat` expands it too;
 //! - `lookup COUNT`, `classifier COUNT` make an element of that many arguments;
 //! - `make CLASS` makes an element of the class with the configuration string on standard input.
 #![tactic(auto)]
 
+mod expanding;
 mod making;
 
 use click_classes::Class;
@@ -125,8 +126,10 @@ fn sized(rt: &HostRuntime, word: &str, size: usize) -> io::Result<()> {
 fn run(rt: &HostRuntime) -> io::Result<()> {
     let words = env::args(rt)?.collect::<Vec<String>>(rt.alloc())?;
     if let [_, word] = words.as_slice() {
-        if word.as_str() == "input" {
-            return read_input(rt);
+        match word.as_str() {
+            "input" => return read_input(rt),
+            "flat" => return expanding::input(rt),
+            _ => {}
         }
     }
     if let [_, kind, size] = words.as_slice() {

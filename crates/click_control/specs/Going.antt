@@ -1,5 +1,5 @@
 -- A session that goes on: what it has done up to a moment.
-use Rattle.std.specs.Prelude.{◌≡◌, ℕ, ◌≤◌, ◌<◌, List, [], ◌++◌, length, Bool, true, false, ◌||◌, Option, Some, None, Result, Ok, Err}
+use Rattle.std.specs.Prelude.{◌≡◌, ℕ, ◌+◌, ◌≤◌, ◌<◌, List, [], ◌++◌, length, Bool, true, false, ◌||◌, Option, Some, None, Result, Ok, Err}
 use Rattle.std.specs.Io.KnownBytes.{Consumes, Appends, Keeps, IsAtEnd}
 use Rattle.click_router.specs.declared.call.Call.{Call}
 use Rattle.click_router.specs.declared.call.Reply.{Reply}
@@ -13,7 +13,7 @@ use Rattle.click_control.specs.declared.serving.ServeFault.{ServeFault}
 use Rattle.click_control.specs.declared.serving.ServeFault.TheVariants as fault
 use Rattle.click_control.specs.Commands.{commands, Pending, to_come}
 use Rattle.click_control.specs.ReplyText.{greeting}
-use Rattle.click_control.specs.Serving.{Asked, replies, GoesOn, Serves}
+use Rattle.click_control.specs.Serving.{Asked, replies, most_reads, GoesOn, Serves}
 
 -- a front of the text was written
 abbrev pub WroteFront : Option (List ℕ) → Option (List ℕ) → List ℕ → Type 0
@@ -27,13 +27,15 @@ Written (Err fault.NoMemory) held holds before now text = WroteFront held holds 
 Written (Err fault.ReadFailed) held holds before now text = ⊥
 
 -- the session took in a piece of some bytes; or the input is at its end; or a fault
-abbrev pub TakesIn : Option (List ℕ) → Option (List ℕ) → Bool → Bool → Pending → Pending → Result Bool ServeFault → Type 0
-TakesIn had left before now old new (Ok true) =
+-- (`before` and `now`: whether a read has failed; `made` and `makes`: how many have not)
+abbrev pub TakesIn : Option (List ℕ) → Option (List ℕ) → Bool → Bool → ℕ → ℕ → Pending → Pending → Result Bool ServeFault → Type 0
+TakesIn had left before now made makes old new (Ok true) =
     (piece : List ℕ) × (0 < length piece) × Consumes had left piece × (now ≡ before) × (new ≡ record { from = old.from; bytes = old.bytes ++ piece })
-TakesIn had left before now old new (Ok false) = Consumes had left [] × IsAtEnd left × (now ≡ before) × (new ≡ old)
-TakesIn had left before now old new (Err fault.ReadFailed) = Keeps had left × (now ≡ (before || true))
-TakesIn had left before now old new (Err fault.NoMemory) = ((piece : List ℕ) × Consumes had left piece) × (now ≡ before)
-TakesIn had left before now old new (Err fault.WriteFailed) = ⊥
+    × (makes ≡ made + 1)
+TakesIn had left before now made makes old new (Ok false) = Consumes had left [] × IsAtEnd left × (now ≡ before) × (new ≡ old) × (makes ≡ made + 1)
+TakesIn had left before now made makes old new (Err fault.ReadFailed) = Keeps had left × (now ≡ (before || true)) × (makes ≡ made)
+TakesIn had left before now made makes old new (Err fault.NoMemory) = ((piece : List ℕ) × Consumes had left piece) × (now ≡ before) × (makes ≡ made + 1)
+TakesIn had left before now made makes old new (Err fault.WriteFailed) = ⊥
 
 -- how a command ends a session
 abbrev pub ending_of : Command → Option Ended
@@ -43,12 +45,14 @@ ending_of _ = None
 
 -- A session so far, whose commands to come are those of this state. Each command that was taken up is answered in full.
 pub record SoFar {P : Type 0} (asks : P → Call → Result Reply AskFault → P → Type 0) (old now : P)
-    (had left : Option (List ℕ)) (read_failed_before read_failed_now : Bool)
+    (had left : Option (List ℕ)) (read_failed_before read_failed_now : Bool) (reads_before reads_now : ℕ)
     (held holds : Option (List ℕ)) (write_failed_before write_failed_now : Bool) (s : Pending) (reads : ℕ) : Type 0 where
   pub input : List ℕ
   pub consumed : Consumes had left input
-  -- each read that was not the last gave a byte
+  -- each read gave a byte
   pub many : reads ≤ length input
+  pub counted : reads_now ≡ reads_before + reads
+  pub within : reads ≤ most_reads
   pub taken : List Command
   pub goes_on : GoesOn taken
   pub read : (more : List ℕ) → commands (input ++ more) ≡ taken ++ to_come s more
@@ -62,8 +66,8 @@ pub record SoFar {P : Type 0} (asks : P → Call → Result Reply AskFault → P
 
 -- What came of answering commands: the session goes on, or it ends.
 abbrev pub Goes : {P : Type 0} → (P → Call → Result Reply AskFault → P → Type 0) → P → P
-    → Option (List ℕ) → Option (List ℕ) → Bool → Bool → Option (List ℕ) → Option (List ℕ) → Bool → Bool → Pending → ℕ
+    → Option (List ℕ) → Option (List ℕ) → Bool → Bool → ℕ → ℕ → Option (List ℕ) → Option (List ℕ) → Bool → Bool → Pending → ℕ
     → Result (Option Ended) ServeFault → Type 0
-Goes asks old new had left rb rn held holds wb wn s reads (Ok None) = SoFar asks old new had left rb rn held holds wb wn s reads
-Goes asks old new had left rb rn held holds wb wn s reads (Ok (Some e)) = Serves asks old new had left rb rn held holds wb wn (Ok e)
-Goes asks old new had left rb rn held holds wb wn s reads (Err f) = Serves asks old new had left rb rn held holds wb wn (Err f)
+Goes asks old new had left rb rn cb cn held holds wb wn s reads (Ok None) = SoFar asks old new had left rb rn cb cn held holds wb wn s reads
+Goes asks old new had left rb rn cb cn held holds wb wn s reads (Ok (Some e)) = Serves asks old new had left rb rn cb cn held holds wb wn (Ok e)
+Goes asks old new had left rb rn cb cn held holds wb wn s reads (Err f) = Serves asks old new had left rb rn cb cn held holds wb wn (Err f)

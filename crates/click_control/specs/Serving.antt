@@ -1,5 +1,5 @@
 -- A whole session: what it asked, and what it wrote.
-use Rattle.std.specs.Prelude.{◌≡◌, ◌⊎◌, ℕ, ◌≤◌, List, [], ◌∷◌, ◌++◌, length, All, Bool, true, false, ◌||◌, Option, Some, None, Result, Ok, Err}
+use Rattle.std.specs.Prelude.{◌≡◌, ◌⊎◌, ℕ, ◌+◌, ◌≤◌, ◌<◌, List, [], ◌∷◌, ◌++◌, length, All, Bool, true, false, ◌||◌, Option, Some, None, Result, Ok, Err}
 use Rattle.std.specs.Io.KnownBytes.{Consumes, Appends, IsAtEnd}
 use Rattle.click_router.specs.declared.call.Call.{Call}
 use Rattle.click_router.specs.declared.call.Call.TheVariants as call
@@ -68,28 +68,37 @@ IsWhole taken more answers output = (more ≡ []) × (output ≡ greeting ++ rep
 abbrev pub IsFront : List Command → List Answer → List ℕ → Type 0
 IsFront taken answers output = (rest : List ℕ) × (greeting ++ replies taken answers ≡ output ++ rest)
 
--- How a session ends. `failed`: whether a read, and whether a write, has failed in it.
-abbrev pub Ends : Result Ended ServeFault → List ℕ → Option (List ℕ) → List Command → List Command → List Answer → List ℕ → Bool → Bool → Type 0
-Ends (Ok ended.Quit) input left taken more answers output read_failed write_failed =
+-- Why a session reads no more of its input: a read failed, or it had as many as it may have, each of which gave a byte.
+abbrev pub ReadsNoMore : List ℕ → ℕ → Bool → Type 0
+ReadsNoMore input reads read_failed =
+    ((read_failed ≡ true) × (reads < most_reads)) ⊎ ((read_failed ≡ false) × (reads ≡ most_reads) × (most_reads ≤ length input))
+
+-- How a session ends. `reads`: how many reads were made that did not fail. `failed`: whether a read, and whether a write, has failed in it.
+abbrev pub Ends : Result Ended ServeFault → List ℕ → Option (List ℕ) → List Command → List Command → List Answer → List ℕ → ℕ → Bool → Bool → Type 0
+Ends (Ok ended.Quit) input left taken more answers output reads read_failed write_failed =
     IsWhole taken more answers output × EndsWith taken command.Quit × (read_failed ≡ false) × (write_failed ≡ false)
-Ends (Ok ended.TooLong) input left taken more answers output read_failed write_failed =
+Ends (Ok ended.TooLong) input left taken more answers output reads read_failed write_failed =
     IsWhole taken more answers output × EndsWith taken command.LineTooLong × (read_failed ≡ false) × (write_failed ≡ false)
-Ends (Ok ended.EndOfInput) input left taken more answers output read_failed write_failed =
+Ends (Ok ended.EndOfInput) input left taken more answers output reads read_failed write_failed =
     IsWhole taken more answers output × GoesOn taken × IsAtEnd left × (read_failed ≡ false) × (write_failed ≡ false)
-Ends (Err fault.ReadFailed) input left taken more answers output read_failed write_failed =
-    IsWhole taken more answers output × GoesOn taken × ((read_failed ≡ true) ⊎ (most_reads ≤ length input)) × (write_failed ≡ false)
-Ends (Err fault.WriteFailed) input left taken more answers output read_failed write_failed =
+Ends (Err fault.ReadFailed) input left taken more answers output reads read_failed write_failed =
+    IsWhole taken more answers output × GoesOn taken × ReadsNoMore input reads read_failed × (write_failed ≡ false)
+Ends (Err fault.WriteFailed) input left taken more answers output reads read_failed write_failed =
     IsFront taken answers output × (read_failed ≡ false) × (write_failed ≡ true)
-Ends (Err fault.NoMemory) input left taken more answers output read_failed write_failed =
+Ends (Err fault.NoMemory) input left taken more answers output reads read_failed write_failed =
     IsFront taken answers output × (read_failed ≡ false) × (write_failed ≡ false)
 
 -- A session with a port, a reader and a writer, each before and behind it.
 pub record Serves {P : Type 0} (asks : P → Call → Result Reply AskFault → P → Type 0) (old new : P)
-    (had left : Option (List ℕ)) (read_failed_before read_failed_now : Bool)
+    (had left : Option (List ℕ)) (read_failed_before read_failed_now : Bool) (reads_before reads_now : ℕ)
     (held holds : Option (List ℕ)) (write_failed_before write_failed_now : Bool) (result : Result Ended ServeFault) : Type 0 where
   -- the bytes that were read
   pub input : List ℕ
   pub consumed : Consumes had left input
+  -- how many reads were made that did not fail
+  pub reads : ℕ
+  pub counted : reads_now ≡ reads_before + reads
+  pub within : reads ≤ most_reads
   -- the commands taken up, and the others that were read
   pub taken : List Command
   pub more : List Command
@@ -104,4 +113,4 @@ pub record Serves {P : Type 0} (asks : P → Call → Result Reply AskFault → 
   pub reading : read_failed_now ≡ (read_failed_before || read_failed)
   pub write_failed : Bool
   pub writing : write_failed_now ≡ (write_failed_before || write_failed)
-  pub ends : Ends result input left taken more answers output read_failed write_failed
+  pub ends : Ends result input left taken more answers output reads read_failed write_failed

@@ -55,7 +55,7 @@ pub fn serve<R: Source, W: Sink, P: Port>(
     readonly: bool,
 ) -> Result<Ended, ServeFault>
     ensures { Serves P.asks port.old port.new (R.remaining reader.old) (R.remaining reader.new) (R.failed reader.old) (R.failed reader.new)
-        (W.contents writer.old) (W.contents writer.new) (W.failed writer.old) (W.failed writer.new) result }
+        (R.reads reader.old) (R.reads reader.new) (W.contents writer.old) (W.contents writer.new) (W.failed writer.old) (W.failed writer.new) result }
 {
     // No command changes the router yet, so there is none to refuse.
     let _ = readonly;
@@ -90,7 +90,7 @@ fn take_in<R: Source>(
     session: &mut Session,
 ) -> Result<bool, ServeFault>
     requires { 0 < length piece.old }
-    ensures { TakesIn (R.remaining reader.old) (R.remaining reader.new) (R.failed reader.old) (R.failed reader.new) session.old session.new result }
+    ensures { TakesIn (R.remaining reader.old) (R.remaining reader.new) (R.failed reader.old) (R.failed reader.new) (R.reads reader.old) (R.reads reader.new) session.old session.new result }
 {
     match reader.read(piece) {
         Err(Failed) => Err(ServeFault::ReadFailed),
@@ -109,9 +109,9 @@ fn answer_whole<W: Sink, P: Port>(
     port: &mut P,
     session: &mut Session,
 ) -> Result<Option<Ended>, ServeFault>
-    ensures goes { (first : P) (had left held : Option (List ℕ)) (read_before read_now write_before : Bool) (reads : ℕ)
-        → SoFar P.asks first port.old had left read_before read_now held (W.contents writer.old) write_before (W.failed writer.old) session.old reads
-        → Goes P.asks first port.new had left read_before read_now held (W.contents writer.new) write_before (W.failed writer.new) session.new reads result }
+    ensures goes { (first : P) (had left held : Option (List ℕ)) (read_before read_now write_before : Bool) (made_before made_now reads : ℕ)
+        → SoFar P.asks first port.old had left read_before read_now made_before made_now held (W.contents writer.old) write_before (W.failed writer.old) session.old reads
+        → Goes P.asks first port.new had left read_before read_now made_before made_now held (W.contents writer.new) write_before (W.failed writer.new) session.new reads result }
     ensures all_told { IfOk result (λ ended. IfNone ended (to_come session.new [] ≡ [])) }
 {
     loop {
@@ -135,10 +135,10 @@ fn take_up<W: Sink, P: Port>(
     port: &mut P,
     command: Command,
 ) -> Result<Option<Ended>, ServeFault>
-    ensures { (first : P) (had left held : Option (List ℕ)) (read_before read_now write_before : Bool) (old new : Pending) (reads : ℕ)
-        → SoFar P.asks first port.old had left read_before read_now held (W.contents writer.old) write_before (W.failed writer.old) old reads
+    ensures { (first : P) (had left held : Option (List ℕ)) (read_before read_now write_before : Bool) (old new : Pending) (made_before made_now reads : ℕ)
+        → SoFar P.asks first port.old had left read_before read_now made_before made_now held (W.contents writer.old) write_before (W.failed writer.old) old reads
         → TellsOne old new command
-        → Goes P.asks first port.new had left read_before read_now held (W.contents writer.new) write_before (W.failed writer.new) new reads result }
+        → Goes P.asks first port.new had left read_before read_now made_before made_now held (W.contents writer.new) write_before (W.failed writer.new) new reads result }
 {
     let Ok(call) = call_of(alloc, &command) else {
         return Err(ServeFault::NoMemory);

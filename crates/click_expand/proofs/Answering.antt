@@ -1,20 +1,21 @@
 -- The flat form of a sound configuration, or what is refused of it.
-use Rattle.std.proofs.Common.{◌≡◌, ℕ, ◌+◌, ◌<◌, ◌≤◌, List, map, length, Option, Some, None, refl, sym, ap, ◌∙◌, subst, arith}
+use Rattle.std.proofs.Common.{◌≡◌, inl, inr, ℕ, ◌+◌, ◌<◌, ◌≤◌, List, map, length, Option, Some, None, refl, sym, ap, ◌∙◌, subst, arith}
 use Rattle.std.specs.Prelude.{min}
 use Rattle.click_text.specs.declared.syntax.Config.{Config}
 use Rattle.click_expand.specs.Nesting.{IsNested}
 use Rattle.click_expand.specs.Faults.{IsSound}
 use Rattle.click_expand.specs.Instances.{Leaf, LeavesOf}
 use Rattle.click_expand.specs.Sizes.{IsSize, IsSizeOf}
-use Rattle.click_expand.specs.Flat.{most_elements, most_paths, Exceeds, many_elements, many_paths, Meant, IsFlat, IsFlatFault, wrong, too_many, repeated, broken, expand_fault}
-use Rattle.click_expand.specs.Tabled.{IsFirst, IsExpanded, IsExpandedOr, IsRefused, IsRefusedOf}
+use Rattle.click_expand.specs.Flat.{most_elements, most_paths, Exceeds, many_elements, many_paths, Meant, IsFlat, IsFlatFault, wrong, too_many, repeated, broken, expand_fault, no_memory, IsMemoryOr}
+use Rattle.click_expand.specs.Tabled.{IsFirst, IsExpanded, IsExpandedOr, IsRefused, IsRefusedOf, fault_for}
 use Rattle.click_expand.specs.declared.fault.FaultKind.TheVariants as kind
 use Rattle.click_expand.specs.declared.flat.Flat.{Flat}
-use Rattle.click_expand.specs.declared.flatten.Refused.{Refused}
-use Rattle.click_expand.specs.declared.flatten.Refused.TheVariants as refused
+use Rattle.click_expand.specs.declared.flattening.Refused.{Refused}
+use Rattle.click_expand.specs.declared.flattening.Refused.TheVariants as refused
 use Rattle.click_expand.specs.declared.sizes.Size.{Size}
 use Rattle.click_expand.specs.declared.wrong.Wrong.{Wrong}
 use Rattle.click_expand.proofs.Leaves.{leaves-exist}
+use Rattle.click_expand.proofs.FlatOnce.{flat-no-fault}
 
 min-over : (n k : ℕ) → k < min n (k + 1) → k < n
 min-over n k l = omega (arith, l)
@@ -79,3 +80,16 @@ refused-by c leaves paths f sound l e (refused.Broken name) h =
 
 pub first-refused : (c : Config) (w : Wrong) → IsFirst c (Some w) → IsRefused c (refused.At w.kind w.span)
 first-refused c w h = wrong w.kind w.span h
+
+pub told : (c : Config) (why : Refused) → IsRefused c why → IsMemoryOr (fault_for why) (IsFlatFault c (fault_for why))
+told c refused.NoMemory h = inl refl
+told c (refused.At k s) h = inr h
+told c refused.TooMany h = inr h
+told c (refused.Broken name) h = inr h
+
+-- what has a flat form is refused for want of memory alone
+pub refused-for-memory : (c : Config) → IsNested c → (f : Flat) → IsFlat c f → (why : Refused) → IsRefused c why → fault_for why ≡ no_memory
+refused-for-memory c nested f is refused.NoMemory h = refl
+refused-for-memory c nested f is (refused.At k s) h = absurd (flat-no-fault c nested f (fault_for (refused.At k s)) is h)
+refused-for-memory c nested f is refused.TooMany h = absurd (flat-no-fault c nested f (fault_for refused.TooMany) is h)
+refused-for-memory c nested f is (refused.Broken name) h = absurd (flat-no-fault c nested f (fault_for (refused.Broken name)) is h)

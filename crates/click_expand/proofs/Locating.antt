@@ -48,7 +48,7 @@ module _ (text : List ℕ) where
       ∙ ap (strings_made text in_body (declared_names text ps)) (elements-kept es ws ps k)
 
   module _ (in_body : Bool) (d e : List (List ℕ)) (same : (q : List ℕ) → has_name q d ≡ has_name q e) where
-    role-same : (h : Head) (t : Option Span) → role_by text in_body d h t ≡ role_by text in_body e h t
+    pub role-same : (h : Head) (t : Option Span) → role_by text in_body d h t ≡ role_by text in_body e h t
     role-same (head.Word s) None =
         ap (λ b. cond (in_body && is_port_name (bytes_at text s)) pseudo (cond b refers makes)) (same (bytes_at text s))
     role-same (head.Word s) (Some t) = refl

@@ -18,7 +18,7 @@ use Rattle.click_expand.specs.Elements.{Placed, Role, pseudo, refers, makes, rol
 use Rattle.click_expand.specs.Tables.{IsWritten, AreWritten, elements_of, names_of, numbers_from, local_of, role_by}
 use Rattle.click_expand.specs.Located.{string_by, string_made, strings_made, strings_of}
 
-any_push : {X : Type 0} (p : X → Bool) (xs : List X) (x : X) → list_any p (xs ++ x ∷ []) ≡ (list_any p xs || p x)
+pub any_push : {X : Type 0} (p : X → Bool) (xs : List X) (x : X) → list_any p (xs ++ x ∷ []) ≡ (list_any p xs || p x)
 any_push p [] x = elim (p x) as (λ b. (b || false) ≡ b) [ true ↦ refl | false ↦ refl ]
 any_push p (y ∷ xs) x = elim (p y) as (λ b. (b || list_any p (xs ++ x ∷ [])) ≡ (b || list_any p xs || p x)) [ true ↦ refl | false ↦ any_push p xs x ]
 

@@ -20,18 +20,18 @@ use Rattle.click_expand.specs.Uses.{Used, locals_at, AreUses}
 use Rattle.click_expand.specs.Tabled.{local_head, scope_head, use_head, place_head, head_in, IsRefusedOf}
 use Rattle.click_expand.specs.declared.fault.FaultKind.TheVariants as kind
 use Rattle.click_expand.specs.declared.flat.FlatElement.{FlatElement}
-use Rattle.click_expand.specs.declared.flatten.Refused.TheVariants as refused
+use Rattle.click_expand.specs.declared.flattening.Refused.TheVariants as refused
 use Rattle.click_expand.specs.declared.members.Local.{Local as LocalKept}
 use Rattle.click_expand.specs.declared.uses.Place.{Place}
 use Rattle.click_expand.specs.declared.uses.Use.{Use as UseKept}
 use Rattle.click_expand.proofs.Contained.{IsAt, at-place}
 
-some-at : {X : Type 0} (xs : List X) (n : ℕ) → n < length xs → (x : X) × (slice_get xs n ≡ Some x)
+pub some-at : {X : Type 0} (xs : List X) (n : ℕ) → n < length xs → (x : X) × (slice_get xs n ≡ Some x)
 some-at [] n l = absurd (omega (arith, l))
 some-at (x ∷ xs) zero l = (x, refl)
 some-at (x ∷ xs) (suc n) l = some-at xs n (omega (arith, l))
 
-map-at : {X Y : Type 0} (f : X → Y) (xs : List X) (i : ℕ) (y : Y) → slice_get (map f xs) i ≡ Some y → (x : X) × (slice_get xs i ≡ Some x) × (f x ≡ y)
+pub map-at : {X Y : Type 0} (f : X → Y) (xs : List X) (i : ℕ) (y : Y) → slice_get (map f xs) i ≡ Some y → (x : X) × (slice_get xs i ≡ Some x) × (f x ≡ y)
 map-at f [] i y e = absurd (none-some y e)
 map-at f (x ∷ xs) zero y e = (x, refl, same_Some (f x) y e)
 map-at f (x ∷ xs) (suc i) y e = map-at f xs i y e

@@ -22,3 +22,10 @@ pub mod Tabled
 pub mod Texts
 pub mod Values
 pub mod Spread
+pub mod Misnamed
+pub mod Using
+pub mod Counted
+pub mod Joining
+pub mod Misused
+pub mod Wiring
+pub mod Ways

@@ -4,7 +4,7 @@ use Rattle.std.specs.Global.{Global}
 use Rattle.click_text.specs.declared.syntax.Head.{Head}
 use Rattle.click_text.specs.declared.syntax.Config.{Config}
 use Rattle.click_expand.specs.Scoped.{AreScopes, AreSynonyms}
-use Rattle.click_expand.specs.Located.{AreAllLocals}
+use Rattle.click_expand.specs.Located.{AreAllLocals, AreAllStrings}
 use Rattle.click_expand.specs.Called.{AreAllArguments}
 use Rattle.click_expand.specs.Joined.{AreAllJoints}
 use Rattle.click_expand.specs.Faults.{IsFirstWrong, IsSound}
@@ -17,15 +17,16 @@ use Rattle.click_expand.specs.declared.members.Local.{Local as LocalKept}
 use Rattle.click_expand.specs.declared.uses.Place.{Place}
 use Rattle.click_expand.specs.declared.uses.Use.{Use as UseKept}
 use Rattle.click_expand.specs.declared.wrong.Wrong.{Wrong}
-use Rattle.click_expand.specs.declared.flatten.Tables.{Tables}
-use Rattle.click_expand.specs.declared.flatten.Refused.{Refused}
-use Rattle.click_expand.specs.declared.flatten.Refused.TheVariants as refused
+use Rattle.click_expand.specs.declared.flattening.Tables.{Tables}
+use Rattle.click_expand.specs.declared.flattening.Refused.{Refused}
+use Rattle.click_expand.specs.declared.flattening.Refused.TheVariants as refused
 
 -- the tables of a configuration
 pub record AreTables (c : Config) (t : Tables) : Type 0 where
   pub scopes : AreScopes c t.scopes.entries.items t.scopes.scopes.items
   pub synonyms : AreSynonyms c t.scopes.entries.items
   pub locals : AreAllLocals c t.locals.items
+  pub strings : AreAllStrings c t.locals.items
   pub arguments : AreAllArguments c t.arguments.items
   pub joints : AreAllJoints c t.joints.items
 

@@ -13,7 +13,7 @@ pub struct FlatElement {
 }
 
 /// An output joined to an input. Elements are named by their places, from 0.
-#[derive(Clone, Copy, Debug, PartialEq, Eq, PartialOrd, Ord)]
+#[derive(Clone, Copy, Debug, PartialEq, Eq, PartialOrd, Ord, Hash)]
 pub struct Connection {
     pub from: usize,
     pub out_port: u8,

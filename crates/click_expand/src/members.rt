@@ -70,7 +70,7 @@ fn word_role(in_body: bool, declared: &Names, word: &[u8]) -> Role
 }
 
 /// What an element as written stands for.
-fn role_of(text: &[u8], in_body: bool, declared: &Names, element: Element) -> Role
+pub(crate) fn role_of(text: &[u8], in_body: bool, declared: &Names, element: Element) -> Role
     ensures { role_by result ≡ spec.role text.now in_body declared.now element }
 {
     match (element.head, element.text) {
@@ -165,7 +165,7 @@ fn locals_of(
 }
 
 /// For each element as written, the number of elements before it.
-fn numbers_of(
+pub(crate) fn numbers_of(
     alloc: Global,
     text: &[u8],
     in_body: bool,

@@ -1,6 +1,6 @@
 //! The connections of a flat configuration.
 
-ghost use Rattle.std.specs.Prelude.{◌<◌, ◌≤◌, ℕ, List, length, Contains, IfOk, MatchOption};
+ghost use Rattle.std.specs.Prelude.{◌≡◌, ◌≤◌, ◌<◌, ◌∷◌, [], ℕ, List, length, Contains, OnOk, IfOk, MatchOption};
 ghost use Rattle.click_expand.specs.declared.flat.Connection.{Connection as Joined};
 ghost use Rattle.click_expand.specs.Nesting.{IsNested};
 ghost use Rattle.click_expand.specs.Faults.{IsSound};
@@ -8,16 +8,185 @@ ghost use Rattle.click_expand.specs.Joined.{AreAllJoints};
 ghost use Rattle.click_expand.specs.Instances.{Leaf as Flattened};
 ghost use Rattle.click_expand.specs.Uses.{Used, AreUses};
 ghost use Rattle.click_expand.specs.Flat.{AreConnections, InOrder, Joins, most_connections};
+ghost use Rattle.click_expand.specs.Wiring as spec;
+ghost use Rattle.click_expand.specs.Wiring.{Connects, IsFrom, IsFromPort, IsFromUse, Gains, HasAll, Takes};
 
 use crate::flat::Connection;
-use crate::joints::Joint;
-use crate::uses::Uses;
+use crate::joints::{Joint, Owner};
+use crate::order::in_order;
+use crate::starts::{Index, Input, Next, Port, Start, all_indices, next_of};
+use crate::uses::{Part, Use, Uses};
 use click_text::sequence::Sequence;
 use click_text::syntax::Config;
+use indexmap::IndexSet;
 use std::alloc::{AllocError, Global};
 
 /// How many connections there may be.
 pub const MOST_CONNECTIONS: usize = 16384;
+
+/// An output of a flat element, by which it is named in its connections, and where a search from it begins.
+#[derive(Clone, Copy)]
+struct Output {
+    leaf: usize,
+    start: Start,
+}
+
+/// The connection from an output to an input.
+fn connection(from: Output, to: Input) -> Connection
+    ensures { result ≡ spec.connection from.leaf from.start.port.number to }
+{
+    Connection {
+        from: from.leaf,
+        out_port: from.start.port.number,
+        to: to.leaf,
+        in_port: to.number,
+    }
+}
+
+/// Keeps what lies behind a connection: where the search goes on, or a connection that is found.
+fn take(
+    next: Next,
+    from: Output,
+    seen: &mut IndexSet<Start>,
+    found: &mut IndexSet<Connection>,
+) -> Result<(), AllocError>
+    ensures { OnOk result (Takes from.leaf from.start.port.number (next ∷ []) seen.old.keys seen.new.keys found.old.keys found.new.keys) }
+{
+    match next {
+        Next::Nothing => {}
+        Next::Start(start) => {
+            seen.insert(start)?;
+        }
+        Next::Leaf(input) => {
+            found.insert(connection(from, input))?;
+        }
+    }
+    Ok(())
+}
+
+/// Keeps what lies behind each of these ports of a use.
+fn take_all(
+    one: &Use,
+    ends: &[Port],
+    from: Output,
+    seen: &mut IndexSet<Start>,
+    found: &mut IndexSet<Connection>,
+) -> Result<(), AllocError>
+    ensures { OnOk result (Takes from.leaf from.start.port.number (spec.nexts one.now ends.now) seen.old.keys seen.new.keys found.old.keys found.new.keys) }
+{
+    for end in ends {
+        take(next_of(one, *end), from, seen, found)?;
+    }
+    Ok(())
+}
+
+/// Goes on by one connection from a start.
+fn visit(
+    uses: &[Use],
+    indices: &[Index],
+    start: Start,
+    from: Output,
+    seen: &mut IndexSet<Start>,
+    found: &mut IndexSet<Connection>,
+) -> Result<(), AllocError>
+    ensures { OnOk result (spec.Visits uses.now indices.now start from.leaf from.start.port.number seen.old.keys seen.new.keys found.old.keys found.new.keys) }
+{
+    let Some(one) = uses.get(start.within) else {
+        return Ok(());
+    };
+    let Some(index) = indices.get(one.scope) else {
+        return Ok(());
+    };
+    take_all(one, index.ends(start.port), from, seen, found)
+}
+
+/// Adds the connections from an output, all of them where there are no more than the limit.
+fn search(
+    alloc: Global,
+    uses: &[Use],
+    indices: &[Index],
+    from: Output,
+    found: &mut IndexSet<Connection>,
+) -> Result<(), AllocError>
+    ensures more { OnOk result (Gains (IsFrom uses.now indices.now from.leaf from.start) found.old.keys found.new.keys) }
+    ensures all { OnOk result (length found.new.keys ≤ most_connections → HasAll (IsFrom uses.now indices.now from.leaf from.start) found.new.keys) }
+{
+    let mut seen = IndexSet::new(alloc);
+    seen.insert(from.start)?;
+    let mut at = 0;
+    while at < seen.len() && found.len() <= MOST_CONNECTIONS {
+        let start = seen.as_slice()[at];
+        visit(uses, indices, start, from, &mut seen, found)?;
+        at += 1;
+    }
+    Ok(())
+}
+
+/// Adds the connections from a port of a use, where it is an output of a flat element.
+fn search_port(
+    alloc: Global,
+    uses: &[Use],
+    indices: &[Index],
+    within: usize,
+    port: Port,
+    found: &mut IndexSet<Connection>,
+) -> Result<(), AllocError>
+    ensures more { OnOk result (Gains (IsFromPort uses.now indices.now within port) found.old.keys found.new.keys) }
+    ensures all { OnOk result (length found.new.keys ≤ most_connections → HasAll (IsFromPort uses.now indices.now within port) found.new.keys) }
+{
+    let Some(one) = uses.get(within) else {
+        return Ok(());
+    };
+    let Owner::Element(element) = port.owner else {
+        return Ok(());
+    };
+    let Some(Part::Leaf(leaf)) = one.parts.as_slice().get(element).copied() else {
+        return Ok(());
+    };
+    let start = Start { within, port };
+    search(alloc, uses, indices, Output { leaf, start }, found)
+}
+
+/// Adds the connections from a use.
+fn search_use(
+    alloc: Global,
+    uses: &[Use],
+    indices: &[Index],
+    within: usize,
+    found: &mut IndexSet<Connection>,
+) -> Result<(), AllocError>
+    ensures more { OnOk result (Gains (IsFromUse uses.now indices.now within) found.old.keys found.new.keys) }
+    ensures all { OnOk result (length found.new.keys ≤ most_connections → HasAll (IsFromUse uses.now indices.now within) found.new.keys) }
+{
+    let Some(one) = uses.get(within) else {
+        return Ok(());
+    };
+    let Some(index) = indices.get(one.scope) else {
+        return Ok(());
+    };
+    for at in 0..index.ends.len() {
+        if let Some((port, _)) = index.ends.get_index(at) {
+            search_port(alloc, uses, indices, within, *port, found)?;
+        }
+    }
+    Ok(())
+}
+
+/// The connections, all of them where there are no more than the limit.
+fn search_all(
+    alloc: Global,
+    uses: &[Use],
+    indices: &[Index],
+) -> Result<IndexSet<Connection>, AllocError>
+    ensures sound { IfOk result (λ found. (k : Joined) → Contains found.keys k → Connects uses.now indices.now k) }
+    ensures all { IfOk result (λ found. length found.keys ≤ most_connections → HasAll (Connects uses.now indices.now) found.keys) }
+{
+    let mut found = IndexSet::new(alloc);
+    for within in 0..uses.len() {
+        search_use(alloc, uses, indices, within, &mut found)?;
+    }
+    Ok(found)
+}
 
 /// The connections in their order, each once, or none where there are more than the limit.
 pub fn connections_of(
@@ -34,5 +203,15 @@ pub fn connections_of(
         MatchOption r ((ks : List Joined) × InOrder ks × ((k : Joined) → Contains ks k → Joins config.now leaves k) × (most_connections < length ks))
         (λ ks. AreConnections config.now leaves ks.items × (length ks.items ≤ most_connections))) }
 {
-    Err(AllocError)
+    let indices = all_indices(alloc, joints)?;
+    let found = search_all(alloc, uses.uses.as_slice(), indices.as_slice())?;
+    let all = in_order(Vec::from_slice(alloc, found.as_slice())?);
+    if all.len() > MOST_CONNECTIONS {
+        Ok(None)
+    } else {
+        Ok(Some(all))
+    }
 }
+
+#[cfg(test)]
+mod tests;

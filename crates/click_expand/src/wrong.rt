@@ -59,7 +59,7 @@ pub fn first_of(a: Option<Wrong>, b: Option<Wrong>) -> Option<Wrong>
 }
 
 /// A wrong use of that kind there, where the test says so.
-fn wrong_if(test: bool, kind: FaultKind, span: Span) -> Option<Wrong>
+pub(crate) fn wrong_if(test: bool, kind: FaultKind, span: Span) -> Option<Wrong>
     ensures { result ≡ spec.wrong_if test kind span }
 {
     if test {

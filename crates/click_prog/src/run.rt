@@ -26,7 +26,7 @@ pub fn run<R: Source, W: Sink>(
     readonly: bool,
 ) -> Result<Ended, RunFault>
     ensures { Runs text.now (R.remaining reader.old) (R.remaining reader.new) (R.failed reader.old) (R.failed reader.new)
-        (W.contents writer.old) (W.contents writer.new) (W.failed writer.old) (W.failed writer.new) result }
+        (R.reads reader.old) (R.reads reader.new) (W.contents writer.old) (W.contents writer.new) (W.failed writer.old) (W.failed writer.new) result }
 {
     let mut router = match prepare(alloc, text) {
         Ok(prepared) => Router::open(prepared),

@@ -119,7 +119,7 @@ opens_same config s t h k e =
 
 -- ---- a fault and a state exclude each other
 
-in_between : (fit : List FlatElement) (e : FlatElement) (more : List FlatElement) → Contains (fit ++ e ∷ more) e
+pub in_between : (fit : List FlatElement) (e : FlatElement) (more : List FlatElement) → Contains (fit ++ e ∷ more) e
 in_between [] e more = (zero, omega arith, refl)
 in_between (d ∷ fit) e more = let k = in_between fit e more in (suc k.0, omega (arith, k.1), k.2)
 

@@ -11,8 +11,9 @@ pub struct Script<'a> {
     rest: &'a [u8],
     size: usize,
     fails: usize,
-    calls: usize,
     failed: bool,
+    /// How many calls have not failed.
+    reads: usize,
 }
 
 impl<'a> Script<'a> {
@@ -22,8 +23,8 @@ impl<'a> Script<'a> {
             rest,
             size,
             fails,
-            calls: 0,
             failed: false,
+            reads: 0,
         }
     }
 }
@@ -33,12 +34,14 @@ impl Source for Script<'_> {
 
     ghost failed = { λ script. script.failed };
 
+    ghost reads = { λ script. script.reads };
+
     fn read(&mut self, piece: &mut [u8]) -> Result<usize, Failed> {
-        self.calls = self.calls.saturating_add(1);
-        if self.failed || self.calls == self.fails {
+        if self.failed || self.reads == usize::MAX || self.reads + 1 == self.fails {
             self.failed = true;
             return Err(Failed);
         }
+        self.reads += 1;
         let len = self.size.min(self.rest.len()).min(piece.len());
         piece[..len].copy_from_slice(&self.rest[..len]);
         self.rest = &self.rest[len..];

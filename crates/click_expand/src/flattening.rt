@@ -1,0 +1,266 @@
+//! From a configuration to its flat form.
+
+ghost use Rattle.std.specs.Prelude.{◌≡◌, ◌≤◌, ℕ, List, map, length, slice_get, Some, IfOk, IfErr};
+ghost use Rattle.click_text.specs.Spelling.{Spells};
+ghost use Rattle.click_expand.specs.declared.flat.Flat.{Flat as FlatForm};
+ghost use Rattle.click_expand.specs.Faults.{IsSound};
+ghost use Rattle.click_expand.specs.Flat.{IsFlat, IsFlatFault, IsMemoryOr, IsGiven, flat_element};
+ghost use Rattle.click_expand.specs.Instances.{Leaf as Flattened};
+ghost use Rattle.click_expand.specs.Located.{AreAllLocals};
+ghost use Rattle.click_expand.specs.Nesting.{IsNested};
+ghost use Rattle.click_expand.specs.Tabled.{AreTables, IsFirst, IsExpandedOr, IsRefused, IsRefusedOf, fault_for, head_in};
+ghost use Rattle.click_expand.specs.Uses.{Used, AreUses};
+ghost use Rattle.click_expand.specs.Wrongs.{AreShort};
+
+use crate::called::all_arguments;
+use crate::elements::elements_of;
+use crate::fault::{ExpandFault, FaultKind};
+use crate::flat::{Flat, FlatElement};
+use crate::flat_text::push_name;
+use crate::joints::{Joint, all_joints};
+use crate::members::{Local, all_locals};
+use crate::misnamed::first_misnamed;
+use crate::misused::first_misused;
+use crate::scopes::{Scopes, scopes_of};
+use crate::sizes::{MOST_ELEMENTS, MOST_PATHS, size_of};
+use crate::uses::{Uses, uses_of};
+use crate::whole::{first_broken, first_repeated};
+use crate::wiring::connections_of;
+use crate::wrong::{Wrong, first_of, first_token};
+use click_text::sequence::Sequence;
+use click_text::syntax::{Config, Head, Span};
+use std::alloc::{AllocError, Global};
+
+/// What is found once for each scope.
+#[derive(Drop)]
+pub struct Tables {
+    pub scopes: Scopes,
+    pub locals: Vec<Vec<Local>>,
+    pub arguments: Vec<Sequence<Sequence<Span>>>,
+    pub joints: Vec<Sequence<Joint>>,
+}
+
+/// Why there is no flat form.
+#[derive(Drop)]
+pub enum Refused {
+    NoMemory,
+    /// A wrong use, or a flat name that is taken, at a token.
+    At(FaultKind, Span),
+    /// A limit is passed.
+    TooMany,
+    /// The text of the element of that flat name is broken.
+    Broken(Sequence<u8>),
+}
+
+impl From<AllocError> for Refused {
+    ghost use Rattle.std.specs.Prelude.{◌≡◌};
+    ghost use Rattle.click_expand.specs.declared.flattening.Refused.TheVariants as why;
+
+    ghost from_gives = { λ _ r. r ≡ why.NoMemory };
+
+    fn from(_error: AllocError) -> Refused {
+        Refused::NoMemory
+    }
+}
+
+/// What is found once for each scope of a configuration.
+fn tables_of(alloc: Global, config: &Config) -> Result<Tables, AllocError>
+    requires nested { IsNested config.now }
+    requires short { AreShort config.now.bodies }
+    ensures { IfOk result (AreTables config.now) }
+{
+    let scopes = scopes_of(alloc, config)?;
+    let locals = all_locals(alloc, config, &scopes)?;
+    let arguments = all_arguments(alloc, config, locals.as_slice())?;
+    let joints = all_joints(alloc, config, &scopes)?;
+    Ok(Tables {
+        scopes,
+        locals,
+        arguments,
+        joints,
+    })
+}
+
+/// The first wrong use of a name, class, parameter or port.
+fn first_wrong(alloc: Global, config: &Config, tables: &Tables) -> Result<Option<Wrong>, AllocError>
+    requires nested { IsNested config.now }
+    requires short { AreShort config.now.bodies }
+    requires tables { AreTables config.now tables.now }
+    ensures { IfOk result (IsFirst config.now) }
+{
+    let locals = tables.locals.as_slice();
+    let arguments = tables.arguments.as_slice();
+    let joints = tables.joints.as_slice();
+    let misnamed = first_misnamed(alloc, config, &tables.scopes, locals)?;
+    let misused = first_misused(alloc, config, locals, arguments, joints)?;
+    Ok(first_of(misnamed, misused))
+}
+
+/// The elements and connections, or none where there are too many.
+fn expanded(
+    alloc: Global,
+    config: &Config,
+    tables: &Tables,
+    uses: &Uses,
+) -> Result<Option<Flat>, AllocError>
+    requires nested { IsNested config.now }
+    requires sound { IsSound config.now }
+    requires tables { AreTables config.now tables.now }
+    requires used { (leaves : List Flattened) × (known : List Used) × AreUses config.now uses.now.uses.items uses.now.leaves.items known leaves }
+    ensures { IfOk result (λ r. (leaves : List Flattened) (known : List Used) (paths : ℕ) → AreUses config.now uses.now.uses.items uses.now.leaves.items known leaves →
+        length leaves ≤ 4096 → paths ≤ 16384 → IsExpandedOr config.now leaves paths r) }
+{
+    let locals = tables.locals.as_slice();
+    let arguments = tables.arguments.as_slice();
+    let Some(elements) = elements_of(alloc, config, locals, arguments, uses)? else {
+        return Ok(None);
+    };
+    let Some(connections) = connections_of(alloc, config, tables.joints.as_slice(), uses)? else {
+        return Ok(None);
+    };
+    Ok(Some(Flat {
+        elements: Sequence::of(elements),
+        connections: Sequence::of(connections),
+    }))
+}
+
+/// What the flat element at a place begins with.
+fn head_at(locals: &[Vec<Local>], uses: &Uses, place: usize) -> Option<Head>
+    ensures { result ≡ head_in locals.now uses.now.uses.items uses.now.leaves.items place }
+{
+    let leaf = uses.leaves.get(place)?;
+    let one = uses.uses.get(leaf.within)?;
+    let scope = locals.get(one.scope)?;
+    let local = scope.get(leaf.element)?;
+    Some(local.head)
+}
+
+/// The first token of the flat element at a place.
+fn token_of(config: &Config, locals: &[Vec<Local>], uses: &Uses, place: usize) -> Span
+    requires short { AreShort config.now.bodies }
+    requires locals { AreAllLocals config.now locals.now }
+    ensures { (leaves : List Flattened) (known : List Used) (leaf : Flattened) → AreUses config.now uses.now.uses.items uses.now.leaves.items known leaves →
+        slice_get leaves place ≡ Some leaf → result ≡ leaf.first }
+{
+    match head_at(locals, uses, place) {
+        Some(head) => first_token(config.bodies.as_slice(), head),
+        None => Span { start: 0, end: 0 },
+    }
+}
+
+/// What is refused of the elements: the first repeated name, else the first broken text.
+fn refused_of(
+    alloc: Global,
+    config: &Config,
+    locals: &[Vec<Local>],
+    uses: &Uses,
+    elements: &[FlatElement],
+) -> Result<Option<Refused>, AllocError>
+    requires short { AreShort config.now.bodies }
+    requires locals { AreAllLocals config.now locals.now }
+    ensures { IfOk result (λ r. (leaves : List Flattened) (known : List Used) → AreUses config.now uses.now.uses.items uses.now.leaves.items known leaves →
+        elements.now ≡ map flat_element leaves → IsRefusedOf leaves r) }
+{
+    if let Some(place) = first_repeated(alloc, elements)? {
+        let token = token_of(config, locals, uses, place);
+        return Ok(Some(Refused::At(FaultKind::DeclaredTwice, token)));
+    }
+    if let Some(place) = first_broken(alloc, elements)? {
+        let mut name = Vec::new(alloc);
+        push_name(&mut name, elements, place)?;
+        return Ok(Some(Refused::Broken(Sequence::of(name))));
+    }
+    Ok(None)
+}
+
+/// The flat form of a configuration without a wrong use, or why it has none.
+fn sound_flat(alloc: Global, config: &Config, tables: &Tables) -> Result<Flat, Refused>
+    requires nested { IsNested config.now }
+    requires short { AreShort config.now.bodies }
+    requires sound { IsSound config.now }
+    requires tables { AreTables config.now tables.now }
+    ensures flat { IfOk result (λ flat. IsFlat config.now flat) }
+    ensures err { IfErr result (λ why. IsRefused config.now why) }
+{
+    let locals = tables.locals.as_slice();
+    let size = size_of(alloc, config, locals)?;
+    if size.elements > MOST_ELEMENTS || size.paths > MOST_PATHS {
+        return Err(Refused::TooMany);
+    }
+    let uses = uses_of(alloc, config, &tables.scopes, locals, size.paths)?;
+    let Some(flat) = expanded(alloc, config, tables, &uses)? else {
+        return Err(Refused::TooMany);
+    };
+    match refused_of(alloc, config, locals, &uses, flat.elements.as_slice())? {
+        Some(why) => Err(why),
+        None => Ok(flat),
+    }
+}
+
+/// The flat form of a configuration, or why it has none.
+fn flat_of(alloc: Global, config: &Config) -> Result<Flat, Refused>
+    requires nested { IsNested config.now }
+    requires short { AreShort config.now.bodies }
+    ensures flat { IfOk result (λ flat. IsFlat config.now flat) }
+    ensures err { IfErr result (λ why. IsRefused config.now why) }
+{
+    let tables = tables_of(alloc, config)?;
+    match first_wrong(alloc, config, &tables)? {
+        Some(wrong) => Err(Refused::At(wrong.kind, wrong.span)),
+        None => sound_flat(alloc, config, &tables),
+    }
+}
+
+/// The fault that tells why there is no flat form.
+fn fault_of(alloc: Global, refused: Refused) -> ExpandFault
+    ensures { result ≡ fault_for refused }
+{
+    match refused {
+        Refused::NoMemory => ExpandFault {
+            kind: FaultKind::NoMemory,
+            span: None,
+            name: Sequence::new(alloc),
+        },
+        Refused::At(kind, span) => ExpandFault {
+            kind,
+            span: Some(span),
+            name: Sequence::new(alloc),
+        },
+        Refused::TooMany => ExpandFault {
+            kind: FaultKind::TooMany,
+            span: None,
+            name: Sequence::new(alloc),
+        },
+        Refused::Broken(name) => ExpandFault {
+            kind: FaultKind::BrokenText,
+            span: None,
+            name,
+        },
+    }
+}
+
+/// How long the text is. What begins in it begins before the last place that there is.
+fn text_len(config: &Config) -> usize
+    requires { Spells config.now.text config.now }
+    ensures { AreShort config.now.bodies }
+{
+    config.text.len()
+}
+
+/// The flat form of a configuration that a text spells (Click manual, "Compound elements"): its elements under their flat names in the order of the
+/// text, with all parameters replaced, and its connections, each once, by from-element, from-port, to-element, to-port. Or its first fault: of wrong
+/// names, classes, parameters and ports the one that stands first in the text; else `TooMany`, where there are more than 4,096 elements, 16,384
+/// connections, 16,384 paths to elements and compounds, or 1,048,576 bytes of argument texts; else the first element whose flat name an earlier one
+/// has; else the first whose text, set in parentheses, is no longer one token.
+pub fn flatten(alloc: Global, config: &Config) -> Result<Flat, ExpandFault>
+    requires { Spells config.now.text config.now }
+    ensures flat { IfOk result (λ flat. IsFlat config.now flat) }
+    ensures only { (flat : FlatForm) → IsFlat config.now flat → IsGiven result flat }
+    ensures err { IfErr result (λ fault. IsMemoryOr fault (IsFlatFault config.now fault)) }
+{
+    let _length = text_len(config);
+    match flat_of(alloc, config) {
+        Ok(flat) => Ok(flat),
+        Err(refused) => Err(fault_of(alloc, refused)),
+    }
+}
