@@ -21,6 +21,7 @@ pub mod Uses
 pub mod Tabled
 pub mod Texts
 pub mod Values
+pub mod Classed
 pub mod Spread
 pub mod Misnamed
 pub mod Using

@@ -6,6 +6,7 @@ pub mod classes;
 pub mod elements;
 pub mod fault;
 pub mod flat;
+pub mod flat_elements;
 pub mod flat_names;
 pub mod flat_text;
 pub mod flattening;

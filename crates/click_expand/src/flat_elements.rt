@@ -1,0 +1,71 @@
+//! A flat element by its place.
+
+ghost use Rattle.std.specs.Prelude.{◌≡◌, ◌<◌, ◌≤◌, ℕ, List, length, slice_get, Some, IfOk, MatchOption};
+ghost use Rattle.click_expand.specs.Located.{AreAllLocals};
+ghost use Rattle.click_expand.specs.Called.{AreAllArguments};
+ghost use Rattle.click_expand.specs.Instances.{Leaf as Flattened};
+ghost use Rattle.click_expand.specs.Uses.{Used, AreUses};
+ghost use Rattle.click_expand.specs.Flat.{flat_element};
+ghost use Rattle.click_expand.specs.Classed.{class_found};
+ghost use Rattle.click_expand.specs.declared.uses.Place.{Place as Placed};
+
+use crate::classes::ClassOf;
+use crate::flat::FlatElement;
+use crate::flat_names::name_of;
+use crate::members::Local;
+use crate::readings::{Reading, string_at};
+use crate::texts::text_of;
+use crate::uses::{Place, Use};
+use click_text::sequence::Sequence;
+use click_text::syntax::{Config, Span};
+use std::alloc::{AllocError, Global};
+
+/// The name of the class of an element that is one of the router's: no bytes for another.
+fn class_name<'a>(text: &'a [u8], locals: &[Vec<Local>], scope: usize, element: usize) -> &'a [u8]
+    ensures { result.now ≡ class_found text.now (slice_get locals.now scope) element }
+{
+    let Some(one) = locals.get(scope) else {
+        return &[];
+    };
+    let Some(local) = one.as_slice().get(element) else {
+        return &[];
+    };
+    match local.class {
+        Some(ClassOf::Primitive(name)) => name.of(text),
+        _ => &[],
+    }
+}
+
+/// The flat element at a place, or none where its text has more bytes than there is room for.
+pub fn element_at(
+    alloc: Global,
+    config: &Config,
+    locals: &[Vec<Local>],
+    arguments: &[Sequence<Sequence<Span>>],
+    uses: &[Use],
+    place: Place,
+    room: usize,
+) -> Result<Option<FlatElement>, AllocError>
+    requires locals { AreAllLocals config.now locals.now }
+    requires arguments { AreAllArguments config.now arguments.now }
+    requires within { place.within < length uses.now }
+    ensures { IfOk result (λ r. (places : List Placed) (known : List Used) (leaves : List Flattened) (n : ℕ) (leaf : Flattened) → AreUses config.now uses.now places known leaves →
+        slice_get places n ≡ Some place → slice_get leaves n ≡ Some leaf → MatchOption r (room < length leaf.text) (λ e. (e ≡ flat_element leaf) × (length leaf.text ≤ room))) }
+{
+    let text = config.text.as_slice();
+    let scope = uses[place.within].scope;
+    let class = Vec::from_slice(alloc, class_name(text, locals, scope, place.element))?;
+    let name = name_of(alloc, locals, uses, place)?;
+    let first = Reading {
+        within: place.within,
+        rest: string_at(text, locals, scope, place.element),
+    };
+    let Some(replaced) = text_of(alloc, config, locals, arguments, uses, first, room)? else {
+        return Ok(None);
+    };
+    Ok(Some(FlatElement {
+        name: Sequence::of(name),
+        class: Sequence::of(class),
+        text: Sequence::of(replaced),
+    }))
+}
