@@ -1,6 +1,11 @@
 -- A flat element by what is found of it.
-use Rattle.std.proofs.Common.{◌≡◌, ℕ, ◌<◌, ◌≤◌, List, [], ◌∷◌, length, Vec, Global, Option, Some, None, refl, sym, ap, ◌∙◌, subst, arith}
+use Rattle.std.proofs.Common.{◌≡◌, ℕ, zero, suc, ◌+◌, ◌<◌, ◌≤◌, List, [], ◌∷◌, ◌++◌, map, take, get_or, length, Vec, Global, Option, Some, None, refl, sym, ap, ◌∙◌, subst, arith}
 use Rattle.std.specs.List.{slice_get}
+use Rattle.std.proofs.lemmas.List.{map-append, take_all}
+use Rattle.std.proofs.lemmas.List.Sums.{sum_by-cons}
+use Rattle.click_expand.specs.Flat.{flat_name, flat_element, text_size, most_text}
+use Rattle.click_expand.specs.declared.flat.FlatElement.{FlatElement}
+use Rattle.std.proofs.lemmas.Option.{slice_get_within}
 use Rattle.click_text.specs.declared.syntax.Statement.{Statement}
 use Rattle.click_text.specs.declared.syntax.Config.{Config}
 use Rattle.click_expand.specs.Scopes.{Scope, Stands}
@@ -21,6 +26,8 @@ use Rattle.click_expand.specs.declared.members.Local.{Local as LocalKept}
 use Rattle.click_expand.specs.declared.uses.Place.{Place}
 use Rattle.click_expand.specs.declared.uses.Use.{Use as UseKept}
 use Rattle.click_expand.specs.declared.readings.Reading.{Reading}
+use Rattle.std.specs.Prelude.{MatchOption}
+use Rattle.click_expand.proofs.Ways.{match-none, match-some}
 use Rattle.click_expand.proofs.Calling.{unmapped}
 use Rattle.click_expand.proofs.Valued.{some-same, use-at, string-is}
 
@@ -54,3 +61,89 @@ module _ (c : Config) (uses : List UseKept) (places : List Place) (known : List 
       let u = use-at c uses places known leaves are p.within k i.used kept i.used_there in
       let s = g ∙ ap (λ z. string_found c.text (slice_get locals z) p.element) u.scope ∙ string-is c locals all i.used.scope i.used.visible i.used.around u.stands p.element i.local i.local_there in
       (i.used, ap (slice_get known) e ∙ i.used_there, subst (λ z. IsReplaced c i.used.bindings (i.used.scope ∷ i.used.around) z f.text) (sym s) i.text)
+
+abbrev the-element : List ℕ → List ℕ → List ℕ → FlatElement
+the-element n d t = record { name = n; class = d; text = t }
+
+pub element-same : (f : Leaf) (name kind text : List ℕ) → name ≡ flat_name f.path → kind ≡ f.class → text ≡ f.text → the-element name kind text ≡ flat_element f
+element-same f name kind text e g h =
+    ap (λ (z : List ℕ). the-element z kind text) e ∙ ap (λ (z : List ℕ). the-element (flat_name f.path) z text) g ∙ ap (λ (z : List ℕ). the-element (flat_name f.path) f.class z) h
+
+-- So many of the leaves are made, and so much room is left.
+pub record AreMade (leaves : List Leaf) (i : ℕ) (made : List FlatElement) (room : ℕ) : Type 0 where
+  pub is : made ≡ map flat_element (take i leaves)
+  pub left : room + text_size (take i leaves) ≡ most_text
+
+pub made-none : (leaves : List Leaf) (made : List FlatElement) (room : ℕ) → made ≡ [] → room ≡ most_text → AreMade leaves 0 made room
+made-none leaves made room e f = record { is = e; left = let n : text_size [] ≡ 0 = refl in omega (arith, f, n) }
+
+take-further : {X : Type 0} (xs : List X) (i : ℕ) (x : X) → slice_get xs i ≡ Some x → take (i + 1) xs ≡ take i xs ++ x ∷ []
+take-further [] i x h = absurd (cc h)
+take-further (y ∷ xs) zero x h = let e : y ≡ x = cc in ap (λ z. z ∷ []) e
+take-further (y ∷ xs) (suc i) x h = let e : suc i + 1 ≡ suc (i + 1) = omega arith in ap (λ n. take n (y ∷ xs)) e ∙ ap (λ z. y ∷ z) (take-further xs i x h)
+
+text-cons : (x : Leaf) (xs : List Leaf) → text_size (x ∷ xs) ≡ length x.text + text_size xs
+text-cons x xs = sum_by-cons (λ (l : Leaf). length l.text) x xs
+
+text-more : (xs : List Leaf) (x : Leaf) → text_size (xs ++ x ∷ []) ≡ text_size xs + length x.text
+text-more [] x = omega arith
+text-more (y ∷ xs) x = let h = text-more xs x in omega (arith, h, text-cons y (xs ++ x ∷ []), text-cons y xs)
+
+text-front : (i : ℕ) (xs : List Leaf) → text_size (take i xs) ≤ text_size xs
+text-front zero xs = let n : text_size [] ≡ 0 = refl in omega (arith, n)
+text-front (suc i) [] = omega arith
+text-front (suc i) (x ∷ xs) = let h = text-front i xs in omega (arith, h, text-cons x (take i xs), text-cons x xs)
+
+module _ (leaves : List Leaf) (i : ℕ) (made : List FlatElement) (room : ℕ) (f : Leaf) (there : slice_get leaves i ≡ Some f) (h : AreMade leaves i made room) where
+  pub made-more : (more : List FlatElement) (e : FlatElement) (left : ℕ) → more ≡ made ++ e ∷ [] → e ≡ flat_element f → left + length f.text ≡ room → AreMade leaves (i + 1) more left
+  made-more more e left a b d = record {
+    is = a ∙ ap (λ z. z ++ e ∷ []) h.is ∙ ap (λ z. map flat_element (take i leaves) ++ z ∷ []) b ∙ sym (map-append flat_element (take i leaves) (f ∷ [])) ∙ ap (map flat_element) (sym (take-further leaves i f there));
+    left = let t = ap text_size (take-further leaves i f there) in let l = h.left in omega (arith, t, l, d, text-more (take i leaves) f);
+  }
+
+  pub made-long : room < length f.text → most_text < text_size leaves
+  made-long l = let t = ap text_size (take-further leaves i f there) in let k = h.left in omega (arith, t, k, l, text-more (take i leaves) f, text-front (i + 1) leaves)
+
+pub made-all : (leaves : List Leaf) (i : ℕ) (made : List FlatElement) (room : ℕ) → length leaves ≤ i → AreMade leaves i made room → (made ≡ map flat_element leaves) × (text_size leaves ≤ most_text)
+made-all leaves i made room l h =
+    let e = take_all i leaves l in let t = ap text_size e in let k = h.left in
+    (h.is ∙ ap (map flat_element) e, omega (arith, t, k))
+
+pub place-within : (c : Config) (uses : List UseKept) (places : List Place) (known : List Used) (leaves : List Leaf) → AreUses c uses places known leaves → (n : ℕ) (p : Place) → slice_get places n ≡ Some p → p.within < length uses
+place-within c uses places known leaves are n p there = let r = are.leaf n p there in slice_get_within uses p.within r.2.use_kept r.2.use_there
+
+pub leaf-at : (c : Config) (uses : List UseKept) (places : List Place) (known : List Used) (leaves : List Leaf) → AreUses c uses places known leaves → (n : ℕ) (p : Place) → slice_get places n ≡ Some p → (f : Leaf) × (slice_get leaves n ≡ Some f)
+leaf-at c uses places known leaves are n p there = let r = are.leaf n p there in (r.0, r.1)
+
+pub some-at : {X : Type 0} (xs : List X) (i : ℕ) (d : X) → i < length xs → slice_get xs i ≡ Some (get_or xs i d)
+some-at [] i d l = absurd (omega (arith, l))
+some-at (x ∷ xs) zero d l = refl
+some-at (x ∷ xs) (suc i) d l = some-at xs i d (omega (arith, l))
+
+-- The element at a place is made, or there is no room for it.
+abbrev pub IsElement : Config → List UseKept → Place → ℕ → Option FlatElement → Type 0
+IsElement c uses p room o =
+    (places : List Place) (known : List Used) (leaves : List Leaf) (n : ℕ) (f : Leaf) → AreUses c uses places known leaves → slice_get places n ≡ Some p → slice_get leaves n ≡ Some f →
+    MatchOption o (room < length f.text) (λ e. (e ≡ flat_element f) × (length f.text ≤ room))
+
+module _ (c : Config) (uses us : List UseKept) (places ps : List Place) (i : ℕ) (d : Place) (room : ℕ) (made : List FlatElement) (o : Option FlatElement) (same-uses : us ≡ uses) (same : ps ≡ places) (l : i < length ps)
+    (is : IsElement c us (get_or ps i d) room o) (known : List Used) (leaves : List Leaf) (are : AreUses c uses places known leaves) (h : AreMade leaves i made room) where
+  here : slice_get places i ≡ Some (get_or ps i d)
+  here = ap (λ z. slice_get z i) (sym same) ∙ some-at ps i d l
+
+  its-leaf : (f : Leaf) × (slice_get leaves i ≡ Some f)
+  its-leaf = leaf-at c uses places known leaves are i (get_or ps i d) here
+
+  found : MatchOption o (room < length its-leaf.0.text) (λ e. (e ≡ flat_element its-leaf.0) × (length its-leaf.0.text ≤ room))
+  found = is places known leaves i its-leaf.0 (subst (λ z. AreUses c z places known leaves) (sym same-uses) are) here its-leaf.1
+
+  pub step-none : o ≡ None → most_text < text_size leaves
+  step-none e = made-long leaves i made room its-leaf.0 its-leaf.1 h (match-none o _ _ e found)
+
+  pub step-fits : (e : FlatElement) → o ≡ Some e → length e.text ≤ room
+  step-fits e q = let r = match-some o e _ _ q found in let t = ap (λ (z : FlatElement). length z.text) r.0 in let m = r.1 in omega (arith, t, m)
+
+  pub step-made : (e : FlatElement) (more : List FlatElement) (left : ℕ) → o ≡ Some e → more ≡ made ++ e ∷ [] → left + length e.text ≡ room → AreMade leaves (i + 1) more left
+  step-made e more left q a b =
+      let r = match-some o e _ _ q found in let t = ap (λ (z : FlatElement). length z.text) r.0 in
+      made-more leaves i made room its-leaf.0 its-leaf.1 h more e left a r.0 (omega (arith, t, b))

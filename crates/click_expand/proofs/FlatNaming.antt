@@ -71,10 +71,12 @@ walked-next uses within at way new p e is walked = λ c locals places known leav
     let own = u.2.own p k.2 in
     let name = named c locals uses places known leaves all used p own.0 o inner.local own.1 a.1.1 inner.there in
     let f = name_in locals uses in
-    let r = reverse (map f way) in
-    (o, a.1.1,
-    v.2 ∙ ap (λ (y : Used). y.path ++ r) same ∙ ap (λ ns. ns ++ r) inner.path ∙ append_assoc o.path (inner.local.name ∷ []) r ∙ ap (λ n. o.path ++ n ∷ r) (sym name)
-    ∙ ap (λ ns. o.path ++ ns) (sym (one-more f way p)) ∙ ap (λ ps. o.path ++ reverse (map f ps)) (sym is))
+    let r = reverse (map f way) in (
+      o,
+      a.1.1,
+      v.2 ∙ ap (λ (y : Used). y.path ++ r) same ∙ ap (λ ns. ns ++ r) inner.path ∙ append_assoc o.path (inner.local.name ∷ []) r ∙ ap (λ n. o.path ++ n ∷ r) (sym name)
+          ∙ ap (λ ns. o.path ++ ns) (sym (one-more f way p)) ∙ ap (λ ps. o.path ++ reverse (map f ps)) (sym is),
+    )
 
 outermost : (c : Config) (known : List Used) (u : ℕ) (x : Used) (o : Option Place) → smaller o u ≡ None → IsAround c known u x o → x ≡ the_whole
 outermost c known u x None e h = h.1

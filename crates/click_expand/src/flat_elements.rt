@@ -53,12 +53,12 @@ pub fn element_at(
         slice_get places n ≡ Some place → slice_get leaves n ≡ Some leaf → MatchOption r (room < length leaf.text) (λ e. (e ≡ flat_element leaf) × (length leaf.text ≤ room))) }
 {
     let text = config.text.as_slice();
-    let scope = uses[place.within].scope;
-    let class = Vec::from_slice(alloc, class_name(text, locals, scope, place.element))?;
+    let one = &uses[place.within];
+    let class = Vec::from_slice(alloc, class_name(text, locals, one.scope, place.element))?;
     let name = name_of(alloc, locals, uses, place)?;
     let first = Reading {
         within: place.within,
-        rest: string_at(text, locals, scope, place.element),
+        rest: string_at(text, locals, one.scope, place.element),
     };
     let Some(replaced) = text_of(alloc, config, locals, arguments, uses, first, room)? else {
         return Ok(None);
