@@ -295,3 +295,6 @@ pub fn all_joints(
     }
     Ok(all)
 }
+
+#[cfg(test)]
+mod tests;

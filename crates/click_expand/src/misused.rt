@@ -233,3 +233,6 @@ pub fn first_misused(
     );
     Ok(first_of(inside, around))
 }
+
+#[cfg(test)]
+mod tests;
