@@ -1,0 +1,6 @@
+pub mod Ports
+pub mod Links
+pub mod Kinds
+pub mod Lawful
+pub mod Breaches
+pub mod Net
