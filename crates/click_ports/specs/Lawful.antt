@@ -17,12 +17,24 @@ pub record IsCounted (allowed : Counts) (inputs outputs : ℕ) : Type 0 where
   pub outputs_in : Within allowed.outputs outputs
   pub equal : allowed.equal ≡ true → inputs ≡ outputs
 
+-- each element has as many ports as its state allows
+abbrev pub AllCounted : List Shape → List Connection → Type 0
+AllCounted ss cs = (e : ℕ) (s : Shape) → slice_get ss e ≡ Some s → IsCounted s.counts (used cs e Input) (used cs e Output)
+
+-- no port below the highest connected one is unconnected
+abbrev pub AllConnected : List Connection → Type 0
+AllConnected cs = (p : Port) → Has cs p → 0 < uses cs p
+
+-- no port reaches both a push and a pull port
+abbrev pub NoneMixed : List Shape → List Connection → Type 0
+NoneMixed ss cs = (p : Port) → Has cs p → IsMixed ss cs p → ⊥
+
+-- each push output and each pull input has exactly one connection
+abbrev pub AllSingle : List Shape → List Connection → Type 0
+AllSingle ss cs = (p : Port) → Has cs p → IsSingle ss cs p → uses cs p ≡ 1
+
 pub record Lawful (ss : List Shape) (cs : List Connection) : Type 0 where
-  -- each element has as many ports as its state allows
-  pub counted : (e : ℕ) (s : Shape) → slice_get ss e ≡ Some s → IsCounted s.counts (used cs e Input) (used cs e Output)
-  -- no port below the highest connected one is unconnected
-  pub connected : (p : Port) → Has cs p → 0 < uses cs p
-  -- no port reaches both a push and a pull port
-  pub unmixed : (p : Port) → Has cs p → IsMixed ss cs p → ⊥
-  -- each push output and each pull input has exactly one connection
-  pub single : (p : Port) → Has cs p → IsSingle ss cs p → uses cs p ≡ 1
+  pub counted : AllCounted ss cs
+  pub connected : AllConnected cs
+  pub unmixed : NoneMixed ss cs
+  pub single : AllSingle ss cs

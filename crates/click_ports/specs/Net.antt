@@ -29,9 +29,12 @@ is_there n c = nat_lt c.from n && nat_lt c.to n
 abbrev pub joined : Flat → List Connection
 joined f = filter (is_there (length f.elements)) f.connections
 
+abbrev pub names_of : List FlatElement → List (List ℕ)
+names_of es = map (λ (e : FlatElement). e.name) es
+
 abbrev pub net_of : Flat → List State → Net
 net_of f states = record {
-  names = map (λ (e : FlatElement). e.name) f.elements;
+  names = names_of f.elements;
   shapes = map shape_of states;
   connections = joined f;
 }
