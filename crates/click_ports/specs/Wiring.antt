@@ -1,5 +1,5 @@
 -- What a contract sees of a layout, and how its ports are numbered.
-use Rattle.std.specs.Prelude.{◌≡◌, ℕ, suc, zero, ◌+◌, ◌<◌, List, length, slice_get, All, Some}
+use Rattle.std.specs.Prelude.{◌≡◌, ℕ, suc, zero, ◌+◌, ◌<◌, ◌≤◌, List, length, slice_get, All, Some}
 use Rattle.click_classes.specs.declared.ports.Side.{Side}
 use Rattle.click_classes.specs.declared.ports.Side.TheVariants.{Input, Output}
 use Rattle.click_expand.specs.declared.flat.Connection.{Connection}
@@ -33,6 +33,15 @@ number_of cs p = first cs p.element + ahead cs p.element p.side + p.number
 abbrev pub block_of : List Connection → ℕ → Block
 block_of cs e = record { first = first cs e; inputs = used cs e Input; outputs = used cs e Output }
 
+-- the same of a block
+abbrev pub ahead_in : Block → Side → ℕ
+ahead_in b Input = 0
+ahead_in b Output = b.inputs
+
+abbrev pub count_in : Block → Side → ℕ
+count_in b Input = b.inputs
+count_in b Output = b.outputs
+
 -- each of these ports is there, under its place as its number
 abbrev pub InPlace : List Connection → List Port → Type 0
 InPlace cs ports = (x : ℕ) (p : Port) → slice_get ports x ≡ Some p → Has cs p × (number_of cs p ≡ x)
@@ -43,3 +52,5 @@ pub record AreNumbered (cs : List Connection) (n : ℕ) (blocks : List Block) (p
   pub blocks_right : (e : ℕ) (b : Block) → slice_get blocks e ≡ Some b → b ≡ block_of cs e
   pub all_ports : length ports ≡ first cs n
   pub ports_right : InPlace cs ports
+  -- a connection's ports are numbered by bytes
+  pub small : (e : ℕ) (s : Side) → e < n → used cs e s ≤ 256

@@ -83,11 +83,7 @@ impl Layout {
         ensures value { result ≡ spec.used self.now.connections element side }
         ensures small { result ≤ 256 }
     {
-        let block = self.blocks[element];
-        match side {
-            Side::Input => block.inputs,
-            Side::Output => block.outputs,
-        }
+        self.blocks[element].count(side)
     }
 
     /// The port's number.
@@ -97,11 +93,7 @@ impl Layout {
         ensures within { result < first self.now.connections (length self.now.shapes) }
     {
         let block = self.blocks[port.element];
-        let ahead = match port.side {
-            Side::Input => 0,
-            Side::Output => block.inputs,
-        };
-        block.first + usize::from(ahead) + usize::from(port.number)
+        block.first + usize::from(block.ahead(port.side)) + usize::from(port.number)
     }
 
     /// The element's class.

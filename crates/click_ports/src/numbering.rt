@@ -18,6 +18,31 @@ pub struct Block {
     pub outputs: u16,
 }
 
+impl Block {
+    ghost use Rattle.std.specs.Prelude.{◌≡◌};
+    ghost use Rattle.click_ports.specs.Wiring.{ahead_in, count_in};
+
+    /// How many ports of the element stand before those of the side.
+    pub fn ahead(self, side: Side) -> u16
+        ensures { result ≡ ahead_in self side }
+    {
+        match side {
+            Side::Input => 0,
+            Side::Output => self.inputs,
+        }
+    }
+
+    /// How many ports the side has.
+    pub fn count(self, side: Side) -> u16
+        ensures { result ≡ count_in self side }
+    {
+        match side {
+            Side::Input => self.inputs,
+            Side::Output => self.outputs,
+        }
+    }
+}
+
 /// Adds so many ports of the element's side.
 fn push_ports(
     ports: &mut Vec<Port>,

@@ -1,4 +1,4 @@
-use Rattle.std.proofs.Common.{◌≡◌, ℕ, ◌+◌, ◌<◌, ◌++◌, ◌∷◌, [], length, get_or, List, sym, ap, ◌∙◌, arith, subst, add-one}
+use Rattle.std.proofs.Common.{◌≡◌, ℕ, ◌+◌, ◌<◌, ◌≤◌, ◌++◌, ◌∷◌, [], length, get_or, List, sym, ap, ◌∙◌, arith, subst, add-one}
 use Rattle.std.proofs.lemmas.List.{get_or_default}
 use Rattle.click_classes.specs.declared.ports.Side.TheVariants.{Input, Output}
 use Rattle.click_ports.specs.declared.numbering.Block.{Block}
@@ -20,5 +20,7 @@ loop-element-preserved c =
         c.index.ensures ∙ get_or_default c.in_ok-inputs.inputs.items e i 0 (omega (arith, lt, ins.all)) ∙ ins.right e lt in
     let read_out : o ≡ used cs e Output =
         c.index-in-loop-element.ensures ∙ get_or_default c.in_ok-outputs.outputs.items e o 0 (omega (arith, lt, outs.all)) ∙ outs.right e lt in
+    let small_in : i ≤ 256 = omega (arith, read_in, ins.right e lt, ins.small e lt) in
+    let small_out : o ≤ 256 = omega (arith, read_out, outs.right e lt, outs.small e lt) in
     numbered-made cs e i o c.len.result c.loop-element.blocks.items c.push.new.self.items c.loop-element.ports.items c.push_ports.new.ports.items
-      c.push_ports-in-loop-element.new.ports.items known read_in read_out (c.len.ensures ∙ c.loop-element.ports.ok.0) c.in_ok-push.ensures.items c.in_ok-push_ports.ensures c.in_ok-push_ports-2.ensures
+      c.push_ports-in-loop-element.new.ports.items known read_in read_out small_in small_out (c.len.ensures ∙ c.loop-element.ports.ok.0) c.in_ok-push.ensures.items c.in_ok-push_ports.ensures c.in_ok-push_ports-2.ensures
