@@ -112,7 +112,7 @@ same_in cs e Output Output k l h m q = (refl, omega (arith, q))
 same_in cs e Input Output k l h m q = absurd (omega (arith, h, q))
 same_in cs e Output Input k l h m q = absurd (omega (arith, m, q))
 
-same_port : (p q : Port) → p.element ≡ q.element → p.side ≡ q.side → p.number ≡ q.number → p ≡ q
+pub same_port : (p q : Port) → p.element ≡ q.element → p.side ≡ q.side → p.number ≡ q.number → p ≡ q
 same_port p q a b d =
     let made : ℕ → Side → ℕ → Port = λ e s n. record { element = e; side = s; number = n } in
     ap (λ e. made e p.side p.number) a ∙ ap (λ s. made q.element s p.number) b ∙ ap (λ n. made q.element q.side n) d

@@ -1,5 +1,5 @@
 -- The ends of connections, as the code lists them.
-use Rattle.std.specs.Prelude.{◌≡◌, ℕ, ◌<◌, List, [], ◌∷◌, length, slice_get, Some, if◌then◌else◌}
+use Rattle.std.specs.Prelude.{◌≡◌, ℕ, ◌<◌, List, [], ◌∷◌, length, slice_index_or, if◌then◌else◌}
 use Rattle.click_classes.specs.declared.ports.Side.{Side}
 use Rattle.click_expand.specs.declared.flat.Connection.{Connection}
 use Rattle.click_ports.specs.declared.port.Port.{Port}
@@ -19,4 +19,4 @@ far_ends cs (c ∷ some) p = if joins p c then far_end cs p c ∷ far_ends cs so
 -- each port has its connections' other ends, at its number
 pub record AreEnds (w : Wiring) (rows : List (List ℕ)) : Type 0 where
   pub all : length rows ≡ first w.connections (length w.shapes)
-  pub right : (p : Port) → Has w.connections p → slice_get rows (number_of w.connections p) ≡ Some (far_ends w.connections w.connections p)
+  pub right : (p : Port) → Has w.connections p → slice_index_or rows (number_of w.connections p) [] ≡ far_ends w.connections w.connections p

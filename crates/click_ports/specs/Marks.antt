@@ -1,5 +1,5 @@
 -- The codes and the kinds of all ports, as the code lists them.
-use Rattle.std.specs.Prelude.{◌≡◌, ◌↔◌, ℕ, ◌<◌, List, length, slice_get, Bool, true, Some, not}
+use Rattle.std.specs.Prelude.{◌≡◌, ◌↔◌, ℕ, List, length, Bool, not}
 use Rattle.click_classes.specs.declared.ports.Code.{Code}
 use Rattle.click_classes.specs.declared.ports.Side.{Side}
 use Rattle.click_classes.specs.declared.ports.Side.TheVariants.{Input, Output}
@@ -7,7 +7,7 @@ use Rattle.click_ports.specs.declared.port.Port.{Port}
 use Rattle.click_ports.specs.Ports.{Has}
 use Rattle.click_ports.specs.Links.{code_at}
 use Rattle.click_ports.specs.Kinds.{Meets}
-use Rattle.click_ports.specs.Search.{IsMarked}
+use Rattle.click_ports.specs.Search.{IsMarked, code_of}
 use Rattle.click_ports.specs.Wiring.{Wiring, number_of, first}
 
 -- pull inputs and push outputs
@@ -18,7 +18,7 @@ is_single Output pull = not pull
 -- each port's code, at its number
 pub record AreCodes (w : Wiring) (codes : List Code) : Type 0 where
   pub all : length codes ≡ first w.connections (length w.shapes)
-  pub right : (p : Port) → Has w.connections p → slice_get codes (number_of w.connections p) ≡ Some (code_at w.shapes p)
+  pub right : (p : Port) → Has w.connections p → code_of codes (number_of w.connections p) ≡ code_at w.shapes p
 
 -- each port has a mark at its number exactly if it reaches a port of the code
 pub record AreMarks (w : Wiring) (k : Code) (marks : List Bool) : Type 0 where

@@ -1,5 +1,5 @@
 -- The links inside an element, as the code lists them.
-use Rattle.std.specs.Prelude.{◌≡◌, ◌↔◌, ℕ, ◌<◌, List, [], length, slice_get, Contains, Bool, true, Some}
+use Rattle.std.specs.Prelude.{◌≡◌, ◌↔◌, ℕ, ◌<◌, List, [], length, slice_index_or, Contains, Bool, true}
 use Rattle.click_classes.specs.declared.class.Class.{Class}
 use Rattle.click_classes.specs.declared.ports.Side.{Side}
 use Rattle.click_classes.specs.declared.ports.Side.TheVariants.{Input, Output}
@@ -39,4 +39,4 @@ pub record IsRow (w : Wiring) (p : Port) (row : List ℕ) : Type 0 where
 
 pub record AreRows (w : Wiring) (rows : List (List ℕ)) : Type 0 where
   pub all : length rows ≡ first w.connections (length w.shapes)
-  pub right : (p : Port) (row : List ℕ) → Has w.connections p → slice_get rows (number_of w.connections p) ≡ Some row → IsRow w p row
+  pub right : (p : Port) → Has w.connections p → IsRow w p (slice_index_or rows (number_of w.connections p) [])

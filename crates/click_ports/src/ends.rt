@@ -38,8 +38,10 @@ pub fn ends_of(alloc: Global, layout: &Layout) -> Result<Vec<Sequence<usize>>, A
 {
     let mut rows = empty_rows(alloc, layout.ports().len())?;
     for connection in layout.connections() {
-        let from = layout.number(end_of(Side::Output, *connection));
-        let to = layout.number(end_of(Side::Input, *connection));
+        let output = end_of(Side::Output, *connection);
+        let input = end_of(Side::Input, *connection);
+        let from = layout.number(output);
+        let to = layout.number(input);
         add_to(&mut rows, from, to)?;
         add_to(&mut rows, to, from)?;
     }

@@ -1,6 +1,6 @@
 //! Elements and connections, with all their ports numbered.
 
-ghost use Rattle.std.specs.Prelude.{◌≡◌, ◌<◌, ◌≤◌, length, IfOk, slice_get, Some};
+ghost use Rattle.std.specs.Prelude.{◌≡◌, ◌↔◌, ◌<◌, ◌≤◌, length, IfOk, IsTrue};
 ghost use Rattle.click_ports.specs.Ports as spec;
 ghost use Rattle.click_ports.specs.Ports.{Has};
 ghost use Rattle.click_ports.specs.Links as links;
@@ -110,5 +110,13 @@ impl Layout {
         ensures { result ≡ links.code_at self.now.shapes port }
     {
         code(self.class(port.element), port.side, port.number)
+    }
+
+    /// Whether a port is agnostic by its class.
+    pub fn is_agnostic(&self, port: Port) -> bool
+        requires { port.element < length self.now.shapes }
+        ensures { IsTrue result ↔ links.IsAgnostic self.now.shapes port }
+    {
+        self.code(port) == Code::Agnostic
     }
 }

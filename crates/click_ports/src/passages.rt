@@ -8,7 +8,7 @@ ghost use Rattle.click_ports.specs.Passages.{IsRow, AreRows};
 
 use crate::layout::Layout;
 use crate::port::Port;
-use click_classes::{Class, Code, Side, passes};
+use click_classes::{Class, Side, passes};
 use click_text::sequence::Sequence;
 use std::alloc::{AllocError, Global};
 
@@ -53,7 +53,7 @@ fn passages(alloc: Global, layout: &Layout, port: Port) -> Result<Sequence<usize
     ensures { IfOk result (λ row. IsRow layout.now port row) }
 {
     let mut row = Sequence::new(alloc);
-    if layout.code(port) != Code::Agnostic {
+    if !layout.is_agnostic(port) {
         return Ok(row);
     }
     let side = opposite(port.side);
@@ -65,9 +65,7 @@ fn passages(alloc: Global, layout: &Layout, port: Port) -> Result<Sequence<usize
             side,
             number,
         };
-        if layout.code(other) == Code::Agnostic
-            && passes_between(class, port.side, port.number, number)
-        {
+        if layout.is_agnostic(other) && passes_between(class, port.side, port.number, number) {
             row.push(layout.number(other))?;
         }
     }
