@@ -7,7 +7,8 @@ use Rattle.click_classes.specs.declared.ports.Side.{Side}
 use Rattle.click_classes.specs.declared.ports.Side.TheVariants.{Input, Output}
 use Rattle.click_classes.specs.Codes.{passes}
 use Rattle.click_ports.specs.declared.port.Port.{Port}
-use Rattle.click_ports.specs.Ports.{Has}
+use Rattle.click_ports.specs.Ports.{Has, used}
+use Rattle.click_ports.specs.Links.{class_at, IsAgnostic}
 use Rattle.click_ports.specs.Passages.{Crosses, across, passes_between, opposite, IsRow}
 use Rattle.click_ports.specs.Wiring.{Wiring, number_of, first}
 
@@ -52,3 +53,31 @@ row-all w p to row h k = record { sound = k.sound; complete = λ n c. k.complete
 pub between : (c : Class) (s : Side) (i n : ℕ) {P : Type 0} → (passes c i n ≡ true → P) → (passes c n i ≡ true → P) → passes_between c s i n ≡ true → P
 between c Input i n f g h = f h
 between c Output i n f g h = g h
+
+-- a link goes to a number between the bounds that hold for all that pass
+pub crosses-in : (w : Wiring) (p : Port) (side : Side) (class : Class) (count from to n : ℕ) → side ≡ opposite p.side → class ≡ class_at w.shapes p.element → count ≡ used w.connections p.element side →
+    ((m : ℕ) → m < count → passes class p.number m ≡ true → (from ≤ m) × (m < to)) → ((m : ℕ) → m < count → passes class m p.number ≡ true → (from ≤ m) × (m < to)) →
+    Crosses w.shapes w.connections p n → (from ≤ n) × (n < to)
+crosses-in w p side class count from to n a b d f g k =
+    let l : n < count = let e : count ≡ used w.connections p.element (opposite p.side) = d ∙ ap (used w.connections p.element) a in let h = k.there in omega (arith, e, h) in
+    let i : passes_between class p.side p.number n ≡ true = ap (λ x. passes_between x p.side p.number n) b ∙ k.inside in
+    between class p.side p.number n (f n l) (g n l) i
+
+pub crosses-made : (w : Wiring) (p : Port) (side : Side) (class : Class) (n : ℕ) → side ≡ opposite p.side → class ≡ class_at w.shapes p.element → Has w.connections p → n < used w.connections p.element side →
+    IsAgnostic w.shapes p → IsAgnostic w.shapes (record { element = p.element; side = side; number = n }) → passes_between class p.side p.number n ≡ true → Crosses w.shapes w.connections p n
+crosses-made w p side class n a b h l g i k = record {
+  here = h;
+  there = subst (λ s. n < used w.connections p.element s) a l;
+  agnostic_here = g;
+  agnostic_there = subst (λ s. IsAgnostic w.shapes (record { element = p.element; side = s; number = n })) a i;
+  inside = ap (λ x. passes_between x p.side p.number n) (sym b) ∙ k;
+}
+
+pub number-across : (w : Wiring) (p : Port) (side : Side) (n : ℕ) → side ≡ opposite p.side → number_of w.connections (record { element = p.element; side = side; number = n }) ≡ number_of w.connections (across p n)
+number-across w p side n a = ap (λ s. number_of w.connections (record { element = p.element; side = s; number = n })) a
+
+pub passes-across : (w : Wiring) (p : Port) (class : Class) (n : ℕ) → class ≡ class_at w.shapes p.element → Crosses w.shapes w.connections p n → passes_between class p.side p.number n ≡ true
+passes-across w p class n b k = ap (λ x. passes_between x p.side p.number n) b ∙ k.inside
+
+pub agnostic-across : (w : Wiring) (p : Port) (side : Side) (n : ℕ) → side ≡ opposite p.side → Crosses w.shapes w.connections p n → IsAgnostic w.shapes (record { element = p.element; side = side; number = n })
+agnostic-across w p side n a k = subst (λ s. IsAgnostic w.shapes (record { element = p.element; side = s; number = n })) (sym a) k.agnostic_there

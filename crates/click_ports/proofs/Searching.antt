@@ -1,7 +1,6 @@
 -- The marks of a search.
 use Rattle.std.proofs.Common.{◌≡◌, ◌≢◌, ◌⊎◌, inl, inr, ℕ, ◌+◌, ◌<◌, ◌≤◌, suc, zero, List, [], ◌∷◌, ◌++◌, length, get_or, set, take, Bool, true, false, cond, refl, sym, ap, ◌∙◌, subst, arith, Contains}
-use Rattle.std.specs.Prelude.{◌==◌, count_by, replicate}
-use Rattle.std.proofs.lemmas.List.{get_or-set_same, get_or-set_other, length-set, take_more, length_push}
+use Rattle.std.proofs.lemmas.List.{get_or-set_same, get_or-set_other, length-set, take_more, length_push, get_or_default}
 use Rattle.std.proofs.lemmas.List.Elements.{Contains-push, Contains-push_cases, Contains-append_left}
 use Rattle.std.proofs.lemmas.Bool.{cases_lt, cases_eq}
 use Rattle.click_classes.specs.declared.ports.Code.{Code}
@@ -40,14 +39,14 @@ marked-old codes k row y marks marks' work work' r m = record {
 one_less : (marks : List Bool) (y : ℕ) → y < length marks → get_or marks y false ≡ false → unmarked (set marks y true) + 1 ≡ unmarked marks
 one_less (m ∷ marks) zero l h = by m h
   where
-    by : (b : Bool) → b ≡ false → cond (true == false) (1 + unmarked marks) (unmarked marks) + 1 ≡ cond (b == false) (1 + unmarked marks) (unmarked marks)
-    by false h = omega arith
+    by : (b : Bool) → b ≡ false → unmarked marks + 1 ≡ cond b (unmarked marks) (unmarked marks + 1)
+    by false h = refl
     by true h = absurd (cc h)
-one_less (m ∷ marks) (suc y) l h = by m (one_less marks y (omega (arith, l)) h)
+one_less (m ∷ marks) (suc y) l h = by m (unmarked (set marks y true)) (unmarked marks) (one_less marks y (omega (arith, l)) h)
   where
-    by : (b : Bool) → unmarked (set marks y true) + 1 ≡ unmarked marks → cond (b == false) (1 + unmarked (set marks y true)) (unmarked (set marks y true)) + 1 ≡ cond (b == false) (1 + unmarked marks) (unmarked marks)
-    by false e = omega (arith, e)
-    by true e = e
+    by : (b : Bool) (n k : ℕ) → n + 1 ≡ k → cond b n (n + 1) + 1 ≡ cond b k (k + 1)
+    by false n k e = ap (λ x. x + 1) e
+    by true n k e = e
 one_less [] y l h = absurd (omega (arith, l))
 
 set-marks : (marks : List Bool) (y x : ℕ) → y < length marks → IsMarked (set marks y true) x → IsMarked marks x ⊎ (y ≡ x)
@@ -109,3 +108,48 @@ marked-new codes k row y marks marks' work work' more r l f (inr (o, is)) =
       only_added = λ x h. elim (r.only_added x h) [ inl a ↦ inl a | inr a ↦ inr (set-keeps marks' y x l a.0, a.1) ];
       less = (let a = one_less marks' y l f in let d = r.less in omega (arith, a, d));
     })
+
+-- the same of the lists that were made so
+pub marked-made : (codes : List Code) (k : Code) (row : List ℕ) (y : ℕ) (marks some made : List Bool) (work left more : List ℕ) → RowMarked codes k row marks work some left → y < length some →
+    get_or some y false ≡ false → made ≡ set some y true → ((IsOpen codes k y) × (more ≡ left ++ y ∷ [])) ⊎ ((IsOpen codes k y → ⊥) × (more ≡ left)) →
+    RowMarked codes k (row ++ y ∷ []) marks work made more
+marked-made codes k row y marks some made work left more r l f is o =
+    subst (λ ms. RowMarked codes k (row ++ y ∷ []) marks work ms more) (sym is) (marked-new codes k row y marks some work left more r l f o)
+
+-- whether marks spread through a port, by its code that was read
+pub open-read : (codes : List Code) (k : Code) (y : ℕ) (d : Code) → y < length codes → (get_or codes y d ≡ k) ⊎ (get_or codes y d ≡ Agnostic) → IsOpen codes k y
+open-read codes k y d l (inl h) = inl (get_or_default codes y Agnostic d l ∙ h)
+open-read codes k y d l (inr h) = inr (get_or_default codes y Agnostic d l ∙ h)
+
+pub read-open : (codes : List Code) (k : Code) (y : ℕ) (d : Code) → y < length codes → IsOpen codes k y → (get_or codes y d ≡ k) ⊎ (get_or codes y d ≡ Agnostic)
+read-open codes k y d l (inl h) = inl (get_or_default codes y d Agnostic l ∙ h)
+read-open codes k y d l (inr h) = inr (get_or_default codes y d Agnostic l ∙ h)
+
+-- the places of a code among those below a number
+pub record AreNumbersBelow (codes : List Code) (k : Code) (below : ℕ) (found : List ℕ) : Type 0 where
+  pub sound : (x : ℕ) → Contains found x → (x < below) × (code_of codes x ≡ k)
+  pub complete : (x : ℕ) → x < below → code_of codes x ≡ k → Contains found x
+
+pub numbers-none : (codes : List Code) (k : Code) → AreNumbersBelow codes k 0 []
+numbers-none codes k = record { sound = λ x h. absurd (contains_none x h); complete = λ x l e. absurd (omega (arith, l)) }
+
+pub numbers-more : (codes : List Code) (k : Code) (n : ℕ) (found new : List ℕ) → code_of codes n ≡ k → new ≡ found ++ n ∷ [] → AreNumbersBelow codes k n found → AreNumbersBelow codes k (n + 1) new
+numbers-more codes k n found new e is r = subst (AreNumbersBelow codes k (n + 1)) (sym is) (record {
+  sound = λ x h. elim (Contains-push_cases found n x h) [
+    | inl a ↦ (let b = r.sound x a in let l = b.0 in (omega (arith, l), b.1))
+    | inr a ↦ (omega (arith, a), subst (λ y. code_of codes y ≡ k) a e)
+  ];
+  complete = λ x l a. elim (cases_lt x n) [
+    | inl b ↦ Contains-append_left found (n ∷ []) x (r.complete x b a)
+    | inr b ↦ (let here : n ≡ x = omega (arith, l, b) in subst (Contains (found ++ n ∷ [])) here (Contains-push found n))
+  ];
+})
+
+pub numbers-same : (codes : List Code) (k : Code) (n : ℕ) (found : List ℕ) → (code_of codes n ≡ k → ⊥) → AreNumbersBelow codes k n found → AreNumbersBelow codes k (n + 1) found
+numbers-same codes k n found e r = record {
+  sound = λ x h. (let b = r.sound x h in let l = b.0 in (omega (arith, l), b.1));
+  complete = λ x l a. elim (cases_lt x n) [
+    | inl b ↦ r.complete x b a
+    | inr b ↦ (let here : x ≡ n = omega (arith, l, b) in absurd (e (subst (λ y. code_of codes y ≡ k) here a)))
+  ];
+}
