@@ -3,3 +3,4 @@ pub mod Places
 pub mod Rows
 pub mod Crossing
 pub mod Searching
+pub mod Spreading
