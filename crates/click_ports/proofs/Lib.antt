@@ -4,3 +4,4 @@ pub mod Rows
 pub mod Crossing
 pub mod Searching
 pub mod Spreading
+pub mod Telling

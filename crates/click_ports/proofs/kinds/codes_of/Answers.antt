@@ -22,8 +22,8 @@ loop-port-preserved c =
     let read = read-place w.connections ports i d c.ports-port-items.ensures.right c.loop-port-test.true in
     codes-more w (get_or ports i d) i c.loop-port.codes.items c.push.new.self.items c.code.result read.0 read.1 c.code.ensures c.in_ok-push.ensures.items c.loop-port.invariant
 
-pub returns : goal.returns
-returns c =
+pub returns-clause-codes : goal.returns-clause-codes
+returns-clause-codes c =
     let w = c.args.layout.now in let n = c.loop-port.port-index in
     let e : n ≡ first w.connections (length w.shapes) = omega (arith, c.loop-port-test.false, c.loop-port.auto.port-index-end, c.ports-port-items.ensures.all) in
     codes-all w n c.loop-port.codes.items c.ports-port-items.ensures.within e c.loop-port.invariant
