@@ -5,3 +5,4 @@ pub mod Crossing
 pub mod Searching
 pub mod Spreading
 pub mod Telling
+pub mod Lawfulness
