@@ -6,3 +6,4 @@ pub mod Searching
 pub mod Spreading
 pub mod Telling
 pub mod Lawfulness
+pub mod Resolved
