@@ -1,9 +1,10 @@
 -- The net that is found.
-use Rattle.std.proofs.Common.{◌≡◌, ◌⊎◌, inl, inr, ℕ, ◌<◌, ◌≤◌, List, length, get_or, map, Bool, true, false, ◌&&◌, Some, refl, sym, ap, ◌∙◌, subst, arith}
+use Rattle.std.proofs.Common.{◌≡◌, ◌⊎◌, inl, inr, ℕ, ◌<◌, ◌≤◌, List, length, get_or, map, Bool, true, false, ◌&&◌, Some, refl, sym, ap, ◌∙◌, subst, arith, ◌++◌, Option, [], ◌∷◌}
 use Rattle.std.specs.Prelude.{filter, nat_lt, ◌↔◌}
-use Rattle.std.proofs.lemmas.List.{length-map}
+use Rattle.std.proofs.lemmas.List.{length-map, map_push}
 use Rattle.std.proofs.lemmas.List.Elements.{filter_passes, All-weaker}
 use Rattle.std.proofs.lemmas.Bool.Decides.{nat_tests}
+use Rattle.click_classes.specs.declared.class.Class.{Class}
 use Rattle.click_classes.specs.declared.state.State.{State}
 use Rattle.click_classes.specs.declared.ports.Code.TheVariants.{Pull}
 use Rattle.click_classes.specs.Classes.{class_of}
@@ -91,3 +92,11 @@ module _ (n : Net) (names : List (List ℕ)) (w : Wiring) (pulls : List Bool) (s
       let there : IsPull w.shapes w.connections p → IsPull n.shapes n.connections p = λ t. subst (λ (v : Net). IsPull v.shapes v.connections p) seen t in
       let back : IsPull n.shapes n.connections p → IsPull w.shapes w.connections p = λ t. subst (λ (v : Net). IsPull v.shapes v.connections p) (sym seen) t in
       ((λ t. there (m.0 (is ∙ t))), (λ t. sym is ∙ m.1 (back t)))
+
+-- one more element, with a state of its class
+pub states-more : (es made : List FlatElement) (states more : List State) (e : FlatElement) (s : State) → made ≡ es ++ e ∷ [] → more ≡ states ++ s ∷ [] → class_of e.class ≡ Some (class s) →
+    AreStatesOf es states → AreStatesOf made more
+states-more es made states more e s a b k h =
+    let f : FlatElement → Option Class = λ x. class_of x.class in
+    let g : State → Option Class = λ x. Some (class x) in
+    ap (map f) a ∙ map_push f es e ∙ ap (λ c. map f es ++ c ∷ []) k ∙ ap (λ xs. xs ++ g s ∷ []) h ∙ sym (map_push g states s) ∙ ap (map g) (sym b)

@@ -1,6 +1,8 @@
 //! Tests of whole nets. What is expected is worked out by hand from the class table.
 
-ghost use Rattle.std.specs.Prelude.{IfOk, OnOk};
+ghost use Rattle.std.specs.Prelude.{◌≡◌, IfOk, IsTrue, OnOk, Some};
+ghost use Rattle.click_classes.specs.Classes.{class_of};
+ghost use Rattle.click_classes.specs.State.{class};
 ghost use Rattle.click_ports.specs.Net.{AreStatesOf};
 
 use crate::fault::{FaultKind, PortFault};
@@ -18,8 +20,36 @@ const INPUT: Side = Side::Input;
 const OUTPUT: Side = Side::Output;
 
 /// The bytes as a list.
-fn sequence(alloc: Global, bytes: &[u8]) -> Result<Sequence<u8>, AllocError> {
+fn sequence(alloc: Global, bytes: &[u8]) -> Result<Sequence<u8>, AllocError>
+    ensures { IfOk result (λ s. s ≡ bytes.now) }
+{
     Ok(Sequence::of(Vec::from_slice(alloc, bytes)?))
+}
+
+/// The state is of the element's class.
+fn is_of(element: &FlatElement, state: &State) -> bool
+    ensures { IsTrue result → class_of element.now.class ≡ Some (class state.now) }
+{
+    match class_of(element.class.as_slice()) {
+        Some(told) => told == state.class(),
+        None => false,
+    }
+}
+
+/// Adds an element of that class, and a state of it.
+fn add_element(
+    elements: &mut Sequence<FlatElement>,
+    states: &mut Vec<State>,
+    element: FlatElement,
+    state: State,
+) -> Result<(), AllocError>
+    requires so_far { AreStatesOf elements.old states.old.items }
+    requires class { class_of element.class ≡ Some (class state) }
+    ensures { OnOk result (AreStatesOf elements.new states.new.items) }
+{
+    elements.push(element)?;
+    states.push(state)?;
+    Ok(())
 }
 
 /// Adds an element that is written as `name Class text`, and its first state.
@@ -34,18 +64,18 @@ fn add(
 {
     let (name, rest) = line.split_once(' ').ok_or("a name")?;
     let (class_name, text) = rest.split_once(' ').unwrap_or((rest, ""));
-    let class = class_of(class_name.as_bytes()).ok_or("a class")?;
+    let class_bytes = class_name.as_bytes();
+    let class = class_of(class_bytes).ok_or("a class")?;
     let state = make(alloc, class, text.as_bytes()).ok().ok_or("a state")?;
-    if state.class() != class {
-        return Err(Fail::from("a state of the class"));
-    }
     let element = FlatElement {
         name: sequence(alloc, name.as_bytes())?,
-        class: sequence(alloc, class_name.as_bytes())?,
+        class: sequence(alloc, class_bytes)?,
         text: sequence(alloc, text.as_bytes())?,
     };
-    elements.push(element)?;
-    states.push(state)?;
+    if !is_of(&element, &state) {
+        return Err(Fail::from("a state of the class"));
+    }
+    add_element(elements, states, element, state)?;
     Ok(())
 }
 
