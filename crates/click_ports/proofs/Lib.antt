@@ -1,0 +1,5 @@
+pub mod Using
+pub mod Places
+pub mod Rows
+pub mod Crossing
+pub mod Searching
