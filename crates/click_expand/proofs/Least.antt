@@ -33,7 +33,7 @@ after-numbers a b m n h = by_test (nat_eq a b) refl h
     by_test true e k = inr (grind (arith, nat_tests), grind (arith, nat_tests))
     by_test false e k = inl (grind (arith, nat_tests))
 
-at_most-through : (x y z : Wrong) → AtMost x y → AtMost y z → AtMost x z
+pub at_most-through : (x y z : Wrong) → AtMost x y → AtMost y z → AtMost x z
 at_most-through x y z (inl p) (inl q) = inl (omega (arith, p, q))
 at_most-through x y z (inl p) (inr q) = inl (omega (arith, p, q.0))
 at_most-through x y z (inr p) (inl q) = inl (omega (arith, p.0, q))

@@ -11,6 +11,12 @@ pub mod Locating
 pub mod Ordered
 pub mod Least
 pub mod Finding
+pub mod Homes
+pub mod Adding
+pub mod Frames
+pub mod Entering
+pub mod Leaving
+pub mod Stepping
 pub mod Contained
 pub mod Founded
 pub mod Distinct
@@ -19,6 +25,11 @@ pub mod OrderedOnce
 pub mod FlatOnce
 pub mod Spelled
 pub mod FaultOnce
+pub mod Misnaming
+pub mod Naming
+pub mod Placing
+pub mod NamingFaults
+pub mod FirstNames
 pub mod ReadsBack
 pub mod Flattening
 pub mod Tokens

@@ -19,3 +19,5 @@ pub mod Called
 pub mod Sizes
 pub mod Uses
 pub mod Tabled
+pub mod Misnamed
+pub mod Using

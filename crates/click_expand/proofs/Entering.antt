@@ -1,0 +1,179 @@
+-- The walk enters a use of a body.
+use Rattle.std.proofs.Common.{◌≡◌, ℕ, suc, zero, ◌+◌, ◌<◌, List, [], ◌∷◌, ◌++◌, length, Some, refl, sym, ap, ◌∙◌, subst, append_assoc, arith}
+use Rattle.std.specs.List.{slice_get, slice_set}
+use Rattle.std.proofs.lemmas.List.{append-nil, length-set, length_push}
+use Rattle.click_text.specs.declared.syntax.Config.{Config}
+use Rattle.click_expand.specs.Scopes.{inside}
+use Rattle.click_expand.specs.Classes.{compound}
+use Rattle.click_expand.specs.Elements.{Local}
+use Rattle.click_expand.specs.Faults.{scope_locals}
+use Rattle.click_expand.specs.Instances.{Leaf, AreLeaves, to_inner}
+use Rattle.click_expand.specs.Nesting.{IsNested}
+use Rattle.click_expand.specs.Scoped.{AreScopes}
+use Rattle.click_expand.specs.Uses.{Used, locals_at, IsInner}
+use Rattle.click_expand.specs.Using.{with_part, bare_use, place_at, outer_by, IsHomeIn}
+use Rattle.click_expand.specs.declared.classes.Entry.{Entry}
+use Rattle.click_expand.specs.declared.scopes.Scope.{Scope as ScopeKept}
+use Rattle.click_expand.specs.declared.uses.Part.{Part}
+use Rattle.click_expand.specs.declared.uses.Part.TheVariants as part
+use Rattle.click_expand.specs.declared.uses.Place.{Place}
+use Rattle.click_expand.specs.declared.uses.Use.{Use}
+use Rattle.click_expand.proofs.Keeping.{slice_get-more, slice_get-last}
+use Rattle.click_expand.proofs.Homes.{same_some, IsHomeKept, AreHomes, new-home}
+use Rattle.click_expand.proofs.Adding.{changed-there, changed-behind, IsSoFar, Kept, kept-added}
+use Rattle.click_expand.proofs.Frames.{Chain, within, Walking, InnerCase, inner-case, founded-around, at-so_far, at-within, at-local, frame-part, chain-changed}
+
+-- what is kept says where the homes are
+pub homes-kept : (c : Config) (uses : List Use) (places : List Place) (known : List Used) (done : List Leaf) → Kept c uses places known done → AreHomes c uses known
+homes-kept c uses places known done w = record { each = λ u k e. let r = w.each u k e in (r.0, r.1, r.2.stands, r.2.scope, r.2.home) }
+
+module _ (c : Config) (nested : IsNested c) (ks : List ScopeKept) (es : List Entry) (scopes : AreScopes c es ks) where
+  module _ (uses : List Use) (places : List Place) (at : ℕ) (leaves : List Leaf) (n : ℕ) (w : Walking c uses places at leaves n) where
+    module _ (b home : ℕ) (l : Local) (ls : List Local) (e : w.frame.rest ≡ l ∷ ls) (meaning : l.meaning ≡ Some (compound b)) (found : IsHomeIn uses (outer_by (slice_get ks b)) at home) where
+      abbrev outside : Used
+      outside = w.frame.used
+
+      -- the part that is added
+      abbrev added : Part
+      added = part.Inner (length uses)
+
+      abbrev here : Place
+      here = place_at at (length w.frame.kept.parts)
+
+      abbrev fresh : Use
+      fresh = bare_use b (Some here) (Some home)
+
+      abbrev new : List Use
+      new = slice_set uses at (with_part w.frame.kept added) ++ fresh ∷ []
+
+      the-case : InnerCase c w.frame.used.scope w.frame.used.around w.frame.used.path w.frame.used.bindings l ls b w.inner w.m
+      the-case =
+          inner-case c outside.scope outside.around outside.path outside.bindings l ls b w.inner w.m meaning
+          (subst (λ xs. AreLeaves c outside.scope outside.around outside.path outside.bindings xs w.inner w.m) e w.frame.leads)
+
+      abbrev entered : Used
+      entered = record {
+        scope = inside b;
+        visible = the-case.visible;
+        around = the-case.outer;
+        path = outside.path ++ l.name ∷ [];
+        bindings = (b, the-case.values) ∷ outside.bindings;
+      }
+
+      so_far : IsSoFar c uses places w.known at w.frame.kept w.frame.used
+      so_far = at-so_far c uses places at leaves n w
+
+      there : slice_get (locals_at c w.frame.used) (length w.frame.kept.parts) ≡ Some l
+      there = at-local c uses places at leaves n w l ls e
+
+      below : at < length uses
+      below = at-within c uses places at leaves n w
+
+      home-of-it : IsHomeKept c (w.known ++ entered ∷ []) (length uses) entered (Some home)
+      home-of-it =
+          let f = founded-around c nested outside (length w.frame.kept.parts) b l the-case.visible the-case.outer so_far.stands there meaning the-case.stands in
+          let h = new-home c nested uses w.known (homes-kept c uses places w.known w.done w.kept) ks es scopes at home b outside the-case.visible the-case.outer f.0 the-case.values
+          w.frame.used_there f.1 the-case.stands found in
+          let k = h.1 in let m = below in
+          (omega (arith, k, m), (h.0, slice_get-more w.known (entered ∷ []) home h.0 h.2, h.3, h.4))
+
+      inner-of-it : IsInner c w.frame.used entered (length w.frame.kept.parts)
+      inner-of-it = record {
+        local = l;
+        there = there;
+        body = b;
+        meaning = meaning;
+        scope = refl;
+        path = refl;
+        spans = the-case.spans;
+        arguments = the-case.arguments;
+        values = the-case.values;
+        replaced = the-case.replaced;
+        bindings = refl;
+      }
+
+      fresh-so_far : IsSoFar c new (places ++ []) (w.known ++ entered ∷ []) (length uses) fresh entered
+      fresh-so_far = record {
+        stands = the-case.stands;
+        scope = refl;
+        leads = to_inner outside.path outside.scope outside.visible w.frame.done ls l b the-case.visible the-case.outer so_far.leads
+            (w.frame.splits ∙ ap (λ xs. w.frame.done ++ xs) e) meaning the-case.stands;
+        around = (below, (outside, slice_get-more w.known (entered ∷ []) at outside w.frame.used_there, inner-of-it));
+        home = home-of-it;
+        parts = λ i q g. absurd (cc g);
+        own = λ q g.
+            let same : here ≡ q = same_some g in
+            subst (λ (y : Place). (o : Use) × (slice_get new y.within ≡ Some o) × (slice_get o.parts y.element ≡ Some (part.Inner (length uses)))) same
+            (with_part w.frame.kept added, changed-there uses at (with_part w.frame.kept added) (fresh ∷ []) below, slice_get-last w.frame.kept.parts added);
+      }
+
+      new-there : slice_get new (length uses) ≡ Some fresh
+      new-there =
+          let none : length uses ≡ length uses + 0 = omega arith in
+          ap (slice_get new) none ∙ changed-behind uses at (with_part w.frame.kept added) (fresh ∷ []) 0
+
+      new-use : (j : ℕ) (q : Use) → slice_get (fresh ∷ []) j ≡ Some q →
+          (y : Used) × (slice_get (entered ∷ []) j ≡ Some y) × IsSoFar c new (places ++ []) (w.known ++ entered ∷ []) (length uses + j) q y
+      new-use zero q g =
+          let same : fresh ≡ q = same_some g in
+          let none : length uses ≡ length uses + 0 = omega arith in (
+            entered,
+            refl,
+            subst (λ u. IsSoFar c new (places ++ []) (w.known ++ entered ∷ []) u q entered) none
+                (subst (λ (y : Use). IsSoFar c new (places ++ []) (w.known ++ entered ∷ []) (length uses) y entered) same fresh-so_far),
+          )
+      new-use (suc j) q g = absurd (cc g)
+
+      kept-entered : Kept c new places (w.known ++ entered ∷ []) w.done
+      kept-entered =
+          subst (λ xs. Kept c new xs (w.known ++ entered ∷ []) w.done) (append-nil places)
+          (subst (λ xs. Kept c new (places ++ []) (w.known ++ entered ∷ []) xs) (append-nil w.done)
+          (kept-added c uses places w.known w.done at w.frame.kept outside added (fresh ∷ []) [] (entered ∷ []) []
+          (record {
+            there = w.frame.kept_there;
+            used = w.frame.used_there;
+            local = l;
+            local_there = there;
+            part = (b, meaning, (fresh, new-there, (here, refl, refl, refl)));
+            uses_match = refl;
+            leaves_match = refl;
+            new_uses = new-use;
+            new_leaves = λ j q g. absurd (cc g);
+          })
+          w.kept))
+
+      -- the walk is at the new use
+      pub walking-inner : Walking c new places (length uses) leaves n
+      walking-inner =
+          let g = frame-part c uses places at leaves n w added (fresh ∷ []) (entered ∷ []) (length uses) l ls the-case.leaves the-case.k refl e the-case.rest in
+          let same : length w.known ≡ length uses = w.kept.as_many in
+          let len : length new ≡ length uses + 1 =
+          length_push (slice_set uses at (with_part w.frame.kept added)) fresh ∙ ap (λ x. x + 1) (length-set uses at (with_part w.frame.kept added)) in
+          let count = w.count in let rc = the-case.count in
+          record {
+            known = w.known ++ entered ∷ [];
+            done = w.done;
+            kept = kept-entered;
+            inner = the-case.inner;
+            outer = the-case.leaves ++ w.outer;
+            m = the-case.m;
+            k = the-case.k + w.k;
+            splits = w.splits ∙ ap (λ xs. w.done ++ (xs ++ w.outer)) the-case.is ∙ ap (λ xs. w.done ++ xs) (append_assoc the-case.inner the-case.leaves w.outer);
+            count = omega (arith, len, count, rc);
+            upper = length uses + 1;
+            upper_is = sym len;
+            frame = record {
+              used = entered;
+              used_there = ap (slice_get (w.known ++ entered ∷ [])) (sym same) ∙ slice_get-last w.known entered;
+              kept = fresh;
+              kept_there = new-there;
+              done = [];
+              rest = scope_locals c (inside b) the-case.visible;
+              splits = refl;
+              as_far = refl;
+              leads = the-case.leads;
+              full = λ u k a d q. absurd (omega (arith, a, d));
+            };
+            chain = within (length uses) here the-case.leaves w.outer the-case.k w.k g.0 below
+                (subst (λ a. Chain c new (w.known ++ entered ∷ []) at a w.outer w.k) (sym g.1) (chain-changed c uses places at leaves n w added (fresh ∷ []) (entered ∷ [])));
+          }
