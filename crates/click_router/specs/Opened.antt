@@ -34,6 +34,14 @@ pub record IsBegun (e : FlatElement) (r : Result State ArgFault) : Type 0 where
   pub known : class_of e.class ≡ Some class
   pub made : IsMade class e.text r
 
+-- the element's class is one of the router's
+abbrev pub IsKnown : FlatElement → Type 0
+IsKnown e = (class : Class) × (class_of e.class ≡ Some class)
+
+abbrev pub AreKnown : List FlatElement → Type 0
+AreKnown [] = Unit {0}
+AreKnown (e ∷ es) = IsKnown e × AreKnown es
+
 -- each element's first state
 abbrev pub AreFresh : List FlatElement → List State → Type 0
 AreFresh [] [] = Unit {0}
