@@ -10,8 +10,8 @@ use Rattle.click_expand.specs.Flat.{most_elements, most_paths, Exceeds, many_ele
 use Rattle.click_expand.specs.Tabled.{IsFirst, IsExpanded, IsExpandedOr, IsRefused, IsRefusedOf, fault_for}
 use Rattle.click_expand.specs.declared.fault.FaultKind.TheVariants as kind
 use Rattle.click_expand.specs.declared.flat.Flat.{Flat}
-use Rattle.click_expand.specs.declared.flatten.Refused.{Refused}
-use Rattle.click_expand.specs.declared.flatten.Refused.TheVariants as refused
+use Rattle.click_expand.specs.declared.flattening.Refused.{Refused}
+use Rattle.click_expand.specs.declared.flattening.Refused.TheVariants as refused
 use Rattle.click_expand.specs.declared.sizes.Size.{Size}
 use Rattle.click_expand.specs.declared.wrong.Wrong.{Wrong}
 use Rattle.click_expand.proofs.Leaves.{leaves-exist}

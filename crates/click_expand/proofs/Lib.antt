@@ -31,6 +31,6 @@ pub mod Placing
 pub mod NamingFaults
 pub mod FirstNames
 pub mod ReadsBack
-pub mod Flattening
+pub mod Ways
 pub mod Tokens
 pub mod Answering

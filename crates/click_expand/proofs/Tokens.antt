@@ -20,7 +20,7 @@ use Rattle.click_expand.specs.Uses.{Used, locals_at, AreUses}
 use Rattle.click_expand.specs.Tabled.{local_head, scope_head, use_head, place_head, head_in, IsRefusedOf}
 use Rattle.click_expand.specs.declared.fault.FaultKind.TheVariants as kind
 use Rattle.click_expand.specs.declared.flat.FlatElement.{FlatElement}
-use Rattle.click_expand.specs.declared.flatten.Refused.TheVariants as refused
+use Rattle.click_expand.specs.declared.flattening.Refused.TheVariants as refused
 use Rattle.click_expand.specs.declared.members.Local.{Local as LocalKept}
 use Rattle.click_expand.specs.declared.uses.Place.{Place}
 use Rattle.click_expand.specs.declared.uses.Use.{Use as UseKept}

@@ -17,9 +17,9 @@ use Rattle.click_expand.specs.declared.members.Local.{Local as LocalKept}
 use Rattle.click_expand.specs.declared.uses.Place.{Place}
 use Rattle.click_expand.specs.declared.uses.Use.{Use as UseKept}
 use Rattle.click_expand.specs.declared.wrong.Wrong.{Wrong}
-use Rattle.click_expand.specs.declared.flatten.Tables.{Tables}
-use Rattle.click_expand.specs.declared.flatten.Refused.{Refused}
-use Rattle.click_expand.specs.declared.flatten.Refused.TheVariants as refused
+use Rattle.click_expand.specs.declared.flattening.Tables.{Tables}
+use Rattle.click_expand.specs.declared.flattening.Refused.{Refused}
+use Rattle.click_expand.specs.declared.flattening.Refused.TheVariants as refused
 
 -- the tables of a configuration
 pub record AreTables (c : Config) (t : Tables) : Type 0 where

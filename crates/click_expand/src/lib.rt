@@ -7,7 +7,7 @@ pub mod elements;
 pub mod fault;
 pub mod flat;
 pub mod flat_text;
-pub mod flatten;
+pub mod flattening;
 pub mod joints;
 pub mod laws;
 pub mod members;
@@ -24,3 +24,4 @@ pub mod wrong;
 
 pub use fault::{ExpandFault, FaultKind};
 pub use flat::{Connection, Flat, FlatElement};
+pub use flattening::flatten;

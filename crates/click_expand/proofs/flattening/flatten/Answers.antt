@@ -2,7 +2,7 @@ use Rattle.std.proofs.Common.{◌∙◌}
 use Rattle.click_expand.proofs.Nesting.{spelled-nested}
 use Rattle.click_expand.proofs.FlatOnce.{flat-once}
 use Rattle.click_expand.proofs.Answering.{refused-for-memory}
-use Rattle.click_expand.proofs.flatten.flatten.Goals as goal
+use Rattle.click_expand.proofs.flattening.flatten.Goals as goal
 
 pub flat_of-requires-clause-nested : goal.flat_of-requires-clause-nested
 flat_of-requires-clause-nested c = spelled-nested c.args.config.now.text c.args.config.now c.requires

@@ -1,8 +1,8 @@
 use Rattle.std.proofs.Common.{sym, ap, ◌∙◌, ◌++◌}
 use Rattle.click_expand.specs.FlatText.{name_in, name_at}
-use Rattle.click_expand.proofs.Flattening.{match-none, match-some}
+use Rattle.click_expand.proofs.Ways.{match-none, match-some}
 use Rattle.click_expand.proofs.Tokens.{repeated-in, broken-in, nothing-in}
-use Rattle.click_expand.proofs.flatten.refused_of.Goals as goal
+use Rattle.click_expand.proofs.flattening.refused_of.Goals as goal
 
 pub returns-in-Some : goal.returns-in-Some
 returns-in-Some c = λ leaves known used h.

@@ -3,7 +3,7 @@ use Rattle.click_expand.specs.Flat.{flat_element}
 use Rattle.click_expand.specs.Located.{AreAllLocals}
 use Rattle.click_expand.specs.Tabled.{IsExpanded, IsExpandedOr, IsRefusedOf}
 use Rattle.click_expand.proofs.Answering.{too-many-elements, too-many-paths, counted, too-many, answered, refused-by}
-use Rattle.click_expand.proofs.flatten.sound_flat.Goals as goal
+use Rattle.click_expand.proofs.flattening.sound_flat.Goals as goal
 
 pub size_of-requires-clause-locals : goal.size_of-requires-clause-locals
 size_of-requires-clause-locals c = subst (AreAllLocals c.args.config.now) (sym c.as_slice-locals.ensures.value) c.requires.tables.locals

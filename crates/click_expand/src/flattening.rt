@@ -54,7 +54,7 @@ pub enum Refused {
 
 impl From<AllocError> for Refused {
     ghost use Rattle.std.specs.Prelude.{◌≡◌};
-    ghost use Rattle.click_expand.specs.declared.flatten.Refused.TheVariants as why;
+    ghost use Rattle.click_expand.specs.declared.flattening.Refused.TheVariants as why;
 
     ghost from_gives = { λ _ r. r ≡ why.NoMemory };
 

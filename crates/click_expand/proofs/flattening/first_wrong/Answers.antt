@@ -1,8 +1,8 @@
 use Rattle.std.proofs.Common.{sym, subst}
 use Rattle.click_expand.specs.Located.{AreAllLocals, AreAllStrings}
 use Rattle.click_expand.specs.Tabled.{IsFirst}
-use Rattle.click_expand.proofs.Flattening.{first-of-both}
-use Rattle.click_expand.proofs.flatten.first_wrong.Goals as goal
+use Rattle.click_expand.proofs.Ways.{first-of-both}
+use Rattle.click_expand.proofs.flattening.first_wrong.Goals as goal
 
 pub first_misnamed-requires-clause-locals : goal.first_misnamed-requires-clause-locals
 first_misnamed-requires-clause-locals c = subst (AreAllLocals c.args.config.now) (sym c.as_slice-locals.ensures.value) c.requires.tables.locals

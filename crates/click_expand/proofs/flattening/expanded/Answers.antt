@@ -1,8 +1,8 @@
 use Rattle.std.proofs.Common.{sym, subst, ◌∙◌}
 use Rattle.click_expand.specs.Located.{AreAllLocals}
 use Rattle.click_expand.specs.Flat.{much_text}
-use Rattle.click_expand.proofs.Flattening.{match-none, match-some, more-connections, joined-up}
-use Rattle.click_expand.proofs.flatten.expanded.Goals as goal
+use Rattle.click_expand.proofs.Ways.{match-none, match-some, more-connections, joined-up}
+use Rattle.click_expand.proofs.flattening.expanded.Goals as goal
 
 pub elements_of-requires-clause-locals : goal.elements_of-requires-clause-locals
 elements_of-requires-clause-locals c = subst (AreAllLocals c.args.config.now) (sym c.as_slice-locals.ensures.value) c.requires.tables.locals
