@@ -1,5 +1,5 @@
 -- The first wrong name, class or declaration of a configuration.
-use Rattle.std.proofs.Common.{◌≡◌, ◌⊎◌, inl, inr, ℕ, ◌+◌, ◌<◌, ◌≤◌, List, [], ◌∷◌, ◌++◌, map, take, length, Bool, true, Vec, Global, Option, Some, None, refl, sym, ap, ◌∙◌, subst, arith}
+use Rattle.std.proofs.Common.{◌≡◌, ◌⊎◌, inl, inr, ◌≤◌, List, [], ◌∷◌, ◌++◌, map, take, length, true, Vec, Global, Option, Some, None, refl, sym, ap, ◌∙◌, subst, arith}
 use Rattle.std.specs.List.{slice_get}
 use Rattle.click_text.specs.declared.syntax.Span.{Span}
 use Rattle.click_text.specs.declared.syntax.Head.TheVariants as head
@@ -14,7 +14,7 @@ use Rattle.click_expand.specs.Nesting.{IsNested}
 use Rattle.click_expand.specs.Scoped.{place_of, AreSynonyms}
 use Rattle.click_expand.specs.Located.{AreAllLocals, AreAllStrings, strings_of, scope_strings}
 use Rattle.click_expand.specs.Wrongs.{wrong, AtMost, IsLeast, IsMisnamed, first_of, names_in, IsWrongLocal}
-use Rattle.click_expand.specs.Misnamed.{IsWrongAt, IsWrongWithin, IsWrongBody, IsWrongEntry}
+use Rattle.click_expand.specs.Misnamed.{IsWrongAt, IsWrongBody, IsWrongEntry}
 use Rattle.click_expand.specs.declared.members.Local.{Local as LocalKept}
 use Rattle.click_expand.specs.declared.classes.Entry.{Entry}
 use Rattle.click_expand.specs.declared.fault.FaultKind.{FaultKind}

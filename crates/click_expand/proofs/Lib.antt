@@ -17,6 +17,7 @@ pub mod Frames
 pub mod Entering
 pub mod Leaving
 pub mod Stepping
+pub mod Weighing
 pub mod Contained
 pub mod Founded
 pub mod Distinct

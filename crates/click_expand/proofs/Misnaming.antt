@@ -1,13 +1,11 @@
 -- The first wrong names, classes and declarations of the places of the table.
-use Rattle.std.proofs.Common.{◌≡◌, ◌⊎◌, inl, inr, ℕ, ◌+◌, ◌<◌, ◌≤◌, List, [], ◌∷◌, ◌++◌, length, get_or, Bool, nat_lt, Vec, Global, Option, Some, None, refl, sym, ap, ◌∙◌, subst, arith}
+use Rattle.std.proofs.Common.{◌≡◌, ◌⊎◌, inl, inr, ℕ, ◌+◌, ◌<◌, List, length, get_or, Bool, nat_lt, Vec, Global, Option, Some, None, refl, sym, ap, ◌∙◌, subst, arith}
 use Rattle.std.specs.List.{slice_get}
 use Rattle.std.proofs.lemmas.Bool.{cases_order}
 use Rattle.std.proofs.lemmas.Option.{slice_get-get_or}
-use Rattle.click_text.specs.declared.syntax.Span.{Span}
 use Rattle.click_text.specs.declared.syntax.Body.{Body}
 use Rattle.click_text.specs.declared.syntax.Config.{Config}
-use Rattle.click_expand.specs.Faults.{number_of}
-use Rattle.click_expand.specs.Wrongs.{first_of, AtMost, IsLeast, IsWrongLocal, IsWrongFormal}
+use Rattle.click_expand.specs.Wrongs.{first_of, AtMost, IsLeast, IsWrongLocal}
 use Rattle.click_expand.specs.Misnamed.{IsWrongAt, IsWrongWithin, IsWrongBody, IsWrongEntry, original_at}
 use Rattle.click_expand.specs.declared.members.Local.{Local as LocalKept}
 use Rattle.click_expand.specs.declared.classes.Entry.{Entry}

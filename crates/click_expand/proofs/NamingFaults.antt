@@ -1,5 +1,5 @@
 -- Wrong names, classes and declarations in a scope are those of its elements and parameters as they are kept.
-use Rattle.std.proofs.Common.{◌≡◌, ◌≢◌, ◌⊎◌, inl, inr, ℕ, ◌+◌, ◌<◌, ◌≤◌, List, [], ◌∷◌, ◌++◌, map, take, drop, reverse, length, get_or, Bool, true, false, ◌&&◌, cond, Option, Some, None, refl, sym, ap, ◌∙◌, subst, arith}
+use Rattle.std.proofs.Common.{◌≡◌, ◌≢◌, ◌⊎◌, inl, inr, ℕ, ◌+◌, ◌≤◌, List, ◌∷◌, ◌++◌, map, take, drop, reverse, length, Bool, true, false, ◌&&◌, Option, Some, None, refl, sym, ap, ◌∙◌, subst, arith}
 use Rattle.std.specs.List.{slice_get}
 use Rattle.std.specs.Option.{option_map}
 use Rattle.std.proofs.Math.Seq.{take-append_seam}
@@ -15,7 +15,7 @@ use Rattle.click_text.specs.declared.syntax.Statement.TheVariants as statement
 use Rattle.click_text.specs.declared.syntax.Config.{Config}
 use Rattle.click_text.specs.Spans.{bytes_at}
 use Rattle.click_expand.specs.Scopes.{Scope, whole, inside, is_body, statements_of, formals_of, Stands}
-use Rattle.click_expand.specs.Elements.{Placed, makes, role_by, has_name, is_port_name, made_name, Local, locals_from, element_meaning}
+use Rattle.click_expand.specs.Elements.{Placed, makes, has_name, is_port_name, made_name, Local, locals_from, element_meaning}
 use Rattle.click_expand.specs.Faults.{IsWrong, number_of, scope_placed, scope_declared, scope_locals, role_in, first_token, unknown_name, unknown_class, unknown_declared, unknown_original, named_twice, port_declared, formal_twice}
 use Rattle.click_expand.specs.Tables.{meaning_by, local_of}
 use Rattle.click_expand.specs.Located.{strings_of, scope_strings}
@@ -31,8 +31,8 @@ use Rattle.click_expand.specs.declared.fault.FaultKind.{FaultKind}
 use Rattle.click_expand.specs.declared.fault.FaultKind.TheVariants as kind
 use Rattle.click_expand.specs.declared.wrong.Wrong.{Wrong}
 use Rattle.click_expand.proofs.Least.{least-first_of, least-alone}
-use Rattle.click_expand.proofs.Misnaming.{least-found, least-is, at_most-same}
-use Rattle.click_expand.proofs.Naming.{MadeAt, made-at, IsKept, kept-at, get-behind}
+use Rattle.click_expand.proofs.Misnaming.{least-found, least-is}
+use Rattle.click_expand.proofs.Naming.{made-at, IsKept, kept-at, get-behind}
 
 some_same : {X : Type 0} {x y : X} → Some x ≡ Some y → x ≡ y
 some_same h = cc h

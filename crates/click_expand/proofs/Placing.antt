@@ -1,10 +1,9 @@
 -- Each body of a nested configuration stands in some scope.
-use Rattle.std.proofs.Common.{◌≡◌, ◌⊎◌, inl, inr, ℕ, suc, ◌+◌, ◌<◌, ◌≤◌, List, [], ◌∷◌, ◌++◌, reverse, length, refl, ap, ◌∙◌, sym, subst, arith, Contains}
+use Rattle.std.proofs.Common.{◌≡◌, inl, inr, ℕ, suc, ◌+◌, ◌<◌, ◌≤◌, List, [], ◌∷◌, ◌++◌, reverse, length, refl, ap, sym, subst, arith, Contains}
 use Rattle.std.specs.List.{slice_get}
 use Rattle.std.proofs.lemmas.Bool.{cases_order}
 use Rattle.std.proofs.lemmas.List.Elements.{Contains-append_cases}
 use Rattle.click_text.specs.declared.syntax.Statement.{Statement}
-use Rattle.click_text.specs.declared.syntax.Body.{Body}
 use Rattle.click_text.specs.declared.syntax.Config.{Config}
 use Rattle.click_expand.specs.Scopes.{Scope, whole, inside, bodies_in, body_statements, statements_of, Stands, at_top, nested}
 use Rattle.click_expand.specs.Nesting.{direct, Nests, no_bodies, next_body, IsNested}

@@ -1,7 +1,7 @@
 -- The braces of a text's bodies stand in it.
-use Rattle.std.proofs.Common.{◌≡◌, ℕ, suc, zero, ◌+◌, ◌-◌, ◌<◌, ◌≤◌, List, [], ◌∷◌, ◌++◌, take, drop, length, Option, Some, None, refl, sym, ap, ◌∙◌, subst, arith}
+use Rattle.std.proofs.Common.{◌≡◌, ℕ, suc, zero, ◌+◌, ◌<◌, ◌≤◌, List, [], ◌∷◌, take, drop, length, Option, Some, sym, ◌∙◌, subst, arith}
 use Rattle.std.specs.List.{slice_get}
-use Rattle.std.proofs.lemmas.List.{length-drop, length-take}
+use Rattle.std.proofs.lemmas.List.{length-drop}
 use Rattle.click_text.specs.declared.syntax.Span.{Span}
 use Rattle.click_text.specs.declared.syntax.Token.{Token}
 use Rattle.click_text.specs.declared.syntax.Token.TheVariants as token
@@ -16,7 +16,7 @@ use Rattle.click_text.specs.declared.syntax.Body.{Body}
 use Rattle.click_text.specs.declared.syntax.Config.{Config}
 use Rattle.click_text.specs.declared.lexer.Piece.{Piece}
 use Rattle.click_text.specs.declared.lexer.Piece.TheVariants as piece
-use Rattle.click_text.specs.Pieces.{span, IsPiece, Longest, token_of, Reads, ends, passes, takes, stuck}
+use Rattle.click_text.specs.Pieces.{span, IsPiece, token_of, Reads, ends, passes, takes, stuck}
 use Rattle.click_text.specs.Grammar.{IsPort, no_port, bracketed, IsString, no_string, string, IsEnd, semicolon, before_close, at_end, IsFormals, last_formal, more_formals, IsHeader, no_header, header, IsNames, last_name, more_names, IsBody, braces, IsClass, by_name, by_body, IsHead, word, declared, compound, IsElement, an_element, IsLinks, no_links, more_links, IsStatement, chained, declarations, definition, synonym, requirement, IsStatements, no_more, empty, stated, body}
 use Rattle.click_text.specs.Spelling.{Spells}
 use Rattle.click_expand.specs.Standing.{Each}

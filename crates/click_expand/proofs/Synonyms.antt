@@ -2,7 +2,7 @@
 use Rattle.std.proofs.Common.{◌≡◌, ◌⊎◌, inl, inr, ℕ, suc, zero, ◌+◌, ◌<◌, ◌≤◌, List, [], ◌∷◌, ◌++◌, map, length, get_or, take, drop, reverse, Option, Some, None, refl, sym, ap, ◌∙◌, append_assoc, subst, arith}
 use Rattle.std.specs.List.{slice_get, cons_option}
 use Rattle.std.proofs.lemmas.Bool.{cases_order}
-use Rattle.std.proofs.lemmas.List.{append-nil, at_drop_all, at_drop_more, take_more, drop_more, take-append-drop, map-append, length-append, length-take-le}
+use Rattle.std.proofs.lemmas.List.{append-nil, at_drop_all, at_drop_more, drop_more, take-append-drop, map-append, length-append, length-take-le}
 use Rattle.click_text.specs.declared.syntax.Span.{Span}
 use Rattle.click_text.specs.declared.syntax.Link.{Link}
 use Rattle.click_text.specs.declared.syntax.Declaration.{Declaration}

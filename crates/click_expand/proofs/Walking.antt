@@ -15,7 +15,7 @@ use Rattle.click_expand.specs.Scopes.{Scope, whole, inside, statements_of, Stand
 use Rattle.click_expand.specs.Elements.{placed}
 use Rattle.click_expand.specs.Tables.{meaning_by, Shows, AreWritten, IsMore}
 use Rattle.click_expand.specs.Nesting.{direct, Nests, no_bodies, next_body, IsNested}
-use Rattle.click_expand.specs.Standing.{Each, IsRoot, AreRoots, written_ports, HasSynonym, IsSynonymAmong, AddsSynonyms}
+use Rattle.click_expand.specs.Standing.{Each, IsRoot, AreRoots, written_ports, HasSynonym, AddsSynonyms}
 use Rattle.click_expand.specs.Scoped.{place_of, outer_of, ports_in, IsScope, AreScopes, IsSynonym, AreSynonyms}
 use Rattle.click_expand.specs.declared.classes.Entry.{Entry}
 use Rattle.click_expand.specs.declared.scopes.Root.{Root}

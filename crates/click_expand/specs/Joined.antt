@@ -1,9 +1,9 @@
 -- The connections of each scope, as the code keeps them.
-use Rattle.std.specs.Prelude.{◌≡◌, ◌≢◌, ℕ, List, [], ◌∷◌, slice_get, Some}
+use Rattle.std.specs.Prelude.{◌≡◌, ◌≢◌, List, [], ◌∷◌, slice_get, Some}
 use Rattle.click_text.specs.declared.syntax.Statement.{Statement}
 use Rattle.click_text.specs.declared.syntax.Config.{Config}
 use Rattle.click_expand.specs.Scopes.{Scope, Stands}
-use Rattle.click_expand.specs.Elements.{Local, Role, pseudo, input_name, output_name}
+use Rattle.click_expand.specs.Elements.{Local, pseudo, input_name, output_name}
 use Rattle.click_expand.specs.Faults.{End, Joint, scope_locals, scope_joints}
 use Rattle.click_expand.specs.Scoped.{place_of}
 use Rattle.click_expand.specs.declared.joints.Owner.{Owner}

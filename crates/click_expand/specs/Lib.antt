@@ -21,3 +21,4 @@ pub mod Uses
 pub mod Tabled
 pub mod Misnamed
 pub mod Using
+pub mod Counted

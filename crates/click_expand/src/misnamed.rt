@@ -128,3 +128,6 @@ pub fn first_misnamed(
     let originals = in_entries(scopes.entries.as_slice());
     Ok(first_of(first_of(whole, bodies), originals))
 }
+
+#[cfg(test)]
+mod tests;

@@ -1,11 +1,15 @@
 //! How much a configuration stands for, before it is expanded.
 
-ghost use Rattle.std.specs.Prelude.{IfOk};
+ghost use Rattle.std.specs.Prelude.{◌≡◌, ◌+◌, ◌++◌, ◌∷◌, [], min, slice_get, IfOk, OnOk};
 ghost use Rattle.click_expand.specs.Located.{AreAllLocals};
 ghost use Rattle.click_expand.specs.Nesting.{IsNested};
 ghost use Rattle.click_expand.specs.Faults.{IsSound};
 ghost use Rattle.click_expand.specs.Sizes.{IsSizeOf};
+ghost use Rattle.click_expand.specs.Flat.{most_elements, most_paths};
+ghost use Rattle.click_expand.specs.Counted as spec;
+ghost use Rattle.click_expand.specs.Counted.{size_or, IsSum};
 
+use crate::classes::ClassOf;
 use crate::members::Local;
 use click_text::syntax::Config;
 use std::alloc::{AllocError, Global};
@@ -23,6 +27,76 @@ pub struct Size {
     pub paths: usize,
 }
 
+/// The sum, or the cap where it passes that.
+fn capped(a: usize, b: usize, cap: usize) -> usize
+    ensures { result ≡ min (a + b) cap }
+{
+    a.saturating_add(b).min(cap)
+}
+
+/// The size of the scope at a place.
+fn size_at(sizes: &[Size], place: usize) -> Size
+    ensures { result ≡ size_or (slice_get sizes.now place) }
+{
+    match sizes.get(place) {
+        Some(size) => *size,
+        None => Size {
+            elements: 0,
+            paths: 0,
+        },
+    }
+}
+
+/// What is inside an element.
+fn size_inside(sizes: &[Size], class: Option<ClassOf>) -> Size
+    ensures { result ≡ spec.size_inside sizes.now class }
+{
+    match class {
+        Some(ClassOf::Compound(body)) => size_at(sizes, body),
+        _ => Size {
+            elements: 1,
+            paths: 0,
+        },
+    }
+}
+
+/// The size with that of one more element.
+fn with_element(all: Size, inside: Size) -> Size
+    ensures elements { result.elements ≡ min (all.elements + inside.elements) (most_elements + 1) }
+    ensures paths { result.paths ≡ min (all.paths + (inside.paths + 1)) (most_paths + 1) }
+{
+    Size {
+        elements: capped(all.elements, inside.elements, MOST_ELEMENTS + 1),
+        paths: capped(
+            capped(all.paths, 1, MOST_PATHS + 1),
+            inside.paths,
+            MOST_PATHS + 1,
+        ),
+    }
+}
+
+/// The size of a scope behind those that its elements can mean.
+fn scope_size(sizes: &[Size], locals: &[Local]) -> Size
+    ensures { IsSum sizes.now locals.now result }
+{
+    let mut all = Size {
+        elements: 0,
+        paths: 0,
+    };
+    for local in locals {
+        all = with_element(all, size_inside(sizes, local.class));
+    }
+    all
+}
+
+/// Adds a size at the end.
+fn push_size(sizes: &mut Vec<Size>, size: Size) -> Result<(), AllocError>
+    ensures { OnOk result (sizes.new.items ≡ sizes.old.items ++ size ∷ []) }
+{
+    sizes.push(size)?;
+    Ok(())
+}
+
 /// The size of a configuration, counted once for each scope and not once for each use.
 pub fn size_of(alloc: Global, config: &Config, locals: &[Vec<Local>]) -> Result<Size, AllocError>
     requires nested { IsNested config.now }
@@ -30,5 +104,10 @@ pub fn size_of(alloc: Global, config: &Config, locals: &[Vec<Local>]) -> Result<
     requires locals { AreAllLocals config.now locals.now }
     ensures { IfOk result (λ size. IsSizeOf config.now size) }
 {
-    Err(AllocError)
+    let mut sizes = Vec::new(alloc);
+    for elements in locals {
+        let size = scope_size(sizes.as_slice(), elements.as_slice());
+        push_size(&mut sizes, size)?;
+    }
+    Ok(size_at(sizes.as_slice(), config.bodies.len()))
 }

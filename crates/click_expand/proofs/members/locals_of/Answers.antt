@@ -1,6 +1,5 @@
 use Rattle.std.proofs.Common.{◌≡◌, ◌+◌, ◌∷◌, ◌++◌, [], length, drop, sym, ap, ◌∙◌, refl, rules}
-use Rattle.click_expand.specs.Located.{strings_made}
-use Rattle.click_expand.specs.Tables.{role_by, elements_of}
+use Rattle.click_expand.specs.Tables.{role_by}
 use Rattle.click_expand.proofs.Making.{with_left, made-more, made-other, made-all, kept-makes, strings_left, strings-makes, strings-other, strings-all}
 use Rattle.click_expand.proofs.members.locals_of.Goals as goal
 use Rattle.click_expand.proofs.members.locals_of.Goals.{in-Makes+in_ok-local+in_ok-push, in_default}

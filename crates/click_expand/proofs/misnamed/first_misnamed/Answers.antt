@@ -1,4 +1,4 @@
-use Rattle.std.proofs.Common.{◌≡◌, length, sym, ap, ◌∙◌, subst}
+use Rattle.std.proofs.Common.{length, sym, ap, ◌∙◌, subst}
 use Rattle.click_expand.specs.Misnamed.{IsWrongAt, IsWrongEntry}
 use Rattle.click_expand.specs.Wrongs.{IsLeast, IsMisnamed, first_of}
 use Rattle.click_expand.proofs.FirstNames.{first-misnamed}

@@ -1,4 +1,4 @@
-use Rattle.std.proofs.Common.{◌≡◌, length, refl, arith}
+use Rattle.std.proofs.Common.{length, arith}
 use Rattle.click_expand.proofs.Misnaming.{bodies-none, bodies-next, bodies-all}
 use Rattle.click_expand.proofs.misnamed.in_bodies.Goals as goal
 

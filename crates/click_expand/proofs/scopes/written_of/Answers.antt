@@ -1,8 +1,8 @@
-use Rattle.std.proofs.Common.{◌≡◌, ◌++◌, [], refl, sym, ap, ◌∙◌, subst}
+use Rattle.std.proofs.Common.{◌++◌, [], sym, ap, subst}
 use Rattle.std.proofs.lemmas.List.{append-nil}
 use Rattle.click_expand.specs.Scoped.{ports_in}
 use Rattle.click_expand.specs.Standing.{written_ports}
-use Rattle.click_expand.proofs.Keeping.{Kept, kept-first, kept-next, kept-all, kept-roots, more-more}
+use Rattle.click_expand.proofs.Keeping.{Kept, kept-first, kept-next, more-more}
 use Rattle.click_expand.proofs.Synonyms.{renamed-first, renamed-next, renamed-all, ports-next, ports-all}
 use Rattle.click_expand.proofs.scopes.written_of.Goals as goal
 
