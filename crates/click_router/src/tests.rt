@@ -3,6 +3,7 @@ use crate::opening::prepare;
 use crate::router::Router;
 use click_text::sequence::Sequence;
 use std::alloc::{AllocError, Global};
+use std::process::Abort;
 use std::test::Fail;
 
 /// The line of the text's fault, or `opens`.
@@ -14,9 +15,9 @@ fn told(alloc: Global, text: &str) -> Result<Vec<u8>, AllocError> {
 }
 
 /// Each text opens, or has the fault of that line.
-fn tell(rt: HostRuntime, rows: &[(&str, &str)]) -> Result<(), Fail> {
+fn tell(rt: &impl Abort, alloc: Global, rows: &[(&str, &str)]) -> Result<(), AllocError> {
     for (text, want) in rows {
-        let line = told(rt.alloc(), text)?;
+        let line = told(alloc, text)?;
         assert_eq!(rt; line.as_slice(), want.as_bytes(), "at {text}");
     }
     Ok(())
@@ -25,7 +26,8 @@ fn tell(rt: HostRuntime, rows: &[(&str, &str)]) -> Result<(), Fail> {
 #[test]
 fn opens(rt: HostRuntime) -> Result<(), Fail> {
     tell(
-        rt,
+        &rt,
+        rt.alloc(),
         &[
             ("", "opens"),
             ("Idle -> Counter -> Discard;", "opens"),
@@ -50,13 +52,15 @@ fn opens(rt: HostRuntime) -> Result<(), Fail> {
                 "opens",
             ),
         ],
-    )
+    )?;
+    Ok(())
 }
 
 #[test]
 fn tells_faults_of_texts(rt: HostRuntime) -> Result<(), Fail> {
     tell(
-        rt,
+        &rt,
+        rt.alloc(),
         &[
             ("Idle => Discard;", "1 BadByte at 1:6"),
             ("Counter(a", "3 UnclosedString at 1:8"),
@@ -91,13 +95,15 @@ fn tells_faults_of_texts(rt: HostRuntime) -> Result<(), Fail> {
                 "17 BrokenText in P@2/Strip@1",
             ),
         ],
-    )
+    )?;
+    Ok(())
 }
 
 #[test]
 fn tells_faults_of_elements(rt: HostRuntime) -> Result<(), Fail> {
     tell(
-        rt,
+        &rt,
+        rt.alloc(),
         &[
             ("Idle(1) -> Discard;", "21 ArgumentCount in Idle@1"),
             (
@@ -129,7 +135,8 @@ fn tells_faults_of_elements(rt: HostRuntime) -> Result<(), Fail> {
                 "34 Mixed at FromDevice@1 output 0",
             ),
         ],
-    )
+    )?;
+    Ok(())
 }
 
 /// What one read of the router of a text answers, as a line.
