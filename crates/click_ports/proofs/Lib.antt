@@ -3,3 +3,7 @@ pub mod Places
 pub mod Rows
 pub mod Crossing
 pub mod Searching
+pub mod Spreading
+pub mod Telling
+pub mod Lawfulness
+pub mod Resolved

@@ -1,5 +1,5 @@
 -- A search of a graph of ports, which knows of each port its code and the two rows of ports that it is linked with.
-use Rattle.std.specs.Prelude.{◌≡◌, ◌⊎◌, ℕ, ◌+◌, ◌<◌, ◌≤◌, List, [], length, Contains, slice_index_or, count_by, Bool, true, false, ◌==◌}
+use Rattle.std.specs.Prelude.{◌≡◌, ◌⊎◌, ℕ, ◌+◌, ◌<◌, ◌≤◌, List, [], ◌∷◌, length, Contains, slice_index_or, Bool, true, false, if◌then◌else◌}
 use Rattle.click_classes.specs.declared.ports.Code.{Code}
 use Rattle.click_classes.specs.declared.ports.Code.TheVariants.{Agnostic}
 
@@ -33,7 +33,8 @@ IsMarked marks x = slice_index_or marks x false ≡ true
 
 -- how many ports have no mark
 abbrev pub unmarked : List Bool → ℕ
-unmarked marks = count_by (λ m. m == false) marks
+unmarked [] = 0
+unmarked (m ∷ marks) = if m then unmarked marks else unmarked marks + 1
 
 -- what the marking of a row leaves
 pub record RowMarked (codes : List Code) (k : Code) (row : List ℕ) (marks : List Bool) (work : List ℕ) (marks' : List Bool) (work' : List ℕ) : Type 0 where

@@ -1,10 +1,10 @@
 //! Which ports are push and which are pull.
 
-ghost use Rattle.std.specs.Prelude.{◌≡◌, IfOk, map};
+ghost use Rattle.std.specs.Prelude.{length, IfOk};
 ghost use Rattle.click_classes.specs.declared.ports.Code.TheVariants.{Push, Pull};
 ghost use Rattle.click_ports.specs.Ends.{AreEnds};
-ghost use Rattle.click_ports.specs.Links.{code_at};
 ghost use Rattle.click_ports.specs.Marks.{AreMarks, AreCodes};
+ghost use Rattle.click_ports.specs.Wiring.{AreWithin};
 
 use crate::layout::Layout;
 use crate::passages::all_passages;
@@ -22,7 +22,8 @@ pub struct Kinds {
 
 /// The code of each port.
 fn codes_of(alloc: Global, layout: &Layout) -> Result<Vec<Code>, AllocError>
-    ensures { IfOk result (λ codes. AreCodes layout.now codes.items) }
+    ensures codes { IfOk result (λ codes. AreCodes layout.now codes.items) }
+    ensures within { AreWithin (length layout.now.shapes) layout.now.connections }
 {
     let mut codes = Vec::new(alloc);
     for port in layout.ports() {
@@ -41,10 +42,11 @@ pub fn kinds_of(
     ensures pushes { IfOk result (λ kinds. AreMarks layout.now Push kinds.pushes.items) }
     ensures pulls { IfOk result (λ kinds. AreMarks layout.now Pull kinds.pulls.items) }
 {
-    let codes = codes_of(alloc, layout)?;
-    let inside = all_passages(alloc, layout)?;
-    Ok(Kinds {
-        pushes: reaching(alloc, codes.as_slice(), ends, inside.as_slice(), Code::Push)?,
-        pulls: reaching(alloc, codes.as_slice(), ends, inside.as_slice(), Code::Pull)?,
-    })
+    let all_codes = codes_of(alloc, layout)?;
+    let all_inside = all_passages(alloc, layout)?;
+    let codes = all_codes.as_slice();
+    let inside = all_inside.as_slice();
+    let pushes = reaching(alloc, codes, ends, inside, Code::Push)?;
+    let pulls = reaching(alloc, codes, ends, inside, Code::Pull)?;
+    Ok(Kinds { pushes, pulls })
 }

@@ -1,6 +1,7 @@
 //! A lawful net.
 
-ghost use Rattle.std.specs.Prelude.{◌≡◌, ◌↔◌, ◌<◌, [], length, IfSome, IsSome, IsTrue, slice_index_or};
+ghost use Rattle.std.specs.Prelude.{◌≡◌, ◌↔◌, ◌<◌, ◌≤◌, [], length, IfSome, IsSome, IsTrue, slice_index_or};
+ghost use Rattle.click_ports.specs.Kept.{IsKept};
 ghost use Rattle.click_ports.specs.Kinds.{IsPull};
 ghost use Rattle.click_ports.specs.Net.{IsSound};
 ghost use Rattle.click_ports.specs.Ports as spec;

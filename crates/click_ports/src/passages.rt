@@ -24,14 +24,14 @@ fn opposite(side: Side) -> Side
 
 /// Which of so many ports of the other side may be passed to or from: those from the first number on, below the second.
 fn candidates(class: Class, number: u16, count: u16) -> (u16, u16)
-    requires { number < 256 }
     ensures within { result.1 ≤ count }
     ensures onward { (n : ℕ) → n < count → codes.passes class number n ≡ true → (result.0 ≤ n) × (n < result.1) }
     ensures back { (n : ℕ) → n < count → codes.passes class n number ≡ true → (result.0 ≤ n) × (n < result.1) }
 {
     match class {
         Class::Idle => (0, 0),
-        Class::Suppressor => (number, count.min(number + 1)),
+        Class::Suppressor if number < count => (number, number + 1),
+        Class::Suppressor => (0, 0),
         _ => (0, count),
     }
 }

@@ -1,6 +1,6 @@
 //! Which ports of a graph stand before a port of a code.
 
-ghost use Rattle.std.specs.Prelude.{◌≡◌, ◌↔◌, ℕ, ◌<◌, [], length, Contains, IfOk, OnOk, IsTrue, slice_index_or, true, false};
+ghost use Rattle.std.specs.Prelude.{◌≡◌, ◌↔◌, ◌⊎◌, ℕ, ◌<◌, [], length, Contains, IfOk, OnOk, IsTrue, slice_index_or, true, false};
 ghost use Rattle.click_classes.specs.declared.ports.Code.TheVariants.{Agnostic};
 ghost use Rattle.click_ports.specs.Search.{code_of, IsGraph, Spreads, RowMarked, AreMarked};
 
@@ -22,6 +22,13 @@ fn numbers_of(alloc: Global, codes: &[Code], code: Code) -> Result<Vec<usize>, A
     Ok(found)
 }
 
+/// Whether marks spread through a port of that code.
+fn is_open(its_code: Code, code: Code) -> bool
+    ensures { IsTrue result ↔ ((its_code ≡ code) ⊎ (its_code ≡ Agnostic)) }
+{
+    its_code == code || its_code == Code::Agnostic
+}
+
 /// Marks the ports of a row. Those that were not marked before and through which the marks spread, are left to be worked off.
 fn mark_row(
     row: &[usize],
@@ -37,8 +44,7 @@ fn mark_row(
     for port in row {
         if !marks[*port] {
             marks[*port] = true;
-            let its_code = codes[*port];
-            if its_code == code || its_code == Code::Agnostic {
+            if is_open(codes[*port], code) {
                 work.push(*port)?;
             }
         }
