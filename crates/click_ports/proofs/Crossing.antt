@@ -1,5 +1,5 @@
 -- The links inside an element, one number after another.
-use Rattle.std.proofs.Common.{◌≡◌, ◌≢◌, ◌⊎◌, inl, inr, ℕ, ◌+◌, ◌<◌, ◌≤◌, suc, zero, List, [], ◌∷◌, ◌++◌, length, get_or, take, Bool, true, false, refl, sym, ap, ◌∙◌, subst, arith, Contains}
+use Rattle.std.proofs.Common.{◌≡◌, inl, inr, ℕ, ◌+◌, ◌<◌, ◌≤◌, List, [], ◌∷◌, ◌++◌, length, get_or, true, refl, sym, ap, ◌∙◌, subst, arith, Contains}
 use Rattle.std.proofs.lemmas.List.{length_push, get_or_append_left, get_or_at}
 use Rattle.std.proofs.lemmas.Option.{slice_get-get_or}
 use Rattle.std.proofs.lemmas.List.Elements.{Contains-push, Contains-push_cases, Contains-append_left}
@@ -102,16 +102,16 @@ rows-none w = record { all = refl; right = λ p h l. absurd (omega (arith, l)) }
 -- what is read at a port's place in a list with one more
 pub read-more : {X : Type 0} (xs : List X) (x d : X) (n i : ℕ) (P : X → Type 0) → length xs ≡ n → i < n + 1 → (i < n → P (get_or xs i d)) → (i ≡ n → P x) → P (get_or (xs ++ x ∷ []) i d)
 read-more xs x d n i P l b old new = elim (cases_lt i n) [
-    | inl a ↦ subst P (sym (get_or_append_left xs (x ∷ []) d i (omega (arith, a, l)))) (old a)
-    | inr a ↦ (let here : i ≡ n = omega (arith, a, b) in subst P (sym (get_or_at xs x [] d i (l ∙ sym here))) (new here))
-  ]
+  | inl a ↦ subst P (sym (get_or_append_left xs (x ∷ []) d i (omega (arith, a, l)))) (old a)
+  | inr a ↦ (let here : i ≡ n = omega (arith, a, b) in subst P (sym (get_or_at xs x [] d i (l ∙ sym here))) (new here))
+]
 
 pub rows-more : (w : Wiring) (q : Port) (n : ℕ) (rows new : List (List ℕ)) (row : List ℕ) → Has w.connections q → number_of w.connections q ≡ n → IsRow w q row → new ≡ rows ++ row ∷ [] →
     AreRowsBelow w n rows → AreRowsBelow w (n + 1) new
 rows-more w q n rows new row h e r is k = subst (AreRowsBelow w (n + 1)) (sym is) (record {
   all = length_push rows row ∙ ap (λ x. x + 1) k.all;
   right = λ p g l. read-more rows row [] n (number_of w.connections p) (IsRow w p) k.all l (λ a. k.right p g a)
-    (λ a. subst (λ x. IsRow w x row) (number-same w.connections q p h g (e ∙ sym a)) r);
+      (λ a. subst (λ x. IsRow w x row) (number-same w.connections q p h g (e ∙ sym a)) r);
 })
 
 pub rows-all : (w : Wiring) (n : ℕ) (rows : List (List ℕ)) → AreWithin (length w.shapes) w.connections → n ≡ first w.connections (length w.shapes) → AreRowsBelow w n rows → AreRows w rows
@@ -133,7 +133,7 @@ pub codes-more : (w : Wiring) (q : Port) (n : ℕ) (codes new : List Code) (code
 codes-more w q n codes new code h e r is k = subst (AreCodesBelow w (n + 1)) (sym is) (record {
   all = length_push codes code ∙ ap (λ x. x + 1) k.all;
   right = λ p g l. read-more codes code Agnostic n (number_of w.connections p) (λ c. c ≡ code_at w.shapes p) k.all l (λ a. k.right p g a)
-    (λ a. r ∙ ap (code_at w.shapes) (number-same w.connections q p h g (e ∙ sym a)));
+      (λ a. r ∙ ap (code_at w.shapes) (number-same w.connections q p h g (e ∙ sym a)));
 })
 
 pub codes-all : (w : Wiring) (n : ℕ) (codes : List Code) → AreWithin (length w.shapes) w.connections → n ≡ first w.connections (length w.shapes) → AreCodesBelow w n codes → AreCodes w codes

@@ -1,9 +1,7 @@
 -- The laws of kinds and breaches.
-use Rattle.std.proofs.Common.{◌≡◌, ◌⊎◌, inl, inr, ℕ, ◌+◌, ◌<◌, ◌≤◌, suc, zero, List, [], ◌∷◌, ◌++◌, length, get_or, Bool, true, false, Some, refl, sym, ap, ◌∙◌, subst, arith, Contains}
+use Rattle.std.proofs.Common.{◌≡◌, ◌⊎◌, inl, inr, ℕ, ◌<◌, ◌≤◌, List, Bool, true, refl, sym, ap, ◌∙◌, subst, arith, Contains}
 use Rattle.std.specs.Prelude.{◌↔◌}
-use Rattle.std.specs.List.{slice_get}
-use Rattle.std.proofs.lemmas.Bool.{cases_order, cases_lt}
-use Rattle.std.proofs.lemmas.Option.{same_Some}
+use Rattle.std.proofs.lemmas.Bool.{cases_order}
 use Rattle.click_classes.specs.declared.ports.Code.{Code}
 use Rattle.click_classes.specs.declared.ports.Code.TheVariants.{Push, Pull, Agnostic}
 use Rattle.click_classes.specs.declared.ports.Side.{Side}
@@ -14,15 +12,15 @@ use Rattle.click_ports.specs.declared.fault.FaultKind.TheVariants as kind
 use Rattle.click_ports.specs.declared.fault.PortFault.{PortFault}
 use Rattle.click_ports.specs.declared.port.Port.{Port}
 use Rattle.click_ports.specs.declared.shape.Shape.{Shape}
-use Rattle.click_ports.specs.Ports.{used, past, end_of, Has, uses, input, output}
+use Rattle.click_ports.specs.Ports.{used, end_of, Has, input, output}
 use Rattle.click_ports.specs.Links.{code_at, IsAgnostic, IsFixed, Linked, along, against, through, back, Passes}
-use Rattle.click_ports.specs.Kinds.{Reaches, itself, linked, further, Meets, IsPull, IsPush, IsMixed, IsSingle}
+use Rattle.click_ports.specs.Kinds.{Reaches, itself, linked, further, IsPull, IsPush}
 use Rattle.click_ports.specs.Lawful.{Lawful}
-use Rattle.click_ports.specs.Breaches.{IsMiscounted, fault_at, count_fault, IsBreach, count, unused, mixed, twice, rank, side_rank, PortBefore, port_of, Before, IsFirstBreach}
+use Rattle.click_ports.specs.Breaches.{IsBreach, count, unused, mixed, twice, rank, side_rank, PortBefore, port_of, Before, IsFirstBreach}
 use Rattle.click_ports.proofs.Spreading.{linked-back, linked-has}
-use Rattle.click_ports.proofs.Telling.{counted-right, one-side}
+use Rattle.click_ports.proofs.Telling.{counted-right}
 use Rattle.click_ports.proofs.Places.{same_port}
-use Rattle.click_ports.proofs.Using.{has-end, reason, Reason}
+use Rattle.click_ports.proofs.Using.{has-end, reason}
 
 -- what two linked ports reach
 across-link : (ss : List Shape) (cs : List Connection) (p q : Port) (c : Code) → Lawful ss cs → Linked ss cs p q → code_at ss p ≡ c → IsPull ss cs p → IsPull ss cs q
@@ -89,17 +87,17 @@ module _ (ss : List Shape) (cs : List Connection) (ring : Port → Bool) (agnost
 -- of two breaches one stands before the other, or they are one
 three : (p q : Port) → PortBefore p q ⊎ (PortBefore q p ⊎ (p ≡ q))
 three p q = elim (cases_order p.element q.element) [
-    | inr (inl l) ↦ inl (inl l)
-    | inr (inr l) ↦ inr (inl (inl l))
-    | inl e ↦ sides p.side q.side refl refl e
-  ]
+  | inr (inl l) ↦ inl (inl l)
+  | inr (inr l) ↦ inr (inl (inl l))
+  | inl e ↦ sides p.side q.side refl refl e
+]
   where
     numbers : p.element ≡ q.element → p.side ≡ q.side → PortBefore p q ⊎ (PortBefore q p ⊎ (p ≡ q))
     numbers e s = elim (cases_order p.number q.number) [
-        | inl n ↦ inr (inr (same_port p q e s n))
-        | inr (inl l) ↦ inl (inr (e, inr (s, l)))
-        | inr (inr l) ↦ inr (inl (inr (sym e, inr (sym s, l))))
-      ]
+      | inl n ↦ inr (inr (same_port p q e s n))
+      | inr (inl l) ↦ inl (inr (e, inr (s, l)))
+      | inr (inr l) ↦ inr (inl (inr (sym e, inr (sym s, l))))
+    ]
 
     sides : (s t : Side) → p.side ≡ s → q.side ≡ t → p.element ≡ q.element → PortBefore p q ⊎ (PortBefore q p ⊎ (p ≡ q))
     sides Input Input a b e = numbers e (a ∙ sym b)
@@ -141,14 +139,14 @@ same_fault f g k p =
 
 compared : (f g : PortFault) → Before f g ⊎ (Before g f ⊎ (f ≡ g))
 compared f g = elim (cases_order (rank f.kind) (rank g.kind)) [
-    | inr (inl l) ↦ inl (inl l)
-    | inr (inr l) ↦ inr (inl (inl l))
-    | inl e ↦ (let k = same_kind f.kind g.kind e in elim (three (port_of f) (port_of g)) [
-        | inl l ↦ inl (inr (k, l))
-        | inr (inl l) ↦ inr (inl (inr (sym k, l)))
-        | inr (inr s) ↦ inr (inr (same_fault f g k s))
-      ])
-  ]
+  | inr (inl l) ↦ inl (inl l)
+  | inr (inr l) ↦ inr (inl (inl l))
+  | inl e ↦ (let k = same_kind f.kind g.kind e in elim (three (port_of f) (port_of g)) [
+    | inl l ↦ inl (inr (k, l))
+    | inr (inl l) ↦ inr (inl (inr (sym k, l)))
+    | inr (inr s) ↦ inr (inr (same_fault f g k s))
+  ])
+]
 
 pub one-first : (ss : List Shape) (cs : List Connection) (f g : PortFault) → IsFirstBreach ss cs f → IsFirstBreach ss cs g → f ≡ g
 one-first ss cs f g a b = elim (compared f g) [ inl l ↦ absurd (b.first f a.breach l) | inr (inl l) ↦ absurd (a.first g b.breach l) | inr (inr s) ↦ s ]

@@ -1,7 +1,7 @@
 -- The numbers of ports.
-use Rattle.std.proofs.Common.{◌≡◌, ◌≢◌, ◌⊎◌, inl, inr, ℕ, ◌+◌, ◌<◌, ◌≤◌, suc, zero, List, [], ◌∷◌, ◌++◌, length, get_or, Option, Some, None, refl, sym, ap, ◌∙◌, subst, arith, append_assoc, append-nil, add-zero}
+use Rattle.std.proofs.Common.{◌≡◌, ◌⊎◌, inl, inr, ℕ, ◌+◌, ◌<◌, ◌≤◌, suc, zero, List, [], ◌∷◌, ◌++◌, length, get_or, Some, refl, sym, ap, ◌∙◌, subst, arith, append_assoc, append-nil, add-zero}
 use Rattle.std.specs.List.{slice_get}
-use Rattle.std.proofs.lemmas.List.{length-append, length_push}
+use Rattle.std.proofs.lemmas.List.{length_push}
 use Rattle.std.proofs.lemmas.Option.{same_Some, none-some, slice_get_read}
 use Rattle.std.proofs.lemmas.Bool.{cases_order, cases_lt}
 use Rattle.click_classes.specs.declared.ports.Side.{Side}
@@ -26,9 +26,9 @@ push_get (a ∷ xs) y (suc x) q h = elim (push_get xs y x q h) [ inl e ↦ inl e
 
 pub place-push : (cs : List Connection) (ports : List Port) (p : Port) → InPlace cs ports → Has cs p → number_of cs p ≡ length ports → InPlace cs (ports ++ p ∷ [])
 place-push cs ports p k has is x q h = elim (push_get ports p x q h) [
-    | inl e ↦ k x q e
-    | inr e ↦ subst (λ (r : Port). Has cs r × (number_of cs r ≡ x)) (sym e.1) (has, is ∙ sym e.0)
-  ]
+  | inl e ↦ k x q e
+  | inr e ↦ subst (λ (r : Port). Has cs r × (number_of cs r ≡ x)) (sym e.1) (has, is ∙ sym e.0)
+]
 
 -- so many ports of a side, behind those that stand before them
 pub place-side : (cs : List Connection) (ports : List Port) (e : ℕ) (s : Side) (n : ℕ) → InPlace cs ports → length ports ≡ first cs e + ahead cs e s → n ≤ used cs e s →
@@ -87,9 +87,9 @@ numbered-made cs e i o f blocks made ports some all k p q m n is a b d =
 pub first-le : (cs : List Connection) (e n : ℕ) → e ≤ n → first cs e ≤ first cs n
 first-le cs e zero h = let q : e ≡ 0 = omega (arith, h) in subst (λ x. first cs x ≤ 0) (sym q) (omega arith)
 first-le cs e (suc n) h = elim (cases_lt e (suc n)) [
-    | inl l ↦ (let k : first cs e ≤ first cs n = first-le cs e n (omega (arith, l)) in omega (arith, k))
-    | inr l ↦ (let q : e ≡ suc n = omega (arith, h, l) in subst (λ x. first cs e ≤ first cs x) q (omega arith))
-  ]
+  | inl l ↦ (let k : first cs e ≤ first cs n = first-le cs e n (omega (arith, l)) in omega (arith, k))
+  | inr l ↦ (let q : e ≡ suc n = omega (arith, h, l) in subst (λ x. first cs e ≤ first cs x) q (omega arith))
+]
 
 number-ends : (cs : List Connection) (e : ℕ) (s : Side) (k : ℕ) → k < used cs e s → first cs e + ahead cs e s + k < first cs (suc e)
 number-ends cs e Input k h = omega (arith, h)
@@ -120,13 +120,13 @@ same_port p q a b d =
 -- ports of one number are one
 pub number-same : (cs : List Connection) (p q : Port) → Has cs p → Has cs q → number_of cs p ≡ number_of cs q → p ≡ q
 number-same cs p q h k same = elim (cases_order p.element q.element) [
-    | inl e ↦ (
-        let k' : q.number < used cs p.element q.side = subst (λ x. q.number < used cs x q.side) (sym e) k in
-        let r = same_in cs p.element p.side q.side p.number q.number h k' (same ∙ ap (λ x. first cs x + ahead cs x q.side + q.number) (sym e)) in
-        same_port p q e r.0 r.1)
-    | inr (inl l) ↦ (let a : number_of cs p < number_of cs q = number-apart cs p q h l in absurd (omega (arith, a, same)))
-    | inr (inr l) ↦ (let a : number_of cs q < number_of cs p = number-apart cs q p k l in absurd (omega (arith, a, same)))
-  ]
+  | inl e ↦ (
+      let k' : q.number < used cs p.element q.side = subst (λ x. q.number < used cs x q.side) (sym e) k in
+      let r = same_in cs p.element p.side q.side p.number q.number h k' (same ∙ ap (λ x. first cs x + ahead cs x q.side + q.number) (sym e)) in
+      same_port p q e r.0 r.1)
+  | inr (inl l) ↦ (let a : number_of cs p < number_of cs q = number-apart cs p q h l in absurd (omega (arith, a, same)))
+  | inr (inr l) ↦ (let a : number_of cs q < number_of cs p = number-apart cs q p k l in absurd (omega (arith, a, same)))
+]
 
 side_before : (cs : List Connection) (e : ℕ) (s t : Side) (k l : ℕ) → k < used cs e s → side_rank s < side_rank t → first cs e + ahead cs e s + k < first cs e + ahead cs e t + l
 side_before cs e Input Output k l h r = omega (arith, h)

@@ -1,12 +1,11 @@
 -- The net that is found.
-use Rattle.std.proofs.Common.{◌≡◌, ◌⊎◌, inl, inr, ℕ, ◌+◌, ◌<◌, ◌≤◌, List, [], ◌∷◌, length, get_or, map, Bool, true, false, ◌&&◌, Some, refl, sym, ap, ◌∙◌, subst, arith, All}
+use Rattle.std.proofs.Common.{◌≡◌, ◌⊎◌, inl, inr, ℕ, ◌<◌, ◌≤◌, List, length, get_or, map, Bool, true, false, ◌&&◌, Some, refl, sym, ap, ◌∙◌, subst, arith}
 use Rattle.std.specs.Prelude.{filter, nat_lt, ◌↔◌}
 use Rattle.std.proofs.lemmas.List.{length-map}
 use Rattle.std.proofs.lemmas.List.Elements.{filter_passes, All-weaker}
 use Rattle.std.proofs.lemmas.Bool.Decides.{nat_tests}
 use Rattle.click_classes.specs.declared.state.State.{State}
 use Rattle.click_classes.specs.declared.ports.Code.TheVariants.{Pull}
-use Rattle.click_classes.specs.declared.ports.Side.{Side}
 use Rattle.click_classes.specs.Classes.{class_of}
 use Rattle.click_classes.specs.State.{class}
 use Rattle.click_expand.specs.declared.flat.FlatElement.{FlatElement}
@@ -20,9 +19,8 @@ use Rattle.click_ports.specs.Kept.{IsKept}
 use Rattle.click_ports.specs.Kinds.{IsPull}
 use Rattle.click_ports.specs.Lawful.{Lawful, AllCounted, AllConnected, NoneMixed, AllSingle}
 use Rattle.click_ports.specs.Marks.{AreMarks}
-use Rattle.click_ports.specs.Net.{Net, shape_of, is_there, joined, names_of, AreStatesOf, IsSound}
+use Rattle.click_ports.specs.Net.{Net, shape_of, is_there, joined, names_of, AreStatesOf}
 use Rattle.click_ports.specs.Ports.{Has, used}
-use Rattle.click_ports.specs.Search.{IsMarked}
 use Rattle.click_ports.specs.Wiring.{Wiring, AreWithin, number_of}
 use Rattle.click_ports.proofs.Lawfulness.{lawful-none}
 use Rattle.click_ports.proofs.Telling.{mark-read}
@@ -44,7 +42,7 @@ joined-within es states cs kept shapes n h p q r =
     subst (λ m. AreWithin m kept) same
     (subst (AreWithin n) (sym r)
     (All-weaker (λ c. is_there n c ≡ true) (λ (c : Connection). (c.from < n) × (c.to < n)) (λ c t. there_by c.from c.to n (nat_lt c.from n) (nat_lt c.to n) refl refl t)
-      (filter (is_there n) cs) (filter_passes (is_there n) cs)))
+    (filter (is_there n) cs) (filter_passes (is_there n) cs)))
 
 -- a layout of the shapes and connections of a flat form
 pub record IsOf (f : Flat) (states : List State) (w : Wiring) : Type 0 where

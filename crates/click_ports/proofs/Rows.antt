@@ -1,16 +1,15 @@
 -- The other ends of connections, row by row.
-use Rattle.std.proofs.Common.{◌≡◌, ◌≢◌, ◌⊎◌, inl, inr, ℕ, ◌+◌, ◌<◌, ◌≤◌, suc, zero, List, [], ◌∷◌, ◌++◌, length, get_or, set, take, Bool, true, false, cond, ◌&&◌, refl, sym, ap, ◌∙◌, subst, arith, Contains}
+use Rattle.std.proofs.Common.{◌≡◌, ◌≢◌, ◌⊎◌, inl, inr, ℕ, ◌+◌, ◌<◌, suc, zero, List, [], ◌∷◌, ◌++◌, length, get_or, set, Bool, true, false, cond, ◌&&◌, refl, sym, ap, ◌∙◌, subst, arith, Contains}
 use Rattle.std.specs.Prelude.{nat_eq, replicate}
-use Rattle.std.proofs.lemmas.List.{get_or-set_same, get_or-set_other, length-set, append-nil, replicate-append-replicate, get_or-replicate, length-replicate}
+use Rattle.std.proofs.lemmas.List.{get_or-set_same, get_or-set_other, length-set, append-nil, replicate-append-replicate, length-replicate}
 use Rattle.std.proofs.lemmas.Bool.{cases_eq}
 use Rattle.std.proofs.lemmas.Bool.Decides.{nat_tests}
 use Rattle.click_classes.specs.declared.ports.Side.{Side}
 use Rattle.click_classes.specs.declared.ports.Side.TheVariants.{Input, Output}
 use Rattle.click_expand.specs.declared.flat.Connection.{Connection}
 use Rattle.click_ports.specs.declared.port.Port.{Port}
-use Rattle.click_ports.specs.Ports.{used, end_of, joins, Has, input, output}
-use Rattle.click_ports.specs.Passages.{opposite}
-use Rattle.click_ports.specs.Ends.{far_end, far_ends, AreEnds}
+use Rattle.click_ports.specs.Ports.{end_of, joins, Has, input, output}
+use Rattle.click_ports.specs.Ends.{far_end, far_ends}
 use Rattle.click_ports.specs.Wiring.{Wiring, first, number_of}
 use Rattle.std.proofs.lemmas.List.Elements.{Contains-get_or}
 use Rattle.click_ports.proofs.Places.{number-same, same_port}
@@ -75,15 +74,14 @@ sides_differ c h = let e : Output ≡ Input = ap (λ (p : Port). p.side) h in cc
 
 side_or_not : (s : Side) (e n f m : ℕ) (a : (e ≡ f) ⊎ (e ≡ f → ⊥)) (b : (n ≡ m) ⊎ (n ≡ m → ⊥)) →
     ◌⊎◌ (◌≡◌ {A = Port} (record { element = e; side = s; number = n }) (record { element = f; side = s; number = m }))
-        (◌≡◌ {A = Port} (record { element = e; side = s; number = n }) (record { element = f; side = s; number = m }) → ⊥)
+    (◌≡◌ {A = Port} (record { element = e; side = s; number = n }) (record { element = f; side = s; number = m }) → ⊥)
 side_or_not s e n f m (inl a) (inl b) = inl (same_port (record { element = e; side = s; number = n }) (record { element = f; side = s; number = m }) a refl b)
 side_or_not s e n f m (inr a) b = inr (λ h. a (ap (λ (p : Port). p.element) h))
 side_or_not s e n f m (inl a) (inr b) = inr (λ h. b (ap (λ (p : Port). p.number) h))
 
 module _ (cs some : List Connection) (c : Connection) (rows rows1 rows2 : List (List ℕ)) (x y : ℕ) (hx : Has cs (end_of Output c)) (hy : Has cs (end_of Input c))
-  (is_x : x ≡ number_of cs (end_of Output c)) (is_y : y ≡ number_of cs (end_of Input c)) (lx : x < length rows) (ly : y < length rows)
-  (one : rows1 ≡ set rows x (get_or rows x [] ++ y ∷ [])) (two : rows2 ≡ set rows1 y (get_or rows1 y [] ++ x ∷ [])) where
-
+    (is_x : x ≡ number_of cs (end_of Output c)) (is_y : y ≡ number_of cs (end_of Input c)) (lx : x < length rows) (ly : y < length rows)
+    (one : rows1 ≡ set rows x (get_or rows x [] ++ y ∷ [])) (two : rows2 ≡ set rows1 y (get_or rows1 y [] ++ x ∷ [])) where
   apart : x ≢ y
   apart h = sides_differ c (number-same cs (end_of Output c) (end_of Input c) hx hy (sym is_x ∙ h ∙ is_y))
 

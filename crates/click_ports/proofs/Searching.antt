@@ -1,7 +1,7 @@
 -- The marks of a search.
-use Rattle.std.proofs.Common.{◌≡◌, ◌≢◌, ◌⊎◌, inl, inr, ℕ, ◌+◌, ◌<◌, ◌≤◌, suc, zero, List, [], ◌∷◌, ◌++◌, length, get_or, set, take, Bool, true, false, cond, refl, sym, ap, ◌∙◌, subst, arith, Contains}
+use Rattle.std.proofs.Common.{◌≡◌, ◌⊎◌, inl, inr, ℕ, ◌+◌, ◌<◌, suc, zero, List, [], ◌∷◌, ◌++◌, length, get_or, set, Bool, true, false, cond, refl, sym, ap, ◌∙◌, subst, arith, Contains}
 use Rattle.std.specs.Prelude.{replicate}
-use Rattle.std.proofs.lemmas.List.{get_or-set_same, get_or-set_other, length-set, take_more, length_push, get_or_default, length-replicate}
+use Rattle.std.proofs.lemmas.List.{get_or-set_same, get_or-set_other, length-set, length_push, get_or_default, length-replicate}
 use Rattle.std.proofs.lemmas.List.Elements.{Contains-push, Contains-push_cases, Contains-append_left}
 use Rattle.std.proofs.lemmas.Bool.{cases_lt, cases_eq}
 use Rattle.click_classes.specs.declared.ports.Code.{Code}
@@ -52,15 +52,15 @@ one_less [] y l h = absurd (omega (arith, l))
 
 set-marks : (marks : List Bool) (y x : ℕ) → y < length marks → IsMarked (set marks y true) x → IsMarked marks x ⊎ (y ≡ x)
 set-marks marks y x l h = elim (cases_eq x y) [
-    | inl e ↦ inr (sym e)
-    | inr e ↦ inl (sym (get_or-set_other marks y x true false e) ∙ h)
-  ]
+  | inl e ↦ inr (sym e)
+  | inr e ↦ inl (sym (get_or-set_other marks y x true false e) ∙ h)
+]
 
 set-keeps : (marks : List Bool) (y x : ℕ) → y < length marks → IsMarked marks x → IsMarked (set marks y true) x
 set-keeps marks y x l h = elim (cases_eq x y) [
-    | inl e ↦ subst (λ z. get_or (set marks y true) z false ≡ true) (sym e) (get_or-set_same marks y true false l)
-    | inr e ↦ get_or-set_other marks y x true false e ∙ h
-  ]
+  | inl e ↦ subst (λ z. get_or (set marks y true) z false ≡ true) (sym e) (get_or-set_same marks y true false l)
+  | inr e ↦ get_or-set_other marks y x true false e ∙ h
+]
 
 -- the next of the row gets a mark, and is left to be worked off if it is open
 pub marked-new : (codes : List Code) (k : Code) (row : List ℕ) (y : ℕ) (marks marks' : List Bool) (work work' more : List ℕ) → RowMarked codes k row marks work marks' work' → y < length marks' →
@@ -207,24 +207,24 @@ module _ (codes : List Code) (outside inside : List (List ℕ)) (k : Code) where
         done = λ z h o. elim (r2.added z h o) [
           | inr a ↦ inl a
           | inl a ↦ elim (r1.added z a o) [
-              | inr b ↦ inl (r2.left z b)
-              | inl b ↦ elim (w.done z b o) [
-                  | inr d ↦ inr (λ y n. r2.kept y (r1.kept y (d y n)))
-                  | inl d ↦ elim (Contains-push_cases rest x z (subst (λ ws. Contains ws z) popped d)) [
-                      | inl e ↦ inl (r2.left z (r1.left z e))
-                      | inr e ↦ inr (subst (λ v. (y : ℕ) → IsNext outside inside v y → IsMarked marks2 y) e (λ y n. elim n [ inl i ↦ r2.kept y (r1.row_marked y i) | inr i ↦ r2.row_marked y i ]))
-                    ]
-                ]
+            | inr b ↦ inl (r2.left z b)
+            | inl b ↦ elim (w.done z b o) [
+              | inr d ↦ inr (λ y n. r2.kept y (r1.kept y (d y n)))
+              | inl d ↦ elim (Contains-push_cases rest x z (subst (λ ws. Contains ws z) popped d)) [
+                | inl e ↦ inl (r2.left z (r1.left z e))
+                | inr e ↦ inr (subst (λ v. (y : ℕ) → IsNext outside inside v y → IsMarked marks2 y) e (λ y n. elim n [ inl i ↦ r2.kept y (r1.row_marked y i) | inr i ↦ r2.row_marked y i ]))
+              ]
             ]
+          ]
         ];
       }
 
   all_marked : (marks : List Bool) (work : List ℕ) → work ≡ [] → IsUnderWay codes outside inside k marks work → (x : ℕ) → Spreads codes outside inside k x → IsMarked marks x
   all_marked marks work empty w z (begins x l e) = w.begun x l e
   all_marked marks work empty w z (goes_on x y s o n) = elim (w.done x (all_marked marks work empty w x s) o) [
-      | inl a ↦ absurd (contains_none x (subst (λ ws. Contains ws x) empty a))
-      | inr a ↦ a y n
-    ]
+    | inl a ↦ absurd (contains_none x (subst (λ ws. Contains ws x) empty a))
+    | inr a ↦ a y n
+  ]
 
   -- nothing is left
   pub way-end : (marks : List Bool) (work : List ℕ) → work ≡ [] → IsUnderWay codes outside inside k marks work → AreMarked codes outside inside k marks

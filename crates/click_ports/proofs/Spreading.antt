@@ -1,21 +1,21 @@
 -- The marks of a search are the kinds of the ports.
-use Rattle.std.proofs.Common.{◌≡◌, ◌≢◌, ◌⊎◌, inl, inr, ℕ, ◌+◌, ◌-◌, ◌<◌, ◌≤◌, suc, zero, List, [], ◌∷◌, ◌++◌, length, get_or, Bool, true, false, cond, refl, sym, ap, ◌∙◌, subst, arith, Contains}
+use Rattle.std.proofs.Common.{◌≡◌, ◌⊎◌, inl, inr, ℕ, ◌+◌, ◌-◌, ◌<◌, ◌≤◌, suc, zero, List, [], ◌∷◌, length, Bool, true, false, cond, refl, sym, ap, ◌∙◌, subst, arith, Contains}
 use Rattle.std.proofs.lemmas.List.{get_or_past}
 use Rattle.std.proofs.lemmas.Bool.{cases_lt}
 use Rattle.click_classes.specs.declared.ports.Code.{Code}
-use Rattle.click_classes.specs.declared.ports.Code.TheVariants.{Push, Pull, Agnostic}
+use Rattle.click_classes.specs.declared.ports.Code.TheVariants.{Agnostic}
 use Rattle.click_classes.specs.declared.ports.Side.{Side}
 use Rattle.click_classes.specs.declared.ports.Side.TheVariants.{Input, Output}
 use Rattle.click_expand.specs.declared.flat.Connection.{Connection}
 use Rattle.click_ports.specs.declared.port.Port.{Port}
 use Rattle.click_ports.specs.declared.shape.Shape.{Shape}
 use Rattle.click_ports.specs.Ports.{used, end_of, joins, Has, input, output}
-use Rattle.click_ports.specs.Links.{code_at, IsAgnostic, IsFixed, Linked, along, against, through, back}
+use Rattle.click_ports.specs.Links.{code_at, IsFixed, Linked, along, against, through, back}
 use Rattle.click_ports.specs.Kinds.{Reaches, itself, linked, further, Meets}
 use Rattle.click_ports.specs.Ends.{far_end, far_ends, AreEnds}
 use Rattle.click_ports.specs.Marks.{AreCodes, AreMarks}
-use Rattle.click_ports.specs.Passages.{opposite, across, Crosses, IsRow, AreRows}
-use Rattle.click_ports.specs.Search.{code_of, row_of, IsNext, IsGraph, IsOpen, Spreads, begins, goes_on, IsMarked, AreMarked}
+use Rattle.click_ports.specs.Passages.{opposite, across, Crosses, AreRows}
+use Rattle.click_ports.specs.Search.{code_of, row_of, IsNext, IsGraph, Spreads, begins, goes_on, AreMarked}
 use Rattle.click_ports.specs.Wiring.{Wiring, first, number_of, AreWithin}
 use Rattle.click_ports.proofs.Places.{number-same, number-within}
 use Rattle.click_ports.proofs.Rows.{joins-end, joins-is}
@@ -37,14 +37,16 @@ linked-has ss cs p q (back e i o h) = h.has_output
 pub number-onto : (cs : List Connection) (n x : ℕ) → x < first cs n → (p : Port) × Has cs p × (number_of cs p ≡ x)
 number-onto cs zero x h = absurd (omega (arith, h))
 number-onto cs (suc n) x h = elim (cases_lt x (first cs n)) [
-    | inl a ↦ number-onto cs n x a
-    | inr a ↦ elim (cases_lt (x - first cs n) (used cs n Input)) [
-        | inl b ↦ (input n (x - first cs n), b, (let e : first cs n + 0 + (x - first cs n) ≡ x = omega (arith, a) in e))
-        | inr b ↦ (output n (x - first cs n - used cs n Input),
-            (let l : x - first cs n - used cs n Input < used cs n Output = omega (arith, h, a, b) in l),
-            (let e : first cs n + used cs n Input + (x - first cs n - used cs n Input) ≡ x = omega (arith, a, b) in e))
-      ]
+  | inl a ↦ number-onto cs n x a
+  | inr a ↦ elim (cases_lt (x - first cs n) (used cs n Input)) [
+    | inl b ↦ (input n (x - first cs n), b, (let e : first cs n + 0 + (x - first cs n) ≡ x = omega (arith, a) in e))
+    | inr b ↦ (
+      output n (x - first cs n - used cs n Input),
+      (let l : x - first cs n - used cs n Input < used cs n Output = omega (arith, h, a, b) in l),
+      (let e : first cs n + used cs n Input + (x - first cs n - used cs n Input) ≡ x = omega (arith, a, b) in e),
+    )
   ]
+]
 
 -- a connection of the port by the number of its other end
 pub record FarEnd (cs some : List Connection) (p : Port) (y : ℕ) : Type 0 where
@@ -70,9 +72,9 @@ far_by : (cs : List Connection) (c : Connection) (some : List Connection) (p : P
     Contains (cond b (far_end cs p c ∷ far_ends cs some p) (far_ends cs some p)) y → FarEnd cs (c ∷ some) p y
 far_by cs c some p y false e f h = far-later cs c some p y (f h)
 far_by cs c some p y true e f h = elim (contains-cases (far_end cs p c) (far_ends cs some p) y h) [
-    | inl a ↦ record { by = c; there = contains-head c some; here = joins-is p c e; far = sym a }
-    | inr a ↦ far-later cs c some p y (f a)
-  ]
+  | inl a ↦ record { by = c; there = contains-head c some; here = joins-is p c e; far = sym a }
+  | inr a ↦ far-later cs c some p y (f a)
+]
 
 far-is : (cs some : List Connection) (p : Port) (y : ℕ) → Contains (far_ends cs some p) y → FarEnd cs some p y
 far-is cs [] p y (k, l, e) = absurd (omega (arith, l))
@@ -85,11 +87,11 @@ kept_by true n row y h = contains-tail n row y h
 far-has : (cs some : List Connection) (p : Port) (c : Connection) → Contains some c → p ≡ end_of p.side c → Contains (far_ends cs some p) (far_end cs p c)
 far-has cs [] p c (k, l, e) h = absurd (omega (arith, l))
 far-has cs (d ∷ some) p c k h = elim (contains-cases d some c k) [
-    | inl a ↦ (let t : joins p d ≡ true = ap (joins p) a ∙ joins-end p c h in
-        subst (λ x. Contains (cond (joins p d) (far_end cs p d ∷ far_ends cs some p) (far_ends cs some p)) (far_end cs p x)) a
-        (subst (λ b. Contains (cond b (far_end cs p d ∷ far_ends cs some p) (far_ends cs some p)) (far_end cs p d)) (sym t) (contains-head (far_end cs p d) (far_ends cs some p))))
-    | inr a ↦ kept_by (joins p d) (far_end cs p d) (far_ends cs some p) (far_end cs p c) (far-has cs some p c a h)
-  ]
+  | inl a ↦ (let t : joins p d ≡ true = ap (joins p) a ∙ joins-end p c h in
+      subst (λ x. Contains (cond (joins p d) (far_end cs p d ∷ far_ends cs some p) (far_ends cs some p)) (far_end cs p x)) a
+      (subst (λ b. Contains (cond b (far_end cs p d ∷ far_ends cs some p) (far_ends cs some p)) (far_end cs p d)) (sym t) (contains-head (far_end cs p d) (far_ends cs some p))))
+  | inr a ↦ kept_by (joins p d) (far_end cs p d) (far_ends cs some p) (far_end cs p c) (far-has cs some p c a h)
+]
 
 -- the port at the other end of a connection
 joined_port : (ss : List Shape) (cs : List Connection) (p : Port) (s : Side) (c : Connection) → Contains cs c → p ≡ end_of s c → Linked ss cs p (end_of (opposite s) c)
@@ -102,8 +104,7 @@ crossed_port ss cs e Input k n h = through e k n (record { has_input = h.here; h
 crossed_port ss cs e Output k n h = back e n k (record { has_input = h.there; has_output = h.here; agnostic_input = h.agnostic_there; agnostic_output = h.agnostic_here; inside = h.inside })
 
 module _ (w : Wiring) (codes : List Code) (ends inside : List (List ℕ)) (in_range : AreWithin (length w.shapes) w.connections)
-  (are_codes : AreCodes w codes) (are_ends : AreEnds w ends) (are_rows : AreRows w inside) where
-
+    (are_codes : AreCodes w codes) (are_ends : AreEnds w ends) (are_rows : AreRows w inside) where
   number_in : (p : Port) → Has w.connections p → number_of w.connections p < length codes
   number_in p h =
       let b = number-within w.connections (length w.shapes) p h (has-within (length w.shapes) w.connections p in_range h) in
@@ -135,15 +136,15 @@ module _ (w : Wiring) (codes : List Code) (ends inside : List (List ℕ)) (in_ra
   -- the rows are those of a graph
   next_in : (x y : ℕ) → IsNext ends inside x y → y < length codes
   next_in x y n = elim (cases_lt x (length codes)) [
-      | inl l ↦ (
-          let p = number-onto w.connections (length w.shapes) x (omega (arith, l, are_codes.all)) in
-          let q = next_port p.0 y p.1 (subst (λ z. IsNext ends inside z y) (sym p.2) n) in
-          subst (λ z. z < length codes) q.2 (number_in q.0 q.1))
-      | inr l ↦ elim n [
-          | inl k ↦ absurd (empty_past ends x y (omega (arith, l, are_codes.all, are_ends.all)) k)
-          | inr k ↦ absurd (empty_past inside x y (omega (arith, l, are_codes.all, are_rows.all)) k)
-        ]
+    | inl l ↦ (
+        let p = number-onto w.connections (length w.shapes) x (omega (arith, l, are_codes.all)) in
+        let q = next_port p.0 y p.1 (subst (λ z. IsNext ends inside z y) (sym p.2) n) in
+        subst (λ z. z < length codes) q.2 (number_in q.0 q.1))
+    | inr l ↦ elim n [
+      | inl k ↦ absurd (empty_past ends x y (omega (arith, l, are_codes.all, are_ends.all)) k)
+      | inr k ↦ absurd (empty_past inside x y (omega (arith, l, are_codes.all, are_rows.all)) k)
     ]
+  ]
 
   pub ports-graph : IsGraph (length codes) ends inside
   ports-graph = record { all_outside = are_ends.all ∙ sym are_codes.all; all_inside = are_rows.all ∙ sym are_codes.all; within = next_in }

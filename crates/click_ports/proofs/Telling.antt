@@ -1,30 +1,27 @@
 -- Which breach is the first.
-use Rattle.std.proofs.Common.{◌≡◌, ◌≢◌, ◌⊎◌, inl, inr, ℕ, ◌+◌, ◌<◌, ◌≤◌, suc, zero, List, [], ◌∷◌, ◌++◌, length, get_or, take, Bool, true, false, Some, cond, refl, sym, ap, ◌∙◌, subst, arith, Contains}
+use Rattle.std.proofs.Common.{◌≡◌, inl, inr, ℕ, ◌+◌, ◌<◌, ◌≤◌, List, [], ◌∷◌, length, get_or, Bool, true, false, Some, cond, refl, sym, ap, ◌∙◌, subst, arith}
 use Rattle.std.specs.List.{slice_get}
-use Rattle.std.specs.Prelude.{not, count_by}
 use Rattle.std.proofs.lemmas.List.{get_or_default}
 use Rattle.std.proofs.lemmas.List.Recursion.{is_count_by}
-use Rattle.std.proofs.lemmas.Bool.{cases_order, cases_lt, cases_eq}
+use Rattle.std.proofs.lemmas.Bool.{cases_lt}
 use Rattle.std.proofs.lemmas.Option.{same_Some, slice_get_within}
 use Rattle.click_classes.specs.declared.ports.Counts.{Counts}
-use Rattle.click_classes.specs.declared.ports.Code.TheVariants.{Push, Pull, Agnostic}
+use Rattle.click_classes.specs.declared.ports.Code.TheVariants.{Pull}
 use Rattle.click_classes.specs.declared.ports.Side.{Side}
 use Rattle.click_classes.specs.declared.ports.Side.TheVariants.{Input, Output}
 use Rattle.click_expand.specs.declared.flat.Connection.{Connection}
-use Rattle.click_ports.specs.declared.fault.FaultKind.{FaultKind}
 use Rattle.click_ports.specs.declared.fault.FaultKind.TheVariants as kind
 use Rattle.click_ports.specs.declared.fault.PortFault.{PortFault}
 use Rattle.click_ports.specs.declared.port.Port.{Port}
 use Rattle.click_ports.specs.declared.shape.Shape.{Shape}
 use Rattle.click_ports.specs.Ports.{used, Has, uses, joins, input, output}
-use Rattle.click_ports.specs.Kinds.{IsPull, IsMixed, IsSingle, push_output, pull_input}
-use Rattle.click_ports.specs.Lawful.{Within, IsCounted, AllCounted, AllConnected, NoneMixed, AllSingle, Lawful}
-use Rattle.click_ports.specs.Breaches.{IsMiscounted, inputs_out, outputs_out, unequal, fault_at, count_fault, IsBreach, count, unused, mixed, twice, rank, side_rank, PortBefore, port_of, Before, IsFirstBreach}
+use Rattle.click_ports.specs.Kinds.{IsMixed, IsSingle, push_output, pull_input}
+use Rattle.click_ports.specs.Lawful.{IsCounted, AllCounted, AllConnected, NoneMixed, AllSingle}
+use Rattle.click_ports.specs.Breaches.{IsMiscounted, inputs_out, outputs_out, unequal, fault_at, count_fault, IsBreach, count, unused, mixed, twice, side_rank, PortBefore, Before, IsFirstBreach}
 use Rattle.click_ports.specs.Ends.{far_end, far_ends, AreEnds}
 use Rattle.click_ports.specs.Marks.{AreMarks, is_single}
-use Rattle.click_ports.specs.Search.{IsMarked}
 use Rattle.click_ports.specs.Wiring.{Wiring, first, number_of, AreWithin}
-use Rattle.click_ports.proofs.Places.{same_port, number-before, number-same, number-within}
+use Rattle.click_ports.proofs.Places.{number-before, number-same, number-within}
 use Rattle.click_ports.proofs.Using.{has-within}
 
 -- allowed numbers are not told
@@ -62,7 +59,7 @@ first-count ss cs e shape s h m front = record { breach = count e shape s h m; f
         let t' : slice_get ss e ≡ Some t = subst (λ x. slice_get ss x ≡ Some t) b k in
         let same : t ≡ shape = same_Some t shape (sym t' ∙ h) in
         let n' : IsMiscounted shape.counts (used cs e Input) (used cs e Output) u =
-            subst (λ (x : Shape). IsMiscounted x.counts (used cs e Input) (used cs e Output) u) same (subst (λ x. IsMiscounted t.counts (used cs x Input) (used cs x Output) u) b n) in
+        subst (λ (x : Shape). IsMiscounted x.counts (used cs e Input) (used cs e Output) u) same (subst (λ x. IsMiscounted t.counts (used cs x Input) (used cs x Output) u) b n) in
         let side : u ≡ s = one-side shape.counts (used cs e Input) (used cs e Output) u s n' m in
         elim l [
           | inl r ↦ (let q : side_rank u ≡ side_rank s = ap side_rank side in omega (arith, r, q))
@@ -82,13 +79,13 @@ CountedBelow ss cs e = (d : ℕ) (t : Shape) → d < e → slice_get ss d ≡ So
 pub counted-next : (ss : List Shape) (cs : List Connection) (e i o : ℕ) (shape : Shape) → slice_get ss e ≡ Some shape → i ≡ used cs e Input → o ≡ used cs e Output → IsCounted shape.counts i o →
     CountedBelow ss cs e → CountedBelow ss cs (e + 1)
 counted-next ss cs e i o shape h p q k front d t l g = elim (cases_lt d e) [
-    | inl b ↦ front d t b g
-    | inr b ↦ (
-        let here : d ≡ e = omega (arith, l, b) in
-        let same : shape ≡ t = same_Some shape t (sym h ∙ subst (λ x. slice_get ss x ≡ Some t) here g) in
-        let made : IsCounted shape.counts (used cs e Input) (used cs e Output) = subst (λ y. IsCounted shape.counts (used cs e Input) y) q (subst (λ x. IsCounted shape.counts x o) p k) in
-        subst (λ (x : Shape). IsCounted x.counts (used cs d Input) (used cs d Output)) same (subst (λ x. IsCounted shape.counts (used cs x Input) (used cs x Output)) (sym here) made))
-  ]
+  | inl b ↦ front d t b g
+  | inr b ↦ (
+      let here : d ≡ e = omega (arith, l, b) in
+      let same : shape ≡ t = same_Some shape t (sym h ∙ subst (λ x. slice_get ss x ≡ Some t) here g) in
+      let made : IsCounted shape.counts (used cs e Input) (used cs e Output) = subst (λ y. IsCounted shape.counts (used cs e Input) y) q (subst (λ x. IsCounted shape.counts x o) p k) in
+      subst (λ (x : Shape). IsCounted x.counts (used cs d Input) (used cs d Output)) same (subst (λ x. IsCounted shape.counts (used cs x Input) (used cs x Output)) (sym here) made))
+]
 
 pub counted-all : (ss : List Shape) (cs : List Connection) (e : ℕ) → length ss ≤ e → CountedBelow ss cs e → AllCounted ss cs
 counted-all ss cs e l front d t g = front d t (let b = slice_get_within ss d t g in omega (arith, b, l)) g
@@ -97,7 +94,7 @@ pub count-told : (ss : List Shape) (cs : List Connection) (e i o n : ℕ) (shape
     IsMiscounted shape.counts i o s → CountedBelow ss cs e → IsFirstBreach ss cs (record { kind = kind.Count; element = e; side = s; number = n })
 count-told ss cs e i o n shape s h p q r m front =
     let m' : IsMiscounted shape.counts (used cs e Input) (used cs e Output) s =
-        subst (λ y. IsMiscounted shape.counts (used cs e Input) y s) q (subst (λ x. IsMiscounted shape.counts x o s) p m) in
+    subst (λ y. IsMiscounted shape.counts (used cs e Input) y s) q (subst (λ x. IsMiscounted shape.counts x o s) p m) in
     subst (λ x. IsFirstBreach ss cs (record { kind = kind.Count; element = e; side = s; number = x })) (sym r) (first-count ss cs e shape s h m' front)
 
 module _ (ss : List Shape) (cs : List Connection) (counted : AllCounted ss cs) where
@@ -148,9 +145,9 @@ module _ (ss : List Shape) (cs : List Connection) (counted : AllCounted ss cs) w
     -- a port that is not connected twice is connected once
     pub all-single : ((q : Port) → Has cs q → IsSingle ss cs q → 1 < uses cs q → ⊥) → AllSingle ss cs
     all-single h p k s = elim (cases_lt 1 (uses cs p)) [
-        | inl l ↦ absurd (h p k s l)
-        | inr l ↦ (let c = connected p k in omega (arith, l, c))
-      ]
+      | inl l ↦ absurd (h p k s l)
+      | inr l ↦ (let c = connected p k in omega (arith, l, c))
+    ]
 
 length_by : (b : Bool) (n : ℕ) (row : List ℕ) → length (cond b (n ∷ row) row) ≡ cond b (1 + length row) (length row)
 length_by true n row = omega arith
@@ -163,9 +160,9 @@ length-far_ends cs p = is_count_by (λ some. length (far_ends cs some p)) (joins
 -- what holds of the port at a place and of those below it, holds of those below the next
 pub next-port : (cs : List Connection) (p : Port) (n : ℕ) (P : Port → Type 0) → Has cs p → number_of cs p ≡ n → P p → ((q : Port) → Has cs q → number_of cs q < n → P q) → (q : Port) → Has cs q → number_of cs q < n + 1 → P q
 next-port cs p n P h e here front q k l = elim (cases_lt (number_of cs q) n) [
-    | inl b ↦ front q k b
-    | inr b ↦ subst P (number-same cs p q h k (let s : number_of cs q ≡ n = omega (arith, l, b) in e ∙ sym s)) here
-  ]
+  | inl b ↦ front q k b
+  | inr b ↦ subst P (number-same cs p q h k (let s : number_of cs q ≡ n = omega (arith, l, b) in e ∙ sym s)) here
+]
 
 pub all-ports : (w : Wiring) (n : ℕ) (P : Port → Type 0) → AreWithin (length w.shapes) w.connections → first w.connections (length w.shapes) ≤ n → ((q : Port) → Has w.connections q → number_of w.connections q < n → P q) →
     (q : Port) → Has w.connections q → P q

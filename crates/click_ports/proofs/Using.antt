@@ -1,5 +1,5 @@
 -- How many ports are used, by the connections.
-use Rattle.std.proofs.Common.{◌≡◌, ◌≢◌, ◌⊎◌, inl, inr, ℕ, ◌+◌, ◌<◌, ◌≤◌, max, suc, zero, List, [], ◌∷◌, ◌++◌, length, get_or, set, take, Bool, true, false, cond, refl, sym, ap, ◌∙◌, subst, All, Contains, arith}
+use Rattle.std.proofs.Common.{◌≡◌, ◌≢◌, ◌⊎◌, inl, inr, ℕ, ◌+◌, ◌<◌, ◌≤◌, max, suc, List, [], ◌∷◌, ◌++◌, length, get_or, set, Bool, true, false, cond, refl, sym, ap, ◌∙◌, subst, Contains, arith}
 use Rattle.std.specs.Prelude.{nat_eq}
 use Rattle.std.proofs.lemmas.List.Recursion.{max_bounds, max_push}
 use Rattle.std.proofs.lemmas.List.{get_or-set_same, get_or-set_other, length-set}
@@ -13,7 +13,6 @@ use Rattle.click_ports.specs.declared.port.Port.{Port}
 use Rattle.click_ports.specs.Ports.{end_of, past, used, Has}
 use Rattle.click_ports.specs.Used.{AreUsed}
 use Rattle.click_ports.specs.Wiring.{AreWithin}
-
 
 pub used-push : (cs : List Connection) (c : Connection) (e : ℕ) (s : Side) → used (cs ++ c ∷ []) e s ≡ max (used cs e s) (past e s c)
 used-push cs c e s = max_push (λ xs. used xs e s) (past e s) refl (λ _ _. refl) cs c

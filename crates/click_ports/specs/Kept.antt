@@ -1,5 +1,5 @@
 -- What a net keeps.
-use Rattle.std.specs.Prelude.{◌≡◌, ℕ, List, length, Bool}
+use Rattle.std.specs.Prelude.{ℕ, List, Bool}
 use Rattle.click_classes.specs.declared.ports.Code.TheVariants.{Pull}
 use Rattle.click_ports.specs.Marks.{AreMarks}
 use Rattle.click_ports.specs.Net.{IsSound}

@@ -1,5 +1,5 @@
 -- The codes and the kinds of all ports, as the code lists them.
-use Rattle.std.specs.Prelude.{◌≡◌, ◌↔◌, ℕ, List, length, Bool, not}
+use Rattle.std.specs.Prelude.{◌≡◌, ◌↔◌, List, length, Bool, not}
 use Rattle.click_classes.specs.declared.ports.Code.{Code}
 use Rattle.click_classes.specs.declared.ports.Side.{Side}
 use Rattle.click_classes.specs.declared.ports.Side.TheVariants.{Input, Output}

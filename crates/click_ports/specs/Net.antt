@@ -1,6 +1,5 @@
 -- What a contract sees of a net, and the net of a flat form and its elements' states.
-use Rattle.std.specs.Prelude.{◌≡◌, ℕ, ◌<◌, List, length, map, filter, All, Bool, ◌&&◌, nat_lt, Option, Some}
-use Rattle.click_classes.specs.declared.class.Class.{Class}
+use Rattle.std.specs.Prelude.{◌≡◌, ℕ, ◌<◌, List, length, map, filter, All, Bool, ◌&&◌, nat_lt, Some}
 use Rattle.click_classes.specs.declared.state.State.{State}
 use Rattle.click_classes.specs.Classes.{class_of}
 use Rattle.click_classes.specs.Counts.{counts}

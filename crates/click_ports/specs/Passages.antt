@@ -1,5 +1,5 @@
 -- The links inside an element, as the code lists them.
-use Rattle.std.specs.Prelude.{◌≡◌, ◌↔◌, ℕ, ◌<◌, List, [], length, slice_index_or, Contains, Bool, true}
+use Rattle.std.specs.Prelude.{◌≡◌, ℕ, List, [], length, slice_index_or, Contains, Bool, true}
 use Rattle.click_classes.specs.declared.class.Class.{Class}
 use Rattle.click_classes.specs.declared.ports.Side.{Side}
 use Rattle.click_classes.specs.declared.ports.Side.TheVariants.{Input, Output}

@@ -21,11 +21,7 @@ fn empty_rows(alloc: Global, count: usize) -> Result<Vec<Sequence<usize>>, Alloc
 }
 
 /// Adds a number at the end of a row.
-fn add_to(
-    rows: &mut Vec<Sequence<usize>>,
-    row: usize,
-    number: usize,
-) -> Result<(), AllocError>
+fn add_to(rows: &mut Vec<Sequence<usize>>, row: usize, number: usize) -> Result<(), AllocError>
     requires { row < vec_len rows.old }
     ensures { OnOk result (rows.new.items ≡ slice_set rows.old.items row (slice_index_or rows.old.items row [] ++ number ∷ [])) }
 {

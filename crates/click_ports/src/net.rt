@@ -36,11 +36,7 @@ impl Model for Net {
 
 impl Net {
     /// The net of these parts.
-    pub(crate) fn of(
-        called: Sequence<Sequence<u8>>,
-        layout: Layout,
-        pulling: Vec<bool>,
-    ) -> Net
+    pub(crate) fn of(called: Sequence<Sequence<u8>>, layout: Layout, pulling: Vec<bool>) -> Net
         requires { IsKept called layout pulling.items }
         ensures { result ≡ record { names = called; shapes = layout.shapes; connections = layout.connections } }
     {

@@ -14,6 +14,7 @@ use std::process::Abort;
 use std::test::Fail;
 
 const INPUT: Side = Side::Input;
+
 const OUTPUT: Side = Side::Output;
 
 /// The bytes as a list.
@@ -124,6 +125,7 @@ fn expect_kinds(
 }
 
 const PUSH: Option<bool> = Some(false);
+
 const PULL: Option<bool> = Some(true);
 
 /// `FromDevice(a) -> Null -> ToDevice(b);`

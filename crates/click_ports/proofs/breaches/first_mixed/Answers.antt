@@ -1,12 +1,9 @@
-use Rattle.std.proofs.Common.{◌≡◌, ℕ, ◌+◌, ◌<◌, ◌≤◌, List, length, get_or, Bool, true, false, refl, ap, ◌∙◌, sym, subst, arith}
-use Rattle.click_classes.specs.declared.ports.Code.TheVariants.{Push, Pull}
+use Rattle.std.proofs.Common.{◌≡◌, ◌<◌, length, get_or, true, false, ◌∙◌, sym, subst, arith}
 use Rattle.click_classes.specs.declared.ports.Side.TheVariants.{Input}
 use Rattle.click_ports.specs.declared.port.Port.{Port}
-use Rattle.click_ports.specs.Kinds.{Meets, IsMixed}
-use Rattle.click_ports.specs.Marks.{AreMarks}
+use Rattle.click_ports.specs.Kinds.{IsMixed}
 use Rattle.click_ports.specs.Breaches.{IsFirstBreach}
-use Rattle.click_ports.specs.Ports.{Has}
-use Rattle.click_ports.specs.Wiring.{Wiring, number_of, first}
+use Rattle.click_ports.specs.Wiring.{number_of, first}
 use Rattle.click_ports.proofs.Crossing.{read-place}
 use Rattle.click_ports.proofs.Telling.{first-mixed, next-port, all-ports, mark-read}
 use Rattle.click_ports.proofs.breaches.first_mixed.Goals as goal
@@ -38,11 +35,11 @@ loop-number-preserved c =
     let lp : n < length c.args.kinds.now.pushes.items = omega (arith, l, c.requires.pushes.all) in
     let lq : n < length c.args.kinds.now.pulls.items = omega (arith, l, c.requires.pulls.all) in
     let here : IsMixed w.shapes cs p → ⊥ = elim c.else-index.branch [
-        | else-index-via-then-index+else-index-2 v ↦ (λ m.
-            let t : false ≡ true = sym (mark-read c.args.kinds.now.pulls.items n (number_of cs p) v.index-then-index.result.now read.1 lq v.index-then-index.ensures ∙ v.if-index-2.false) ∙ (c.requires.pulls.right p read.0).1 m.1 in cc t)
-        | else-index-via-else-index v ↦ (λ m.
-            let t : false ≡ true = sym (mark-read c.args.kinds.now.pushes.items n (number_of cs p) c.index.result.now read.1 lp c.index.ensures ∙ v.if-index.false) ∙ (c.requires.pushes.right p read.0).1 m.0 in cc t)
-      ] in
+      | else-index-via-then-index+else-index-2 v ↦ (λ m.
+          let t : false ≡ true = sym (mark-read c.args.kinds.now.pulls.items n (number_of cs p) v.index-then-index.result.now read.1 lq v.index-then-index.ensures ∙ v.if-index-2.false) ∙ (c.requires.pulls.right p read.0).1 m.1 in cc t)
+      | else-index-via-else-index v ↦ (λ m.
+          let t : false ≡ true = sym (mark-read c.args.kinds.now.pushes.items n (number_of cs p) c.index.result.now read.1 lp c.index.ensures ∙ v.if-index.false) ∙ (c.requires.pushes.right p read.0).1 m.0 in cc t)
+    ] in
     next-port cs p n (λ q. IsMixed w.shapes cs q → ⊥) read.0 read.1 here c.loop-number.invariant
 
 pub returns : goal.returns

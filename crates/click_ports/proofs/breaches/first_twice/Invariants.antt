@@ -1,7 +1,7 @@
-use Rattle.std.proofs.Common.{ℕ, ◌<◌}
+use Rattle.std.proofs.Common.{◌<◌}
 use Rattle.click_ports.specs.declared.port.Port.{Port}
 use Rattle.click_ports.specs.Ports.{Has, uses}
-use Rattle.click_ports.specs.Kinds.{IsMixed, IsSingle}
+use Rattle.click_ports.specs.Kinds.{IsSingle}
 use Rattle.click_ports.specs.Wiring.{number_of}
 use Rattle.click_ports.proofs.breaches.first_twice.Given as goal
 

@@ -1,9 +1,9 @@
-use Rattle.std.proofs.Common.{◌≡◌, ℕ, ◌+◌, ◌<◌, ◌≤◌, List, length, get_or, Bool, true, false, refl, ap, ◌∙◌, sym, subst, arith}
+use Rattle.std.proofs.Common.{◌≡◌, ◌<◌, length, get_or, ◌∙◌, sym, subst, arith}
 use Rattle.click_classes.specs.declared.ports.Side.TheVariants.{Input}
 use Rattle.click_ports.specs.declared.port.Port.{Port}
 use Rattle.click_ports.specs.Breaches.{IsFirstBreach}
-use Rattle.click_ports.specs.Ports.{Has, uses}
-use Rattle.click_ports.specs.Wiring.{Wiring, number_of, first}
+use Rattle.click_ports.specs.Ports.{uses}
+use Rattle.click_ports.specs.Wiring.{number_of}
 use Rattle.click_ports.proofs.Crossing.{read-place}
 use Rattle.click_ports.proofs.Telling.{first-unused, next-port, all-ports, uses-read}
 use Rattle.click_ports.proofs.breaches.first_unused.Goals as goal

@@ -1,4 +1,4 @@
-use Rattle.std.proofs.Common.{◌≡◌, ℕ, ◌<◌, Some, false, true, refl}
+use Rattle.std.proofs.Common.{◌≡◌, false, true, refl}
 use Rattle.click_ports.specs.Breaches.{inputs_out, outputs_out, unequal}
 use Rattle.click_ports.proofs.counted.miscounted.Goals as goal
 

@@ -1,4 +1,4 @@
-use Rattle.std.proofs.Common.{◌≡◌, ℕ, List, ◌∷◌, ◌++◌, [], ap, ◌∙◌, sym}
+use Rattle.std.proofs.Common.{ℕ, List, ◌∷◌, ◌++◌, [], ap, ◌∙◌, sym}
 use Rattle.click_ports.proofs.Rows.{replicate-push}
 use Rattle.click_ports.proofs.ends.empty_rows.Goals as goal
 

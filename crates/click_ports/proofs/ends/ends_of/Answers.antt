@@ -1,10 +1,10 @@
-use Rattle.std.proofs.Common.{◌≡◌, ℕ, ◌+◌, ◌<◌, List, [], take, replicate, length, get_or, refl, sym, ap, ◌∙◌, subst, arith}
+use Rattle.std.proofs.Common.{◌≡◌, ℕ, ◌<◌, List, [], take, replicate, length, get_or, refl, sym, ap, ◌∙◌, subst, arith}
 use Rattle.std.proofs.lemmas.List.{take_more, take_all}
 use Rattle.click_classes.specs.declared.ports.Side.TheVariants.{Input, Output}
 use Rattle.click_expand.specs.declared.flat.Connection.{Connection}
 use Rattle.click_ports.specs.Ports.{end_of}
 use Rattle.click_ports.specs.Ends.{far_ends}
-use Rattle.click_ports.specs.Wiring.{number_of, first}
+use Rattle.click_ports.specs.Wiring.{number_of}
 use Rattle.click_ports.proofs.Rows.{AreEndsOf, ends-more, ends-none, end-has}
 use Rattle.click_ports.proofs.ends.ends_of.Goals as goal
 
@@ -37,10 +37,10 @@ loop-connection-preserved c =
     let x = c.number-from.result in let y = c.number-to.result in
     subst (λ part. AreEndsOf w part c.add_to-in-loop-connection.new.rows.items) (sym (take_more xs i blank lt))
     (ends-more w (take i xs) it c.loop-connection.rows.items c.add_to.new.rows.items c.add_to-in-loop-connection.new.rows.items x y
-      (end-has cs xs i blank Output (end_of Output it) same lt refl) (end-has cs xs i blank Input (end_of Input it) same lt refl)
-      (c.number-from.ensures.value ∙ ap (number_of cs) c.end_of-output.ensures.is) (c.number-to.ensures.value ∙ ap (number_of cs) c.end_of-input.ensures.is)
-      (omega (arith, c.number-from.ensures.within, known.all)) (omega (arith, c.number-to.ensures.within, known.all))
-      c.in_ok-add_to.ensures c.in_ok-add_to-2.ensures known)
+    (end-has cs xs i blank Output (end_of Output it) same lt refl) (end-has cs xs i blank Input (end_of Input it) same lt refl)
+    (c.number-from.ensures.value ∙ ap (number_of cs) c.end_of-output.ensures.is) (c.number-to.ensures.value ∙ ap (number_of cs) c.end_of-input.ensures.is)
+    (omega (arith, c.number-from.ensures.within, known.all)) (omega (arith, c.number-to.ensures.within, known.all))
+    c.in_ok-add_to.ensures c.in_ok-add_to-2.ensures known)
 
 pub returns : goal.returns
 returns c =

@@ -1,7 +1,7 @@
-use Rattle.std.proofs.Common.{◌≡◌, ℕ, length, refl, sym, ap, ◌∙◌, subst}
-use Rattle.click_ports.specs.declared.fault.PortFault.{PortFault}
+use Rattle.std.proofs.Common.{length, refl, sym, ap, ◌∙◌, subst}
+use Rattle.click_ports.specs.Net.{names_of}
 use Rattle.click_ports.specs.Wiring.{Wiring, AreWithin}
-use Rattle.click_ports.proofs.Resolved.{IsOf, laid-of, joined-within, refuted, told-of, kept-made}
+use Rattle.click_ports.proofs.Resolved.{IsOf, laid-of, joined-within, refuted, kept-made}
 use Rattle.click_ports.proofs.resolving.resolve.Goals as goal
 use Rattle.click_ports.proofs.resolving.resolve.Goals.{In_ok-layout}
 
@@ -9,12 +9,12 @@ use Rattle.click_ports.proofs.resolving.resolve.Goals.{In_ok-layout}
 laid : (c : In_ok-layout) → IsOf c.args.flat.now c.args.states.now c.in_ok-layout.layout
 laid c =
     laid-of c.args.flat.now c.args.states.now c.in_ok-layout.layout c.as_slice-elements.result.now c.as_slice.result.now c.in_ok-connections.connections.items c.in_ok-shapes_of.field-0.items
-      (length c.as_slice-elements.result.now) c.as_slice-elements.ensures c.as_slice.ensures refl c.in_ok-connections.ensures c.in_ok-shapes_of.ensures c.in_ok-layout.ensures
+    (length c.as_slice-elements.result.now) c.as_slice-elements.ensures c.as_slice.ensures refl c.in_ok-connections.ensures c.in_ok-shapes_of.ensures c.in_ok-layout.ensures
 
 pub of-requires : goal.of-requires
 of-requires c =
     joined-within c.args.flat.now.elements c.args.states.now c.as_slice.result.now c.in_ok-connections.connections.items c.in_ok-shapes_of.field-0.items (length c.as_slice-elements.result.now)
-      c.requires c.in_ok-shapes_of.ensures (ap length c.as_slice-elements.ensures) c.in_ok-connections.ensures
+    c.requires c.in_ok-shapes_of.ensures (ap length c.as_slice-elements.ensures) c.in_ok-connections.ensures
 
 pub returns-in-Some-clause-only : goal.returns-in-Some-clause-only
 returns-in-Some-clause-only c = λ k. absurd (refuted c.args.flat.now c.args.states.now c.in_ok-layout.layout c.in-Some.fault (laid ((goal.at.returns-in-Some-clause-only c).In_ok-layout)) c.in-Some.ensures k)
@@ -32,4 +32,11 @@ returns-in-Some-first_twice-clause-only c =
     λ k. absurd (refuted c.args.flat.now c.args.states.now c.in_ok-layout.layout c.in-Some-first_twice.fault (laid ((goal.at.returns-in-Some-first_twice-clause-only c).In_ok-layout)) c.in-Some-first_twice.ensures k)
 
 pub of-requires-2 : goal.of-requires-2
-of-requires-2 c = ?
+of-requires-2 c =
+    let o = laid ((goal.at.of-requires-2 c).In_ok-layout) in
+    let within : AreWithin (length c.in_ok-shapes_of.field-0.items) c.in_ok-connections.connections.items =
+    joined-within c.args.flat.now.elements c.args.states.now c.as_slice.result.now c.in_ok-connections.connections.items c.in_ok-shapes_of.field-0.items (length c.as_slice-elements.result.now)
+    c.requires c.in_ok-shapes_of.ensures (ap length c.as_slice-elements.ensures) c.in_ok-connections.ensures in
+    kept-made c.args.flat.now.elements c.args.states.now c.in_ok-names.names c.in_ok-layout.layout c.in_ok-kinds.kinds.pulls.items
+    c.requires (c.in_ok-names.ensures ∙ ap names_of c.as_slice-elements.ensures) o.shapes (subst (λ (w : Wiring). AreWithin (length w.shapes) w.connections) (sym c.in_ok-layout.ensures) within)
+    c.in_default.ensures c.in_default-first_unused.ensures c.in_default-first_mixed.ensures c.in_default-first_twice.ensures c.in_ok-kinds.ensures.pulls

@@ -1,11 +1,10 @@
-use Rattle.std.proofs.Common.{◌≡◌, ◌⊎◌, inl, inr, ℕ, ◌+◌, ◌<◌, List, [], ◌∷◌, ◌++◌, Bool, true, false, set, take, length, get_or, refl, sym, ap, ◌∙◌, subst, arith, Contains}
+use Rattle.std.proofs.Common.{◌≡◌, inl, inr, ℕ, ◌<◌, [], ◌∷◌, ◌++◌, Bool, true, false, take, length, get_or, refl, sym, ap, ◌∙◌, subst, arith}
 use Rattle.std.proofs.lemmas.List.{take_more, get_or_default}
 use Rattle.std.proofs.lemmas.List.Elements.{Contains-get_or}
-use Rattle.click_classes.specs.declared.ports.Code.{Code}
-use Rattle.click_classes.specs.declared.ports.Code.TheVariants.{Agnostic, Push}
+use Rattle.click_classes.specs.declared.ports.Code.TheVariants.{Push}
 use Rattle.std.specs.Prelude.{Vec}
 use Rattle.std.specs.Global.{Global}
-use Rattle.click_ports.specs.Search.{RowMarked, IsOpen, IsMarked}
+use Rattle.click_ports.specs.Search.{RowMarked}
 use Rattle.click_ports.proofs.Searching.{marked-old, marked-made, open-read, read-open}
 use Rattle.click_ports.proofs.search.mark_row.Goals as goal
 use Rattle.click_ports.proofs.search.mark_row.Goals.{then-not-index+then-is_open+in_ok-push, then-not-index+else-is_open, else-not-index}
@@ -36,12 +35,12 @@ loop-port-preserved c =
     (elim c.if-not-index.branch [
       | then-not-index+then-is_open+in_ok-push w ↦
           marked-made codes k (take i row) y c.args.marks.now.items marks c.if-not-index.marks.items c.args.work.now.items work c.if-not-index.work.items known in_marks
-            (sym read ∙ w.if-not-index.true) (ap (λ (v : Vec Bool Global). v.items) w.marks-is)
-            (inl (open-read codes k y Push within (w.if-is_open.ensures.0 refl), ap (λ (v : Vec ℕ Global). v.items) w.work-is ∙ w.in_ok-push.ensures.items))
+          (sym read ∙ w.if-not-index.true) (ap (λ (v : Vec Bool Global). v.items) w.marks-is)
+          (inl (open-read codes k y Push within (w.if-is_open.ensures.0 refl), ap (λ (v : Vec ℕ Global). v.items) w.work-is ∙ w.in_ok-push.ensures.items))
       | then-not-index+else-is_open w ↦
           marked-made codes k (take i row) y c.args.marks.now.items marks c.if-not-index.marks.items c.args.work.now.items work c.if-not-index.work.items known in_marks
-            (sym read ∙ w.if-not-index.true) (ap (λ (v : Vec Bool Global). v.items) w.marks-is)
-            (inr ((λ o. let t : false ≡ true = w.if-is_open.ensures.1 (read-open codes k y Push within o) in cc t), ap (λ (v : Vec ℕ Global). v.items) w.work-is))
+          (sym read ∙ w.if-not-index.true) (ap (λ (v : Vec Bool Global). v.items) w.marks-is)
+          (inr ((λ o. let t : false ≡ true = w.if-is_open.ensures.1 (read-open codes k y Push within o) in cc t), ap (λ (v : Vec ℕ Global). v.items) w.work-is))
       | else-not-index w ↦
           subst (λ ms. RowMarked codes k (take i row ++ y ∷ []) c.args.marks.now.items c.args.work.now.items ms c.if-not-index.work.items) (sym (ap (λ (v : Vec Bool Global). v.items) w.marks-is))
           (subst (λ ws. RowMarked codes k (take i row ++ y ∷ []) c.args.marks.now.items c.args.work.now.items marks ws) (sym (ap (λ (v : Vec ℕ Global). v.items) w.work-is))

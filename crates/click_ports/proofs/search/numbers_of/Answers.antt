@@ -1,10 +1,8 @@
-use Rattle.std.proofs.Common.{◌≡◌, ℕ, ◌+◌, ◌<◌, List, [], ◌∷◌, ◌++◌, Bool, true, false, length, get_or, refl, sym, ap, ◌∙◌, subst, arith, rules, Contains}
+use Rattle.std.proofs.Common.{◌≡◌, ℕ, ◌+◌, ◌<◌, length, get_or, sym, ap, ◌∙◌, subst, arith, rules}
 use Rattle.std.specs.Prelude.{Vec}
 use Rattle.std.specs.Global.{Global}
 use Rattle.std.proofs.lemmas.List.{get_or_default}
-use Rattle.click_classes.specs.declared.ports.Code.{Code}
 use Rattle.click_classes.specs.declared.ports.Code.TheVariants.{Agnostic, Push}
-use Rattle.click_ports.specs.Search.{code_of}
 use Rattle.click_ports.proofs.Searching.{AreNumbersBelow, numbers-none, numbers-more, numbers-same}
 use Rattle.click_ports.proofs.search.numbers_of.Goals as goal
 use Rattle.click_ports.proofs.search.numbers_of.Goals.{then-eq+in_ok-push, else-eq}
@@ -20,7 +18,7 @@ loop-port-preserved c =
       | then-eq+in_ok-push w ↦
           let is : get_or codes n Push ≡ k = search rules in
           numbers-more codes k n c.loop-port.found.items c.if-eq.found.items (get_or_default codes n Agnostic Push there ∙ is)
-            (ap (λ (v : Vec ℕ Global). v.items) w.found-is ∙ w.in_ok-push.ensures.items) c.loop-port.invariant
+          (ap (λ (v : Vec ℕ Global). v.items) w.found-is ∙ w.in_ok-push.ensures.items) c.loop-port.invariant
       | else-eq w ↦
           let is : get_or codes n Push ≡ k → ⊥ = search rules in
           subst (AreNumbersBelow codes k (n + 1)) (sym (ap (λ (v : Vec ℕ Global). v.items) w.found-is))

@@ -1,7 +1,6 @@
-use Rattle.std.proofs.Common.{◌≡◌, ◌⊎◌, inl, inr, ℕ, ◌+◌, ◌<◌, List, [], ◌∷◌, ◌++◌, Bool, true, false, length, get_or, refl, sym, ap, ◌∙◌, subst, arith, rules, Contains}
-use Rattle.std.specs.Prelude.{replicate}
-use Rattle.click_ports.specs.Search.{row_of, RowMarked}
-use Rattle.click_ports.proofs.Searching.{IsUnderWay, way-start, way-on, way-end, waits-within, none-left, row-within, row-read}
+use Rattle.std.proofs.Common.{inl, inr, ◌<◌, length, sym, ◌∙◌, subst, arith, rules, Contains}
+use Rattle.click_ports.specs.Search.{RowMarked}
+use Rattle.click_ports.proofs.Searching.{way-start, way-on, way-end, waits-within, none-left, row-within, row-read}
 use Rattle.click_ports.proofs.search.reaching.Goals as goal
 use Rattle.click_ports.proofs.search.reaching.Goals.{In-Some}
 
@@ -15,10 +14,10 @@ mark_row-requires-clause-within c = λ x h. (c.in_ok-starts.ensures.sound x (sub
 pub loop-port-init : goal.loop-port-init
 loop-port-init c =
     way-start c.args.codes.now c.args.outside.now c.args.inside.now c.args.code c.as_slice.result.now c.new-work.result.items c.mark_row.new.work.items c.in_ok-marks.marks.items c.mark_row.new.marks.items
-      (search rules) c.new-work.ensures.items
-      (λ x h. c.in_ok-starts.ensures.sound x (subst (λ xs. Contains xs x) c.as_slice.ensures.value h))
-      (λ x l e. subst (λ xs. Contains xs x) (sym c.as_slice.ensures.value) (c.in_ok-starts.ensures.complete x l e))
-      c.in_ok-mark_row.ensures
+    (search rules) c.new-work.ensures.items
+    (λ x h. c.in_ok-starts.ensures.sound x (subst (λ xs. Contains xs x) c.as_slice.ensures.value h))
+    (λ x l e. subst (λ xs. Contains xs x) (sym c.as_slice.ensures.value) (c.in_ok-starts.ensures.complete x l e))
+    c.in_ok-mark_row.ensures
 
 pub bounds-outside-port : goal.bounds-outside-port
 bounds-outside-port c = omega (arith, here c, c.requires.all_outside)
@@ -53,10 +52,10 @@ loop-port-preserved c =
     let first = row-read c.args.outside.now x c.index-outside-port.result c.as_slice-in-Some.result.now lo c.index-outside-port.is c.as_slice-in-Some.ensures in
     let second = row-read c.args.inside.now x c.index-inside-port.result c.as_slice-in-Some-2.result.now li c.index-inside-port.is c.as_slice-in-Some-2.ensures in
     way-on codes c.args.outside.now c.args.inside.now k x c.loop-port.marks.items c.mark_row-in-Some.new.marks.items c.mark_row-in-Some-2.new.marks.items
-      c.loop-port.work.items c.pop.new.self.items c.mark_row-in-Some.new.work.items c.mark_row-in-Some-2.new.work.items c.in-Some.ensures.items
-      (subst (λ row. RowMarked codes k row c.loop-port.marks.items c.pop.new.self.items c.mark_row-in-Some.new.marks.items c.mark_row-in-Some.new.work.items) first c.in_ok-mark_row-2.ensures)
-      (subst (λ row. RowMarked codes k row c.mark_row-in-Some.new.marks.items c.mark_row-in-Some.new.work.items c.mark_row-in-Some-2.new.marks.items c.mark_row-in-Some-2.new.work.items) second c.in_ok-mark_row-3.ensures)
-      c.loop-port.invariant
+    c.loop-port.work.items c.pop.new.self.items c.mark_row-in-Some.new.work.items c.mark_row-in-Some-2.new.work.items c.in-Some.ensures.items
+    (subst (λ row. RowMarked codes k row c.loop-port.marks.items c.pop.new.self.items c.mark_row-in-Some.new.marks.items c.mark_row-in-Some.new.work.items) first c.in_ok-mark_row-2.ensures)
+    (subst (λ row. RowMarked codes k row c.mark_row-in-Some.new.marks.items c.mark_row-in-Some.new.work.items c.mark_row-in-Some-2.new.marks.items c.mark_row-in-Some-2.new.work.items) second c.in_ok-mark_row-3.ensures)
+    c.loop-port.invariant
 
 pub returns : goal.returns
 returns c =

@@ -1,4 +1,4 @@
-use Rattle.std.proofs.Common.{◌≡◌, ℕ, ◌+◌, ◌∷◌, ◌++◌, [], ◌<◌, max, take, set, get_or, length, sym, ap, ◌∙◌, arith, subst}
+use Rattle.std.proofs.Common.{◌≡◌, ◌+◌, ◌<◌, max, take, set, get_or, length, sym, ap, ◌∙◌, arith, subst}
 use Rattle.std.proofs.lemmas.List.{take_more, get_or_default}
 use Rattle.click_expand.specs.declared.flat.Connection.{Connection}
 use Rattle.click_ports.specs.declared.port.Port.{Port}
@@ -19,11 +19,11 @@ loop-connection-preserved c =
     let there : port.element < c.args.elements = subst (λ (p : Port). p.element < c.args.elements) (sym is) at in
     let known = c.loop-connection.invariant in
     let read : c.index.result.now ≡ get_or counts port.element 0 =
-        c.index.ensures ∙ get_or_default counts port.element c.index.result.now 0 (omega (arith, there, known.all)) in
+    c.index.ensures ∙ get_or_default counts port.element c.index.result.now 0 (omega (arith, there, known.all)) in
     subst (λ xs. AreUsed xs c.args.elements s (set counts port.element c.max-count.result)) (sym (take_more cs i d lt))
     (used-more (take i cs) it s c.args.elements counts port.element c.max-count.result
-      (ap (λ (p : Port). p.element) is)
-      (c.max-count.ensures ∙ ap (λ n. max n (port.number + 1)) read ∙ ap (λ (p : Port). max (get_or counts port.element 0) (p.number + 1)) is)
-      there
-      (subst (λ (p : Port). p.number < 256) is c.end_of-port.ensures.small)
-      known)
+    (ap (λ (p : Port). p.element) is)
+    (c.max-count.ensures ∙ ap (λ n. max n (port.number + 1)) read ∙ ap (λ (p : Port). max (get_or counts port.element 0) (p.number + 1)) is)
+    there
+    (subst (λ (p : Port). p.number < 256) is c.end_of-port.ensures.small)
+    known)

@@ -1,5 +1,5 @@
-use Rattle.std.proofs.Common.{◌≡◌, ℕ, ◌+◌, ◌<◌, ◌^◌, length, sym, ap, ◌∙◌, subst, arith}
-use Rattle.click_ports.specs.Wiring.{number_of, first}
+use Rattle.std.proofs.Common.{◌≡◌, ◌+◌, ◌<◌, length, arith}
+use Rattle.click_ports.specs.Wiring.{number_of}
 use Rattle.click_ports.specs.LaidOut.{IsLaidOut}
 use Rattle.click_ports.proofs.Using.{has-within}
 use Rattle.click_ports.proofs.Places.{laid-seen, number-read}

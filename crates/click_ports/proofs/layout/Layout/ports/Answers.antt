@@ -1,4 +1,4 @@
-use Rattle.std.proofs.Common.{◌≡◌, sym, ap, ◌∙◌, subst, List}
+use Rattle.std.proofs.Common.{sym, subst, List}
 use Rattle.click_ports.specs.declared.port.Port.{Port}
 use Rattle.click_ports.specs.Wiring.{InPlace}
 use Rattle.click_ports.proofs.Places.{laid-seen}
