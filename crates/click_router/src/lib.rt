@@ -4,7 +4,6 @@
 pub mod call;
 pub mod fault;
 pub mod laws;
-mod names;
 pub mod opening;
 pub mod router;
 

@@ -1,0 +1,5 @@
+use Rattle.click_router.proofs.OneFault.{opened_has_no_fault}
+use Rattle.click_router.proofs.laws.opened_has_no_fault.Goals as goal
+
+pub returns : goal.returns
+returns c = opened_has_no_fault

@@ -1,0 +1,7 @@
+use Rattle.std.proofs.Common.{sym, subst}
+use Rattle.click_ports.specs.Net.{AreStatesOf}
+use Rattle.click_router.proofs.Begun.{states_of}
+use Rattle.click_router.proofs.opening.prepare_flat.Goals as goal
+
+pub resolve-requires : goal.resolve-requires
+resolve-requires c = rw c.as_slice-2.ensures.value (states_of c.args.flat.elements c.in_ok-states.states.items (rw (← c.as_slice.ensures) c.in_ok-states.ensures.fresh))
