@@ -2,10 +2,9 @@ use Rattle.std.proofs.Common.{refl, sym, ap, ◌∙◌, subst, inl, inr}
 use Rattle.std.proofs.lemmas.Result.{IfErr-weaker}
 use Rattle.click_text.specs.declared.syntax.Config.{Config}
 use Rattle.click_text.specs.Spelling.{too_large}
-use Rattle.click_router.specs.Opened.{OpensAs, of_text, IsFirstFault, IsMemoryOr}
-use Rattle.click_router.specs.Opened.IsFirstFault.{unreadable}
+use Rattle.click_router.specs.Opened.{OpensAs, of_text, IsFirstFault, unreadable, IsMemoryOr}
 use Rattle.click_router.specs.Refused.{IsConfigFault}
-use Rattle.click_router.proofs.Once.{given, first_fault}
+use Rattle.click_router.proofs.Opens.{given, first_fault}
 use Rattle.click_router.proofs.opening.prepare.Goals as goal
 
 pub returns-then-text-gt-LONGEST_TEXT-clause-err : goal.returns-then-text-gt-LONGEST_TEXT-clause-err
@@ -16,14 +15,14 @@ pub returns-in-Ok-clause-only : goal.returns-in-Ok-clause-only
 returns-in-Ok-clause-only c = λ s o.
     let config = c.in-Ok.config in
     let same = c.in-Ok.ensures.only o.config o.within o.spells in
-    given config c.prepare_config.result s c.prepare_config.ensures.opened c.prepare_config.ensures.err
+    given c.args.text.now config c.in-Ok.ensures.found c.prepare_config.result s c.prepare_config.ensures.opened c.prepare_config.ensures.err
     (subst (λ (x : Config). OpensAs x s.flat s.states) (sym same) o.opens) (o.copy ∙ sym c.in-Ok.ensures.found.copy)
 
 pub returns-in-Ok-clause-err : goal.returns-in-Ok-clause-err
 returns-in-Ok-clause-err c =
     let text = c.args.text.now in let config = c.in-Ok.config in
     IfErr-weaker c.prepare_config.result (λ f. IsMemoryOr f (IsConfigFault config f)) (λ f. IsMemoryOr f (IsFirstFault text f))
-    (λ f h. elim h [ inl m ↦ inl m | inr bad ↦ inr (first_fault text config f c.in-Ok.ensures.within c.in-Ok.ensures.found bad) ])
+    (λ f h. elim h [ inl m ↦ inl m | inr bad ↦ inr (first_fault text config c.in-Ok.ensures.found f c.in-Ok.ensures.within bad) ])
     c.prepare_config.ensures.err
 
 pub returns-in-Err-clause-only : goal.returns-in-Err-clause-only
