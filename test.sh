@@ -7,6 +7,7 @@ cd "$(dirname "$0")"
 (cd crates/click_bench && rt run < /dev/null > /dev/null)
 examples/run.sh
 tools/language_examples.sh
+tools/element_pages.sh
 tools/refuse_each.sh
 tools/refuse_parse.sh
 tools/refuse_make.sh

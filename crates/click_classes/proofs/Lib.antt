@@ -3,9 +3,9 @@ pub mod Groups
 pub mod Ring
 pub mod Tables
 pub mod Lists
+pub mod Names
 pub mod Clauses
 pub mod Given
-pub mod Makes
 pub mod OneReading
 pub mod OneState
 pub mod Bits

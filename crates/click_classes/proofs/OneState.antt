@@ -33,36 +33,11 @@ one_by_first true argument state_of r s (first, a, e) (other, b, f) = e ∙ ap s
 one_by_first false argument state_of r s e f = e ∙ sym f
 
 pub one_fresh : (c : Class) (args : List (List ℕ)) (r s : Result State ArgFault) → IsFresh c args r → IsFresh c args s → r ≡ s
-one_fresh class.Queue args r s a b = a ∙ sym b
-one_fresh class.FrontDropQueue args r s a b = a ∙ sym b
-one_fresh class.Unqueue args r s a b = a ∙ sym b
-one_fresh class.Counter args r s a b = a ∙ sym b
-one_fresh class.Switch args r s a b = a ∙ sym b
-one_fresh class.PullSwitch args r s a b = a ∙ sym b
-one_fresh class.RoundRobinSwitch args r s a b = a ∙ sym b
-one_fresh class.RoundRobinSched args r s a b = a ∙ sym b
-one_fresh class.PrioSched args r s a b = a ∙ sym b
-one_fresh class.Tee args r s a b = a ∙ sym b
-one_fresh class.PullTee args r s a b = a ∙ sym b
-one_fresh class.Idle args r s a b = a ∙ sym b
-one_fresh class.Discard args r s a b = a ∙ sym b
-one_fresh class.Null args r s a b = a ∙ sym b
-one_fresh class.PushNull args r s a b = a ∙ sym b
-one_fresh class.PullNull args r s a b = a ∙ sym b
-one_fresh class.Suppressor args r s a b = a ∙ sym b
-one_fresh class.Paint args r s a b = a ∙ sym b
-one_fresh class.PaintTee args r s a b = a ∙ sym b
-one_fresh class.Strip args r s a b = a ∙ sym b
-one_fresh class.CheckLength args r s a b = a ∙ sym b
 one_fresh class.Classifier args r s a b = one_by_words _ classifier args r s a b
-one_fresh class.GetIPAddress args r s a b = a ∙ sym b
 one_fresh class.StaticIPLookup args r s a b = one_by_words _ static_ip_lookup args r s a b
 one_fresh class.CheckIPHeader args r s a b = one_by_words _ check_ip_header args r s a b
-one_fresh class.DecIPTTL args r s a b = a ∙ sym b
-one_fresh class.EtherEncap args r s a b = a ∙ sym b
 one_fresh class.InfiniteSource args r s a b = one_by_first _ _ (λ first. infinite_source first args) r s a b
-one_fresh class.FromDevice args r s a b = a ∙ sym b
-one_fresh class.ToDevice args r s a b = a ∙ sym b
+one_fresh _ args r s a b = a ∙ sym b
 
 -- an element has one first state
 pub one_made : (c : Class) (text : List ℕ) (r s : Result State ArgFault) → IsMade c text r → IsMade c text s → r ≡ s

@@ -148,65 +148,23 @@ well_plain c t s args e f h = well c t s (taken _ (Ok t) s e) f h
 one_one : HasUse (ports 1 1 1 1)
 one_one = ranges 1 1 1 1 (omega arith) (omega arith)
 
+one_or_two : HasUse (ports 1 1 1 2)
+one_or_two = ranges 1 1 1 2 (omega arith) (omega arith)
+
+only_in : HasUse (ports 1 1 0 0)
+only_in = ranges 1 1 0 0 (omega arith) (omega arith)
+
+only_out : HasUse (ports 0 0 1 1)
+only_out = ranges 0 0 1 1 (omega arith) (omega arith)
+
 up_to : (n : Option ℕ) → HasUse (ports 1 1 (up_to_256 n).0 (up_to_256 n).1)
 up_to None = ranges 1 1 1 256 (omega arith) (omega arith)
 up_to (Some n) = ranges 1 1 n n (omega arith) (omega arith)
 
-well_queue : (args : List (List ℕ)) (s : State) → Ok s ≡ queue args → IsWell is.Queue s
-unfolding queue
-well_queue args s h = let a = both_ok (capacity args) _ s h in well is.Queue (state.Queue (empty a.0) 0 0) s a.2 refl one_one
-
-well_front_drop_queue : (args : List (List ℕ)) (s : State) → Ok s ≡ front_drop_queue args → IsWell is.FrontDropQueue s
-unfolding front_drop_queue
-well_front_drop_queue args s h = let a = both_ok (capacity args) _ s h in well is.FrontDropQueue (state.FrontDropQueue (empty a.0) 0 0) s a.2 refl one_one
-
-well_switch : (args : List (List ℕ)) (s : State) → Ok s ≡ switch args → IsWell is.Switch s
-unfolding switch
-well_switch args s h = let a = both_ok (port args) _ s h in well is.Switch (state.Switch a.0) s a.2 refl (ranges 1 1 (at_least a.0) 256 (omega arith) (port_bound args a.0 (sym a.1)))
-
-well_pull_switch : (args : List (List ℕ)) (s : State) → Ok s ≡ pull_switch args → IsWell is.PullSwitch s
-unfolding pull_switch
-well_pull_switch args s h = let a = both_ok (port args) _ s h in well is.PullSwitch (state.PullSwitch a.0) s a.2 refl (ranges (at_least a.0) 256 1 1 (port_bound args a.0 (sym a.1)) (omega arith))
-
-well_tee : (args : List (List ℕ)) (s : State) → Ok s ≡ tee args → IsWell is.Tee s
-unfolding tee
-well_tee args s h = let a = both_ok (copies args) _ s h in well is.Tee (state.Tee a.0) s a.2 refl (up_to a.0)
-
-well_pull_tee : (args : List (List ℕ)) (s : State) → Ok s ≡ pull_tee args → IsWell is.PullTee s
-unfolding pull_tee
-well_pull_tee args s h = let a = both_ok (copies args) _ s h in well is.PullTee (state.PullTee a.0) s a.2 refl (up_to a.0)
-
-well_paint : (args : List (List ℕ)) (s : State) → Ok s ≡ paint args → IsWell is.Paint s
-unfolding paint
-well_paint args s h = let a = both_ok (only_number 255 args) _ s h in well is.Paint (state.Paint a.0) s a.2 refl one_one
-
-well_paint_tee : (args : List (List ℕ)) (s : State) → Ok s ≡ paint_tee args → IsWell is.PaintTee s
-unfolding paint_tee
-well_paint_tee args s h = let a = both_ok (only_number 255 args) _ s h in well is.PaintTee (state.PaintTee a.0) s a.2 refl (ranges 1 1 1 2 (omega arith) (omega arith))
-
-well_strip : (args : List (List ℕ)) (s : State) → Ok s ≡ strip args → IsWell is.Strip s
-unfolding strip
-well_strip args s h = let a = both_ok (only_number 1600 args) _ s h in well is.Strip (state.Strip a.0) s a.2 refl one_one
-
-well_check_length : (args : List (List ℕ)) (s : State) → Ok s ≡ check_length args → IsWell is.CheckLength s
-unfolding check_length
-well_check_length args s h = let a = both_ok (only_number 65535 args) _ s h in well is.CheckLength (state.CheckLength a.0) s a.2 refl (ranges 1 1 1 2 (omega arith) (omega arith))
-
-well_classifier : (words : List (List (List ℕ))) (s : State) → Ok s ≡ classifier words → IsWell is.Classifier s
-unfolding classifier
-well_classifier words s h = let a = both_ok (each pattern words) _ s h in well is.Classifier (state.Classifier a.0) s a.2 refl (ranges 1 1 _ _ (omega arith) (omega arith))
-
-well_get_ip_address : (args : List (List ℕ)) (s : State) → Ok s ≡ get_ip_address args → IsWell is.GetIPAddress s
-unfolding get_ip_address
-well_get_ip_address args s h = let a = both_ok (only_number 1596 args) _ s h in well is.GetIPAddress (state.GetIPAddress a.0) s a.2 refl one_one
-
-well_lookup : (words : List (List (List ℕ))) (s : State) → Ok s ≡ static_ip_lookup words → IsWell is.StaticIPLookup s
-unfolding static_ip_lookup
-well_lookup words s h = let a = both_ok (table [] words) _ s h in well is.StaticIPLookup (state.StaticIPLookup a.0) s a.2 refl (ranges 1 1 (outputs_for a.0) 256 (omega arith) (outputs_bound [] words a.0 (omega arith) (sym a.1)))
-
-well_check_ip_header : (words : List (List (List ℕ))) (s : State) → Ok s ≡ check_ip_header words → IsWell is.CheckIPHeader s
-unfolding check_ip_header
-well_check_ip_header words s h = let a = both_ok (if length words == 0 then Ok [] else addresses (slice_index_or words 0 [])) _ s h in well is.CheckIPHeader (state.CheckIPHeader a.0) s a.2 refl (ranges 1 1 1 2 (omega arith) (omega arith))
+-- of a class whose state holds what was read
+well_of : {A : Type 0} (r : Result A ArgFault) (c : Class) (state_of : A → State) (s : State) → Ok s ≡ (r >>= λ a. Ok (state_of a)) →
+    ((a : A) → class (state_of a) ≡ c) → ((a : A) → Ok a ≡ r → HasUse (counts (state_of a))) → IsWell c s
+well_of r c state_of s h f u = let a = both_ok r _ s h in well c (state_of a.0) s a.2 (f a.0) (u a.0 (sym a.1))
 
 well_ether_encap : (args : List (List ℕ)) (s : State) → Ok s ≡ ether_encap args → IsWell is.EtherEncap s
 unfolding ether_encap
@@ -224,45 +182,38 @@ well_infinite_source first args s h =
     let b = both_ok (optional args 1 None (number_or_minus_one (2 ^ 64 - 1))) _ s a.2 in
     let d = both_ok (optional args 2 1 (number_in 1 64)) _ s b.2 in
     let e = both_ok (optional args 3 true truth) _ s d.2 in
-    well is.InfiniteSource (state.InfiniteSource a.0 b.0 d.0 e.0 0) s e.2 refl (ranges 0 0 1 1 (omega arith) (omega arith))
-
-well_from_device : (args : List (List ℕ)) (s : State) → Ok s ≡ from_device args → IsWell is.FromDevice s
-unfolding from_device
-well_from_device args s h = let a = both_ok (device args) _ s h in well is.FromDevice (state.FromDevice a.0) s a.2 refl (ranges 0 0 1 1 (omega arith) (omega arith))
-
-well_to_device : (args : List (List ℕ)) (s : State) → Ok s ≡ to_device args → IsWell is.ToDevice s
-unfolding to_device
-well_to_device args s h = let a = both_ok (device args) _ s h in well is.ToDevice (state.ToDevice a.0) s a.2 refl (ranges 1 1 0 0 (omega arith) (omega arith))
+    well is.InfiniteSource (state.InfiniteSource a.0 b.0 d.0 e.0 0) s e.2 refl only_out
 
 -- a first state is of its class, and its counts allow some use
 pub first_well : (c : Class) (args : List (List ℕ)) (s : State) → IsFresh c args (Ok s) → IsWell c s
-first_well is.Queue args s h = well_queue args s h
-first_well is.FrontDropQueue args s h = well_front_drop_queue args s h
+unfolding queue front_drop_queue switch pull_switch tee pull_tee paint paint_tee strip check_length classifier get_ip_address static_ip_lookup check_ip_header from_device to_device
+first_well is.Queue args s h = well_of (capacity args) is.Queue (λ n. state.Queue (empty n) 0 0) s h (λ _. refl) (λ _ _. one_one)
+first_well is.FrontDropQueue args s h = well_of (capacity args) is.FrontDropQueue (λ n. state.FrontDropQueue (empty n) 0 0) s h (λ _. refl) (λ _ _. one_one)
 first_well is.Unqueue args s h = well_plain is.Unqueue state.Unqueue s args h refl one_one
 first_well is.Counter args s h = well_plain is.Counter (state.Counter 0 0) s args h refl one_one
-first_well is.Switch args s h = well_switch args s h
-first_well is.PullSwitch args s h = well_pull_switch args s h
+first_well is.Switch args s h = well_of (port args) is.Switch state.Switch s h (λ _. refl) (λ k e. ranges 1 1 (at_least k) 256 (omega arith) (port_bound args k e))
+first_well is.PullSwitch args s h = well_of (port args) is.PullSwitch state.PullSwitch s h (λ _. refl) (λ k e. ranges (at_least k) 256 1 1 (port_bound args k e) (omega arith))
 first_well is.RoundRobinSwitch args s h = well_plain is.RoundRobinSwitch (state.RoundRobinSwitch 0) s args h refl (ranges 1 1 1 256 (omega arith) (omega arith))
 first_well is.RoundRobinSched args s h = well_plain is.RoundRobinSched (state.RoundRobinSched 0) s args h refl (ranges 1 256 1 1 (omega arith) (omega arith))
 first_well is.PrioSched args s h = well_plain is.PrioSched state.PrioSched s args h refl (ranges 1 256 1 1 (omega arith) (omega arith))
-first_well is.Tee args s h = well_tee args s h
-first_well is.PullTee args s h = well_pull_tee args s h
+first_well is.Tee args s h = well_of (copies args) is.Tee state.Tee s h (λ _. refl) (λ n _. up_to n)
+first_well is.PullTee args s h = well_of (copies args) is.PullTee state.PullTee s h (λ _. refl) (λ n _. up_to n)
 first_well is.Idle args s h = well_plain is.Idle state.Idle s args h refl (ranges 0 256 0 256 (omega arith) (omega arith))
-first_well is.Discard args s h = well_plain is.Discard state.Discard s args h refl (ranges 1 1 0 0 (omega arith) (omega arith))
+first_well is.Discard args s h = well_plain is.Discard state.Discard s args h refl only_in
 first_well is.Null args s h = well_plain is.Null state.Null s args h refl one_one
 first_well is.PushNull args s h = well_plain is.PushNull state.PushNull s args h refl one_one
 first_well is.PullNull args s h = well_plain is.PullNull state.PullNull s args h refl one_one
 first_well is.Suppressor args s h = well_plain is.Suppressor suppressor s args h refl (record { inputs = 1; outputs = 1; least_in = omega arith; most_in = omega arith; least_out = omega arith; most_out = omega arith; equal = λ _. refl })
-first_well is.Paint args s h = well_paint args s h
-first_well is.PaintTee args s h = well_paint_tee args s h
-first_well is.Strip args s h = well_strip args s h
-first_well is.CheckLength args s h = well_check_length args s h
-first_well is.Classifier args s h = let w = by_words 1 256 classifier args s h in well_classifier w.0 s w.2
-first_well is.GetIPAddress args s h = well_get_ip_address args s h
-first_well is.StaticIPLookup args s h = let w = by_words 0 1024 static_ip_lookup args s h in well_lookup w.0 s w.2
-first_well is.CheckIPHeader args s h = let w = by_words 0 1 check_ip_header args s h in well_check_ip_header w.0 s w.2
-first_well is.DecIPTTL args s h = well_plain is.DecIPTTL state.DecIPTTL s args h refl (ranges 1 1 1 2 (omega arith) (omega arith))
+first_well is.Paint args s h = well_of (only_number 255 args) is.Paint state.Paint s h (λ _. refl) (λ _ _. one_one)
+first_well is.PaintTee args s h = well_of (only_number 255 args) is.PaintTee state.PaintTee s h (λ _. refl) (λ _ _. one_or_two)
+first_well is.Strip args s h = well_of (only_number 1600 args) is.Strip state.Strip s h (λ _. refl) (λ _ _. one_one)
+first_well is.CheckLength args s h = well_of (only_number 65535 args) is.CheckLength state.CheckLength s h (λ _. refl) (λ _ _. one_or_two)
+first_well is.Classifier args s h = let w = by_words 1 256 classifier args s h in well_of (each pattern w.0) is.Classifier state.Classifier s w.2 (λ _. refl) (λ _ _. ranges 1 1 _ _ (omega arith) (omega arith))
+first_well is.GetIPAddress args s h = well_of (only_number 1596 args) is.GetIPAddress state.GetIPAddress s h (λ _. refl) (λ _ _. one_one)
+first_well is.StaticIPLookup args s h = let w = by_words 0 1024 static_ip_lookup args s h in well_of (table [] w.0) is.StaticIPLookup state.StaticIPLookup s w.2 (λ _. refl) (λ es e. ranges 1 1 (outputs_for es) 256 (omega arith) (outputs_bound [] w.0 es (omega arith) e))
+first_well is.CheckIPHeader args s h = let w = by_words 0 1 check_ip_header args s h in well_of (if length w.0 == 0 then Ok [] else addresses (slice_index_or w.0 0 [])) is.CheckIPHeader state.CheckIPHeader s w.2 (λ _. refl) (λ _ _. one_or_two)
+first_well is.DecIPTTL args s h = well_plain is.DecIPTTL state.DecIPTTL s args h refl one_or_two
 first_well is.EtherEncap args s h = well_ether_encap args s h
 first_well is.InfiniteSource args s h = let w = given (nat_le 0 (length args) && nat_le (length args) 4) (slice_get args 0) (λ first. infinite_source first args) s h in well_infinite_source w.0 args s w.2
-first_well is.FromDevice args s h = well_from_device args s h
-first_well is.ToDevice args s h = well_to_device args s h
+first_well is.FromDevice args s h = well_of (device args) is.FromDevice state.FromDevice s h (λ _. refl) (λ _ _. only_out)
+first_well is.ToDevice args s h = well_of (device args) is.ToDevice state.ToDevice s h (λ _. refl) (λ _ _. only_in)

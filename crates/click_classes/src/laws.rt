@@ -1,11 +1,12 @@
 //! What holds of the definitions.
 
-ghost use Rattle.std.specs.Prelude.{◌≡◌, ℕ, [], ◌∷◌, List, Ok, codes, true};
+ghost use Rattle.std.specs.Prelude.{◌≡◌, ◌↔◌, ℕ, [], ◌∷◌, List, Ok, Some, codes, true};
 ghost use Rattle.click_classes.specs.declared.class.Class.{Class};
 ghost use Rattle.click_classes.specs.declared.state.State.{State};
 ghost use Rattle.click_classes.specs.declared.values.entry.Entry.{Entry};
 ghost use Rattle.click_classes.specs.declared.values.pattern.Pattern.{Pattern};
 ghost use Rattle.click_classes.specs.declared.values.prefix.Prefix.{Prefix};
+ghost use Rattle.click_classes.specs.Classes.{name, class_of};
 ghost use Rattle.click_classes.specs.Counts.{counts};
 ghost use Rattle.click_classes.specs.Entries.{table};
 ghost use Rattle.click_classes.specs.Made.{IsMade};
@@ -15,6 +16,11 @@ ghost use Rattle.click_classes.specs.Routes.{IsRoute};
 ghost use Rattle.click_classes.specs.State.{class};
 ghost use Rattle.click_classes.specs.Uses.{HasUse};
 ghost use Rattle.click_classes.specs.Values.{cleared, prefix};
+
+/// Each class is found by its name, and by no other word.
+pub fn found_by_name()
+    ensures { (c : Class) (text : List ℕ) → (class_of text ≡ Some c) ↔ (name c ≡ text) }
+{}
 
 /// The pattern `-` matches each packet.
 pub fn matches_all()
