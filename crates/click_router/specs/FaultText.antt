@@ -5,8 +5,8 @@ use Rattle.click_router.specs.declared.fault.FaultKind.TheVariants as kind
 use Rattle.click_router.specs.declared.fault.FaultPlace.{FaultPlace}
 use Rattle.click_router.specs.declared.fault.FaultPlace.TheVariants as place
 use Rattle.click_router.specs.declared.fault.ConfigFault.{ConfigFault}
-use Rattle.click_router.specs.declared.ports.Side.{Side}
-use Rattle.click_router.specs.declared.ports.Side.TheVariants as side
+use Rattle.click_classes.specs.declared.ports.Side.{Side}
+use Rattle.click_classes.specs.declared.ports.Side.TheVariants as side
 
 -- its number and its name
 abbrev pub kind_text : FaultKind → List ℕ
@@ -20,19 +20,29 @@ kind_text kind.NoMemory = codes "7 NoMemory"
 kind_text kind.UnknownName = codes "11 UnknownName"
 kind_text kind.DeclaredTwice = codes "12 DeclaredTwice"
 kind_text kind.UnknownClass = codes "13 UnknownClass"
+kind_text kind.WrongParameters = codes "14 WrongParameters"
+kind_text kind.CompoundPort = codes "15 CompoundPort"
+kind_text kind.TooMany = codes "16 TooMany"
+kind_text kind.BrokenText = codes "17 BrokenText"
 kind_text kind.ArgumentCount = codes "21 ArgumentCount"
+kind_text kind.BadNumber = codes "22 BadNumber"
+kind_text kind.BadText = codes "23 BadText"
+kind_text kind.OutOfRange = codes "24 OutOfRange"
+kind_text kind.BadAddress = codes "25 BadAddress"
+kind_text kind.BadEntry = codes "26 BadEntry"
 kind_text kind.Count = codes "31 Count"
 kind_text kind.Unused = codes "32 Unused"
 kind_text kind.Twice = codes "33 Twice"
+kind_text kind.Mixed = codes "34 Mixed"
 
 -- the ports of a side, and one of them
 abbrev pub ports_text : Side → List ℕ
-ports_text side.Inputs = codes " inputs "
-ports_text side.Outputs = codes " outputs "
+ports_text side.Input = codes " inputs "
+ports_text side.Output = codes " outputs "
 
 abbrev pub port_text : Side → List ℕ
-port_text side.Inputs = codes " input "
-port_text side.Outputs = codes " output "
+port_text side.Input = codes " input "
+port_text side.Output = codes " output "
 
 -- where it stands
 abbrev pub place_text : FaultPlace → List ℕ

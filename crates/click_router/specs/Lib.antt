@@ -1,10 +1,5 @@
-pub mod Classes
-pub mod Expand
 pub mod FaultText
-pub mod Joined
 pub mod One
 pub mod Opened
-pub mod Ports
 pub mod Refused
-pub mod Sound
 pub mod State

@@ -3,9 +3,9 @@ use Rattle.std.specs.Prelude.{ℕ, List, Bool, Option, Some, None, position, sli
 use Rattle.std.specs.List.{before_last, after_last, list_any}
 use Rattle.std.specs.Str.{bytes_eq}
 use Rattle.click_router.specs.State.{RouterState}
-use Rattle.click_router.specs.Expand.{flat_names}
-use Rattle.click_router.specs.declared.classes.State.{State}
-use Rattle.click_router.specs.declared.classes.State.TheVariants as state
+use Rattle.click_classes.specs.declared.state.State.{State}
+use Rattle.click_classes.specs.declared.state.State.TheVariants as state
+use Rattle.click_ports.specs.Net.{names_of}
 use Rattle.click_router.specs.declared.call.Call.{Call}
 use Rattle.click_router.specs.declared.call.Call.TheVariants as call
 use Rattle.click_router.specs.declared.call.Reply.{Reply}
@@ -17,7 +17,7 @@ is_dot b = nat_eq b 46
 
 -- where the element of a name stands
 abbrev pub place_of : RouterState → List ℕ → Option ℕ
-place_of s name = position (bytes_eq name) (flat_names s.flat.elements)
+place_of s name = position (bytes_eq name) (names_of s.flat.elements)
 
 -- what a handler of an element reads: Counter has `count` and `byte_count`
 abbrev pub read_state : State → List ℕ → Reply

@@ -1,45 +1,63 @@
 -- What a text opens: a router's first state, or the text's first fault.
-use Rattle.std.specs.Prelude.{◌≡◌, ◌⊎◌, ℕ, ◌+◌, ◌≤◌, List, [], ◌∷◌, ◌++◌, length, take, count_by, take_while, reverse, All, not, nat_eq, slice_get, Option, Some, None, Result, Ok, Err}
+use Rattle.std.specs.Prelude.{◌≡◌, ◌⊎◌, ℕ, ◌+◌, ◌≤◌, List, [], ◌∷◌, ◌++◌, length, take, count_by, take_while, reverse, not, nat_eq, slice_get, Option, Some, None, Result, Ok, Err}
 use Rattle.click_text.specs.declared.syntax.Span.{Span}
 use Rattle.click_text.specs.declared.syntax.FaultKind.TheVariants as text_kind
 use Rattle.click_text.specs.declared.syntax.TextFault.{TextFault}
 use Rattle.click_text.specs.declared.syntax.Config.{Config}
 use Rattle.click_text.specs.Spelling.{longest_text, Spells, IsAnswered}
-use Rattle.click_text.specs.Pieces.{IsBlank}
+use Rattle.click_expand.specs.Flat.{IsFlat, IsFlatFault}
+use Rattle.click_expand.specs.declared.fault.ExpandFault.{ExpandFault}
+use Rattle.click_expand.specs.declared.fault.FaultKind.TheVariants as expand_kind
+use Rattle.click_expand.specs.declared.flat.FlatElement.{FlatElement}
+use Rattle.click_expand.specs.declared.flat.Flat.{Flat}
+use Rattle.click_classes.specs.Classes.{class_of}
+use Rattle.click_classes.specs.Made.{IsMade}
+use Rattle.click_classes.specs.declared.class.Class.{Class}
+use Rattle.click_classes.specs.declared.fault.ArgFault.{ArgFault}
+use Rattle.click_classes.specs.declared.fault.ArgFault.TheVariants as arg_kind
+use Rattle.click_classes.specs.declared.state.State.{State}
+use Rattle.click_ports.specs.Breaches.{IsFirstBreach}
+use Rattle.click_ports.specs.Lawful.{Lawful}
+use Rattle.click_ports.specs.Net.{Net, net_of}
+use Rattle.click_ports.specs.declared.fault.FaultKind.TheVariants as port_kind
+use Rattle.click_ports.specs.declared.fault.PortFault.{PortFault}
 use Rattle.click_router.specs.State.{RouterState}
-use Rattle.click_router.specs.Classes.{class_of, first_state}
-use Rattle.click_router.specs.Expand.{IsFlat, expanded}
-use Rattle.click_router.specs.Ports.{breaches}
-use Rattle.click_router.specs.declared.classes.State.{State}
-use Rattle.click_router.specs.declared.expand.FlatElement.{FlatElement}
-use Rattle.click_router.specs.declared.expand.Flat.{Flat}
-use Rattle.click_router.specs.declared.expand.NameFault.{NameFault}
-use Rattle.click_router.specs.declared.expand.NameFault.TheVariants as names
-use Rattle.click_router.specs.declared.expand.ExpandFault.{ExpandFault}
-use Rattle.click_router.specs.declared.expand.ExpandFault.TheVariants as expand_fault
-use Rattle.click_router.specs.declared.ports.PortFault.{PortFault}
-use Rattle.click_router.specs.declared.ports.PortFault.TheVariants as port_fault
 use Rattle.click_router.specs.declared.fault.FaultKind.{FaultKind}
 use Rattle.click_router.specs.declared.fault.FaultKind.TheVariants as kind
+use Rattle.click_router.specs.declared.fault.FaultPlace.{FaultPlace}
 use Rattle.click_router.specs.declared.fault.FaultPlace.TheVariants as place
 use Rattle.click_router.specs.declared.fault.ConfigFault.{ConfigFault}
 
--- an element's first state: its class's, where its string has no arguments
-pub record IsFresh (e : FlatElement) (q : State) : Type 0 where
-  pub blank : IsBlank e.text
-  pub state : (c : _) × (class_of e.class ≡ Some c) × (q ≡ first_state c)
+-- what `make` of the element's class and text answers
+pub record IsBegun (e : FlatElement) (r : Result State ArgFault) : Type 0 where
+  pub class : Class
+  pub known : class_of e.class ≡ Some class
+  pub made : IsMade class e.text r
 
+-- the element's class is one of the router's
+abbrev pub IsKnown : FlatElement → Type 0
+IsKnown e = (class : Class) × (class_of e.class ≡ Some class)
+
+abbrev pub AreKnown : List FlatElement → Type 0
+AreKnown [] = Unit {0}
+AreKnown (e ∷ es) = IsKnown e × AreKnown es
+
+-- each element's first state
 abbrev pub AreFresh : List FlatElement → List State → Type 0
 AreFresh [] [] = Unit {0}
-AreFresh (e ∷ es) (q ∷ qs) = IsFresh e q × AreFresh es qs
+AreFresh (e ∷ es) (q ∷ qs) = IsBegun e (Ok q) × AreFresh es qs
 AreFresh [] (q ∷ qs) = ⊥
 AreFresh (e ∷ es) [] = ⊥
 
--- the elements and connections are those of the configuration, each element holds its first state, and no use of a port breaks a rule
+-- the rules of ports hold of the elements' states and the connections
+abbrev pub IsLawful : Flat → List State → Type 0
+IsLawful flat states = Lawful (net_of flat states).shapes (net_of flat states).connections
+
+-- the elements and connections are those of the configuration, each element holds its first state, and the net is lawful
 pub record OpensAs (config : Config) (flat : Flat) (states : List State) : Type 0 where
   pub is_flat : IsFlat config flat
   pub fresh : AreFresh flat.elements states
-  pub lawful : breaches flat.connections states ≡ []
+  pub lawful : IsLawful flat states
 
 -- the first state of the router of a text
 pub record IsOpened (text : List ℕ) (s : RouterState) : Type 0 where
@@ -56,8 +74,11 @@ line_at text at = count_by (λ b. nat_eq b 10) (take at text) + 1
 abbrev pub column_at : List ℕ → ℕ → ℕ
 column_at text at = length (take_while (λ b. not (nat_eq b 10)) (reverse (take at text))) + 1
 
+abbrev pub place_at : List ℕ → Span → FaultPlace
+place_at text s = place.At (line_at text s.start) (column_at text s.start)
+
 abbrev pub fault_at : FaultKind → List ℕ → Span → ConfigFault
-fault_at k text s = record { kind = k; place = place.At (line_at text s.start) (column_at text s.start) }
+fault_at k text s = record { kind = k; place = place_at text s }
 
 abbrev pub fault_nowhere : FaultKind → ConfigFault
 fault_nowhere k = record { kind = k; place = place.Nowhere }
@@ -74,15 +95,35 @@ of_text text f = elim f.kind [
   | text_kind.NoMemory ↦ fault_nowhere kind.NoMemory
 ]
 
--- a fault of a name
-abbrev pub name_kind : NameFault → FaultKind
-name_kind names.UnknownName = kind.UnknownName
-name_kind names.DeclaredTwice = kind.DeclaredTwice
-name_kind names.UnknownClass = kind.UnknownClass
+-- a fault of names, classes, parameters, ports of compounds, limits, or an element's text
+abbrev pub span_place : List ℕ → Option Span → FaultPlace
+span_place text None = place.Nowhere
+span_place text (Some s) = place_at text s
 
-abbrev pub of_names : List ℕ → ExpandFault → ConfigFault
-of_names text (expand_fault.Name n s) = fault_at (name_kind n) text s
-of_names text expand_fault.NoMemory = fault_nowhere kind.NoMemory
+abbrev pub of_expand : List ℕ → ExpandFault → ConfigFault
+of_expand text f = elim f.kind [
+  | expand_kind.NoMemory ↦ fault_nowhere kind.NoMemory
+  | expand_kind.UnknownName ↦ record { kind = kind.UnknownName; place = span_place text f.span }
+  | expand_kind.DeclaredTwice ↦ record { kind = kind.DeclaredTwice; place = span_place text f.span }
+  | expand_kind.UnknownClass ↦ record { kind = kind.UnknownClass; place = span_place text f.span }
+  | expand_kind.WrongParameters ↦ record { kind = kind.WrongParameters; place = span_place text f.span }
+  | expand_kind.CompoundPort ↦ record { kind = kind.CompoundPort; place = span_place text f.span }
+  | expand_kind.TooMany ↦ fault_nowhere kind.TooMany
+  | expand_kind.BrokenText ↦ record { kind = kind.BrokenText; place = place.Element f.name }
+]
+
+-- a fault of an element's arguments
+abbrev pub argument_kind : ArgFault → FaultKind
+argument_kind arg_kind.NoMemory = kind.NoMemory
+argument_kind arg_kind.ArgumentCount = kind.ArgumentCount
+argument_kind arg_kind.BadNumber = kind.BadNumber
+argument_kind arg_kind.BadText = kind.BadText
+argument_kind arg_kind.OutOfRange = kind.OutOfRange
+argument_kind arg_kind.BadAddress = kind.BadAddress
+argument_kind arg_kind.BadEntry = kind.BadEntry
+
+abbrev pub of_arguments : FlatElement → ArgFault → ConfigFault
+of_arguments e f = record { kind = argument_kind f; place = place.Element e.name }
 
 -- a fault of ports, at the element of that place
 abbrev pub name_in : Option FlatElement → List ℕ
@@ -93,25 +134,26 @@ abbrev pub name_at : List FlatElement → ℕ → List ℕ
 name_at es i = name_in (slice_get es i)
 
 abbrev pub of_ports : List FlatElement → PortFault → ConfigFault
-of_ports es (port_fault.Count i s used) = record { kind = kind.Count; place = place.Used (name_at es i) s used }
-of_ports es (port_fault.Unused i s port) = record { kind = kind.Unused; place = place.Port (name_at es i) s port }
-of_ports es (port_fault.Twice i s port) = record { kind = kind.Twice; place = place.Port (name_at es i) s port }
+of_ports es f = elim f.kind [
+  | port_kind.NoMemory ↦ fault_nowhere kind.NoMemory
+  | port_kind.Count ↦ record { kind = kind.Count; place = place.Used (name_at es f.element) f.side f.number }
+  | port_kind.Unused ↦ record { kind = kind.Unused; place = place.Port (name_at es f.element) f.side f.number }
+  | port_kind.Twice ↦ record { kind = kind.Twice; place = place.Port (name_at es f.element) f.side f.number }
+  | port_kind.Mixed ↦ record { kind = kind.Mixed; place = place.Port (name_at es f.element) f.side f.number }
+]
 
--- a fault of an element that has arguments
-abbrev pub of_arguments : FlatElement → ConfigFault
-of_arguments e = record { kind = kind.ArgumentCount; place = place.Element e.name }
-
--- The first fault of a text: of the text itself, else of its names, else of the arguments of the first element that has some,
--- else the first breach of its ports.
+-- The first fault of a text: of the text itself, else of its flat form, else of the arguments of the first element whose arguments are refused, else
+-- the first breach of the rules of ports.
 pub data IsFirstFault : List ℕ → ConfigFault → Type 0 where
   unreadable : (text : List ℕ) (f : TextFault) → IsAnswered text f → IsFirstFault text (of_text text f)
-  misnamed : (text : List ℕ) (config : Config) (f : ExpandFault) → length text ≤ longest_text → Spells text config →
-      expanded config ≡ Err f → IsFirstFault text (of_names text f)
-  unfit : (text : List ℕ) (config : Config) (fit : List FlatElement) (e : FlatElement) (more : List FlatElement) → length text ≤ longest_text → Spells text config →
-      expanded config ≡ Ok (fit ++ e ∷ more) → All (λ d. IsBlank d.text) fit → (IsBlank e.text → ⊥) →
-      IsFirstFault text (record { kind = kind.ArgumentCount; place = place.Element e.name })
-  unlawful : (text : List ℕ) (config : Config) (flat : Flat) (states : List State) (f : PortFault) (more : List PortFault) → length text ≤ longest_text → Spells text config →
-      IsFlat config flat → AreFresh flat.elements states → breaches flat.connections states ≡ f ∷ more → IsFirstFault text (of_ports flat.elements f)
+  not_flat : (text : List ℕ) (config : Config) (f : ExpandFault) → length text ≤ longest_text → Spells text config →
+      IsFlatFault config f → IsFirstFault text (of_expand text f)
+  unfit : (text : List ℕ) (config : Config) (flat : Flat) (fit : List FlatElement) (e : FlatElement) (more : List FlatElement) (states : List State) (f : ArgFault) →
+      length text ≤ longest_text → Spells text config → IsFlat config flat → flat.elements ≡ fit ++ e ∷ more → AreFresh fit states → IsBegun e (Err f) →
+      IsFirstFault text (of_arguments e f)
+  unlawful : (text : List ℕ) (config : Config) (flat : Flat) (states : List State) (f : PortFault) → length text ≤ longest_text → Spells text config →
+      IsFlat config flat → AreFresh flat.elements states → IsFirstBreach (net_of flat states).shapes (net_of flat states).connections f →
+      IsFirstFault text (of_ports flat.elements f)
 
 -- want of memory
 abbrev pub IsMemory : ConfigFault → Type 0

@@ -1,29 +1,40 @@
 -- Why a configuration that is spelled opens no router.
-use Rattle.std.specs.Prelude.{◌≡◌, ◌⊎◌, List, ◌∷◌, ◌++◌, All, Err}
+use Rattle.std.specs.Prelude.{◌≡◌, ◌⊎◌, List, ◌∷◌, ◌++◌, Err}
 use Rattle.click_text.specs.declared.syntax.Config.{Config}
-use Rattle.click_text.specs.Pieces.{IsBlank}
-use Rattle.click_router.specs.Expand.{IsFlat, expanded}
-use Rattle.click_router.specs.Ports.{breaches}
-use Rattle.click_router.specs.Opened.{AreFresh, of_names, of_arguments, of_ports}
-use Rattle.click_router.specs.declared.classes.State.{State}
-use Rattle.click_router.specs.declared.expand.FlatElement.{FlatElement}
-use Rattle.click_router.specs.declared.expand.Flat.{Flat}
-use Rattle.click_router.specs.declared.expand.ExpandFault.{ExpandFault}
-use Rattle.click_router.specs.declared.ports.PortFault.{PortFault}
+use Rattle.click_expand.specs.Flat.{IsFlat, IsFlatFault}
+use Rattle.click_expand.specs.declared.fault.ExpandFault.{ExpandFault}
+use Rattle.click_expand.specs.declared.flat.FlatElement.{FlatElement}
+use Rattle.click_expand.specs.declared.flat.Flat.{Flat}
+use Rattle.click_classes.specs.declared.fault.ArgFault.{ArgFault}
+use Rattle.click_classes.specs.declared.state.State.{State}
+use Rattle.click_ports.specs.Breaches.{IsFirstBreach}
+use Rattle.click_ports.specs.Net.{net_of}
+use Rattle.click_ports.specs.declared.fault.PortFault.{PortFault}
+use Rattle.click_router.specs.Opened.{AreFresh, IsBegun, of_expand, of_arguments, of_ports}
 use Rattle.click_router.specs.declared.fault.ConfigFault.{ConfigFault}
 
--- the first element that has arguments
-abbrev pub IsUnfit : List FlatElement → ConfigFault → Type 0
-IsUnfit es f = (fit : List FlatElement) × (e : FlatElement) × (more : List FlatElement) × (es ≡ fit ++ e ∷ more)
-    × All (λ d. IsBlank d.text) fit × (IsBlank e.text → ⊥) × (f ≡ of_arguments e)
+-- the first element whose arguments are refused
+pub record IsUnfit (es : List FlatElement) (f : ConfigFault) : Type 0 where
+  pub fit : List FlatElement
+  pub element : FlatElement
+  pub more : List FlatElement
+  pub splits : es ≡ fit ++ element ∷ more
+  pub states : List State
+  pub fresh : AreFresh fit states
+  pub fault : ArgFault
+  pub refused : IsBegun element (Err fault)
+  pub is : f ≡ of_arguments element fault
 
--- the first breach of the ports
-abbrev pub IsUnlawful : Flat → ConfigFault → Type 0
-IsUnlawful flat f = (states : List State) × (b : PortFault) × (more : List PortFault) × AreFresh flat.elements states
-    × (breaches flat.connections states ≡ b ∷ more) × (f ≡ of_ports flat.elements b)
+-- the first breach of the rules of ports
+pub record IsUnlawful (flat : Flat) (f : ConfigFault) : Type 0 where
+  pub states : List State
+  pub fresh : AreFresh flat.elements states
+  pub breach : PortFault
+  pub first : IsFirstBreach (net_of flat states).shapes (net_of flat states).connections breach
+  pub is : f ≡ of_ports flat.elements breach
 
--- the first fault of a configuration: of its names, of an element's arguments, of its ports
+-- the first fault of a configuration: of its flat form, of an element's arguments, of its ports
 abbrev pub IsConfigFault : Config → ConfigFault → Type 0
 IsConfigFault config f =
-    ((n : ExpandFault) × (expanded config ≡ Err n) × (f ≡ of_names config.text n))
+    ((e : ExpandFault) × IsFlatFault config e × (f ≡ of_expand config.text e))
     ⊎ ((flat : Flat) × IsFlat config flat × (IsUnfit flat.elements f ⊎ IsUnlawful flat f))

@@ -3,7 +3,7 @@
 ghost use Rattle.std.specs.Prelude.{◌≡◌, ◌++◌, IfOk, OnOk, decimal};
 ghost use Rattle.click_router.specs.FaultText.{kind_text, place_text, ports_text, port_text, fault_text};
 
-pub use crate::ports::Side;
+pub use click_classes::Side;
 use click_text::sequence::Sequence;
 use itoa::Buffer;
 use std::alloc::{AllocError, Global};
@@ -21,10 +21,20 @@ pub enum FaultKind {
     UnknownName = 11,
     DeclaredTwice = 12,
     UnknownClass = 13,
+    WrongParameters = 14,
+    CompoundPort = 15,
+    TooMany = 16,
+    BrokenText = 17,
     ArgumentCount = 21,
+    BadNumber = 22,
+    BadText = 23,
+    OutOfRange = 24,
+    BadAddress = 25,
+    BadEntry = 26,
     Count = 31,
     Unused = 32,
     Twice = 33,
+    Mixed = 34,
 }
 
 /// Where a fault stands.
@@ -44,13 +54,13 @@ pub enum FaultPlace {
     Used {
         name: Sequence<u8>,
         side: Side,
-        used: usize,
+        used: u16,
     },
     /// At a port of the element.
     Port {
         name: Sequence<u8>,
         side: Side,
-        port: usize,
+        port: u16,
     },
 }
 
@@ -77,10 +87,20 @@ impl FaultKind {
             FaultKind::UnknownName => "11 UnknownName",
             FaultKind::DeclaredTwice => "12 DeclaredTwice",
             FaultKind::UnknownClass => "13 UnknownClass",
+            FaultKind::WrongParameters => "14 WrongParameters",
+            FaultKind::CompoundPort => "15 CompoundPort",
+            FaultKind::TooMany => "16 TooMany",
+            FaultKind::BrokenText => "17 BrokenText",
             FaultKind::ArgumentCount => "21 ArgumentCount",
+            FaultKind::BadNumber => "22 BadNumber",
+            FaultKind::BadText => "23 BadText",
+            FaultKind::OutOfRange => "24 OutOfRange",
+            FaultKind::BadAddress => "25 BadAddress",
+            FaultKind::BadEntry => "26 BadEntry",
             FaultKind::Count => "31 Count",
             FaultKind::Unused => "32 Unused",
             FaultKind::Twice => "33 Twice",
+            FaultKind::Mixed => "34 Mixed",
         }
     }
 }
@@ -90,8 +110,8 @@ fn ports_of(side: Side) -> &'static str
     ensures { result.now ≡ ports_text side }
 {
     match side {
-        Side::Inputs => " inputs ",
-        Side::Outputs => " outputs ",
+        Side::Input => " inputs ",
+        Side::Output => " outputs ",
     }
 }
 
@@ -100,8 +120,8 @@ fn port_of(side: Side) -> &'static str
     ensures { result.now ≡ port_text side }
 {
     match side {
-        Side::Inputs => " input ",
-        Side::Outputs => " output ",
+        Side::Input => " input ",
+        Side::Output => " output ",
     }
 }
 
@@ -135,13 +155,13 @@ impl FaultPlace {
                 line.extend_from_slice(b" at ")?;
                 line.extend_from_slice(name.as_slice())?;
                 line.extend_from_slice(ports_of(*side).as_bytes())?;
-                push_number(line, *used)?;
+                push_number(line, usize::from(*used))?;
             }
             FaultPlace::Port { name, side, port } => {
                 line.extend_from_slice(b" at ")?;
                 line.extend_from_slice(name.as_slice())?;
                 line.extend_from_slice(port_of(*side).as_bytes())?;
-                push_number(line, *port)?;
+                push_number(line, usize::from(*port))?;
             }
         }
         Ok(())

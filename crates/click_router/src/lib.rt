@@ -2,13 +2,10 @@
 #![tactic(auto)]
 
 pub mod call;
-mod classes;
-mod expand;
 pub mod fault;
 pub mod laws;
 mod names;
 pub mod opening;
-mod ports;
 pub mod router;
 
 pub use call::{Call, Refusal, Reply, StepFault};

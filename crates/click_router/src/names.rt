@@ -2,7 +2,7 @@
 
 ghost use Rattle.std.specs.Prelude.{◌≡◌, [], ◌∷◌, ◌++◌, OnOk, position, if◌then◌else◌};
 ghost use Rattle.std.specs.Str.{bytes_eq};
-ghost use Rattle.click_router.specs.Expand.{has_name};
+ghost use Rattle.click_expand.specs.Elements.{has_name};
 
 use indexmap::IndexSet;
 use std::alloc::{AllocError, Global};

@@ -1,20 +1,20 @@
 //! From a text to a router that can be opened.
 
-ghost use Rattle.std.specs.Prelude.{◌≡◌, ◌⊎◌, ◌<◌, ◌≤◌, [], ◌∷◌, ◌++◌, OnOk, map, length, IfOk, IfErr};
+ghost use Rattle.std.specs.Prelude.{◌≡◌, ◌⊎◌, ◌<◌, ◌≤◌, ◌∷◌, [], ◌++◌, OnOk, length, IfOk, IfErr, Ok, Err};
 ghost use Rattle.click_text.specs.Spelling.{longest_text};
 ghost use Rattle.click_router.specs.State.{RouterState};
-ghost use Rattle.click_router.specs.Expand.{flat_names};
-ghost use Rattle.click_router.specs.Ports.{breaches};
-ghost use Rattle.click_router.specs.Sound.{AreSound};
+ghost use Rattle.click_text.specs.Spelling.{Spells};
+ghost use Rattle.click_expand.specs.Flat.{AreDistinct};
+ghost use Rattle.click_ports.specs.Net.{names_of, net_of};
 ghost use Rattle.click_router.specs.Opened as spec;
-ghost use Rattle.click_router.specs.Opened.{AreFresh, OpensAs, IsOpened, IsFirstFault, IsGiven, IsMemoryOr};
+ghost use Rattle.click_router.specs.Opened.{IsBegun, IsKnown, AreKnown, AreFresh, IsLawful, OpensAs, IsOpened, IsFirstFault, IsGiven, IsMemoryOr};
 ghost use Rattle.click_router.specs.Refused.{IsUnfit, IsUnlawful, IsConfigFault};
 
-use crate::classes::{State, class_of, make};
-use crate::expand::{ExpandFault, Flat, FlatElement, NameFault, flatten};
 use crate::fault::{ConfigFault, FaultKind, FaultPlace};
 use crate::names::Names;
-use crate::ports::{PortFault, Side, check};
+use click_classes::{ArgFault, State, class_of, make};
+use click_expand::{ExpandFault, FaultKind as ExpandKind, Flat, FlatElement, flatten};
+use click_ports::{FaultKind as PortKind, Net, PortFault, resolve};
 use click_text::sequence::Sequence;
 use click_text::syntax::{Config, FaultKind as TextKind, Span, TextFault};
 use click_text::{LONGEST_TEXT, parse};
@@ -27,19 +27,22 @@ pub struct Prepared {
     pub(crate) text: Sequence<u8>,
     pub(crate) flat: Flat,
     pub(crate) states: Sequence<State>,
+    /// The net of the flat form and the states.
+    pub(crate) net: Net,
     /// The elements' names in their order, to look one up.
     pub(crate) names: Names,
 }
 
 impl Model for Prepared {
-    ghost use Rattle.std.specs.Prelude.{map, ◌≡◌, length};
+    ghost use Rattle.std.specs.Prelude.{◌≡◌, length};
+    ghost use Rattle.click_ports.specs.Net.{names_of, net_of};
     ghost use Rattle.click_router.specs.State.{RouterState};
 
     ghost Value = { RouterState };
 
     ghost view = { λ p. record { text = p.text; flat = p.flat; states = p.states } };
 
-    ghost invariant = { λ p. (p.names ≡ map (λ e. e.name) p.flat.elements) × (length p.states ≡ length p.flat.elements) };
+    ghost invariant = { λ p. (p.names ≡ names_of p.flat.elements) × (length p.states ≡ length p.flat.elements) × (p.net ≡ net_of p.flat p.states) };
 }
 
 /// The line of the place: one more than the LF bytes before it.
@@ -100,18 +103,43 @@ fn of_text(text: &[u8], fault: TextFault) -> ConfigFault
     }
 }
 
-/// A fault of a name.
-fn of_names(text: &[u8], fault: ExpandFault) -> ConfigFault
+/// A place where the span begins, if there is one.
+fn span_place(text: &[u8], span: Option<Span>) -> FaultPlace
     requires { length text.now ≤ longest_text }
-    ensures { result ≡ spec.of_names text.now fault }
+    ensures { result ≡ spec.span_place text.now span }
 {
-    match fault {
-        ExpandFault::Name(NameFault::UnknownName, span) => at(FaultKind::UnknownName, text, span),
-        ExpandFault::Name(NameFault::DeclaredTwice, span) => {
-            at(FaultKind::DeclaredTwice, text, span)
+    match span {
+        None => FaultPlace::Nowhere,
+        Some(span) => FaultPlace::At {
+            line: line_at(text, span.start),
+            column: column_at(text, span.start),
+        },
+    }
+}
+
+/// A fault of the flat form.
+fn of_expand(text: &[u8], fault: ExpandFault) -> ConfigFault
+    requires { length text.now ≤ longest_text }
+    ensures { result ≡ spec.of_expand text.now fault }
+{
+    let kind = match fault.kind {
+        ExpandKind::NoMemory => return nowhere(FaultKind::NoMemory),
+        ExpandKind::TooMany => return nowhere(FaultKind::TooMany),
+        ExpandKind::BrokenText => {
+            return ConfigFault {
+                kind: FaultKind::BrokenText,
+                place: FaultPlace::Element { name: fault.name },
+            };
         }
-        ExpandFault::Name(NameFault::UnknownClass, span) => at(FaultKind::UnknownClass, text, span),
-        ExpandFault::NoMemory => nowhere(FaultKind::NoMemory),
+        ExpandKind::UnknownName => FaultKind::UnknownName,
+        ExpandKind::DeclaredTwice => FaultKind::DeclaredTwice,
+        ExpandKind::UnknownClass => FaultKind::UnknownClass,
+        ExpandKind::WrongParameters => FaultKind::WrongParameters,
+        ExpandKind::CompoundPort => FaultKind::CompoundPort,
+    };
+    ConfigFault {
+        kind,
+        place: span_place(text, fault.span),
     }
 }
 
@@ -141,44 +169,7 @@ fn name_at(
     }
 }
 
-/// A fault of the number of ports that an element has on a side.
-fn of_count(
-    alloc: Global,
-    elements: &[FlatElement],
-    element: usize,
-    side: Side,
-    used: usize,
-) -> Result<ConfigFault, AllocError>
-    ensures { IfOk result (λ f. f ≡ spec.of_ports elements.now (PortFault.Count element side used)) }
-{
-    Ok(ConfigFault {
-        kind: FaultKind::Count,
-        place: FaultPlace::Used {
-            name: name_at(alloc, elements, element)?,
-            side,
-            used,
-        },
-    })
-}
-
-/// A place at a port of an element.
-fn port_place(
-    alloc: Global,
-    elements: &[FlatElement],
-    element: usize,
-    side: Side,
-    port: usize,
-) -> Result<FaultPlace, AllocError>
-    ensures { IfOk result (λ p. p ≡ FaultPlace.Port (spec.name_at elements.now element) side port) }
-{
-    Ok(FaultPlace::Port {
-        name: name_at(alloc, elements, element)?,
-        side,
-        port,
-    })
-}
-
-/// A fault of ports.
+/// A fault of ports, at the element's name.
 fn of_ports(
     alloc: Global,
     elements: &[FlatElement],
@@ -186,58 +177,97 @@ fn of_ports(
 ) -> Result<ConfigFault, AllocError>
     ensures { IfOk result (λ f. f ≡ spec.of_ports elements.now fault) }
 {
+    let kind = match fault.kind {
+        PortKind::NoMemory => return Ok(nowhere(FaultKind::NoMemory)),
+        PortKind::Count => return of_count(alloc, elements, fault),
+        PortKind::Unused => FaultKind::Unused,
+        PortKind::Twice => FaultKind::Twice,
+        PortKind::Mixed => FaultKind::Mixed,
+    };
+    Ok(ConfigFault {
+        kind,
+        place: FaultPlace::Port {
+            name: name_at(alloc, elements, fault.element)?,
+            side: fault.side,
+            port: fault.number,
+        },
+    })
+}
+
+/// A fault of the number of ports that an element has on a side.
+fn of_count(
+    alloc: Global,
+    elements: &[FlatElement],
+    fault: PortFault,
+) -> Result<ConfigFault, AllocError>
+    ensures { IfOk result (λ f. f ≡ record { kind = FaultKind.Count; place = FaultPlace.Used (spec.name_at elements.now fault.element) fault.side fault.number }) }
+{
+    Ok(ConfigFault {
+        kind: FaultKind::Count,
+        place: FaultPlace::Used {
+            name: name_at(alloc, elements, fault.element)?,
+            side: fault.side,
+            used: fault.number,
+        },
+    })
+}
+
+/// The number of a fault of arguments.
+fn argument_kind(fault: ArgFault) -> FaultKind
+    ensures { result ≡ spec.argument_kind fault }
+{
     match fault {
-        PortFault::Count {
-            element,
-            side,
-            used,
-        } => of_count(alloc, elements, element, side, used),
-        PortFault::Unused {
-            element,
-            side,
-            port,
-        } => Ok(ConfigFault {
-            kind: FaultKind::Unused,
-            place: port_place(alloc, elements, element, side, port)?,
-        }),
-        PortFault::Twice {
-            element,
-            side,
-            port,
-        } => Ok(ConfigFault {
-            kind: FaultKind::Twice,
-            place: port_place(alloc, elements, element, side, port)?,
-        }),
+        ArgFault::NoMemory => FaultKind::NoMemory,
+        ArgFault::ArgumentCount => FaultKind::ArgumentCount,
+        ArgFault::BadNumber => FaultKind::BadNumber,
+        ArgFault::BadText => FaultKind::BadText,
+        ArgFault::OutOfRange => FaultKind::OutOfRange,
+        ArgFault::BadAddress => FaultKind::BadAddress,
+        ArgFault::BadEntry => FaultKind::BadEntry,
     }
 }
 
-/// The fault of an element that has arguments.
-fn of_arguments(alloc: Global, element: &FlatElement) -> Result<ConfigFault, AllocError>
-    ensures { IfOk result (λ f. f ≡ spec.of_arguments element.now) }
+/// The fault of an element whose arguments are refused.
+fn of_arguments(
+    alloc: Global,
+    element: &FlatElement,
+    fault: ArgFault,
+) -> Result<ConfigFault, AllocError>
+    ensures { IfOk result (λ f. f ≡ spec.of_arguments element.now fault) }
 {
     Ok(ConfigFault {
-        kind: FaultKind::ArgumentCount,
+        kind: argument_kind(fault),
         place: FaultPlace::Element {
             name: Sequence::of(Vec::from_slice(alloc, element.name.as_slice())?),
         },
     })
 }
 
-/// The first states of the elements, or the fault of the first that has arguments.
+/// The element's first state, or what is wrong with its arguments.
+fn state_of(alloc: Global, element: &FlatElement) -> Result<State, ConfigFault>
+    requires { IsKnown element.now }
+    ensures fresh { IfOk result (λ state. IsBegun element.now (Ok state)) }
+    ensures err { IfErr result (λ f. IsMemoryOr f ((fault : ArgFault) × IsBegun element.now (Err fault) × (f ≡ spec.of_arguments element.now fault))) }
+{
+    let Some(class) = class_of(element.class.as_slice()) else {
+        unreachable!()
+    };
+    match make(alloc, class, element.text.as_slice()) {
+        Ok(state) => Ok(state),
+        Err(ArgFault::NoMemory) => Err(nowhere(FaultKind::NoMemory)),
+        Err(fault) => Err(of_arguments(alloc, element, fault)?),
+    }
+}
+
+/// The first states of the elements, or the fault of the first whose arguments are refused.
 fn states_of(alloc: Global, elements: &[FlatElement]) -> Result<Vec<State>, ConfigFault>
-    requires { AreSound [] elements.now }
+    requires { AreKnown elements.now }
     ensures fresh { IfOk result (λ v. AreFresh elements.now v.items) }
     ensures err { IfErr result (λ f. IsMemoryOr f (IsUnfit elements.now f)) }
 {
     let mut states = Vec::new(alloc);
     for element in elements {
-        let Some(class) = class_of(element.class.as_slice()) else {
-            unreachable!()
-        };
-        match make(class, element.text.as_slice()) {
-            Some(state) => push(&mut states, state)?,
-            None => return Err(of_arguments(alloc, element)?),
-        }
+        push(&mut states, state_of(alloc, element)?)?;
     }
     Ok(states)
 }
@@ -250,10 +280,10 @@ fn push(states: &mut Vec<State>, state: State) -> Result<(), AllocError>
     Ok(())
 }
 
-/// The names of the elements.
-fn names_of(alloc: Global, elements: &[FlatElement]) -> Result<Names, AllocError>
-    requires { AreSound [] elements.now }
-    ensures { IfOk result (λ names. names ≡ flat_names elements.now) }
+/// The names of the elements, of which no two are equal.
+fn names_from(alloc: Global, elements: &[FlatElement]) -> Result<Names, AllocError>
+    requires { AreDistinct (names_of elements.now) }
+    ensures { IfOk result (λ names. names ≡ names_of elements.now) }
 {
     let mut names = Names::new(alloc);
     for element in elements {
@@ -264,34 +294,39 @@ fn names_of(alloc: Global, elements: &[FlatElement]) -> Result<Names, AllocError
 
 /// The router of a flat form, or its first fault.
 fn prepare_flat(alloc: Global, text: Sequence<u8>, flat: Flat) -> Result<Prepared, ConfigFault>
-    requires { AreSound [] flat.elements }
+    requires known { AreKnown flat.elements }
+    requires distinct { AreDistinct (names_of flat.elements) }
     ensures is { IfOk result (λ p. (p.text ≡ text) × (p.flat ≡ flat)) }
     ensures fresh { IfOk result (λ p. AreFresh flat.elements p.states) }
-    ensures lawful { IfOk result (λ p. breaches flat.connections p.states ≡ []) }
+    ensures lawful { IfOk result (λ p. IsLawful flat p.states) }
     ensures err { IfErr result (λ f. IsMemoryOr f (IsUnfit flat.elements f ⊎ IsUnlawful flat f)) }
 {
     let states = states_of(alloc, flat.elements.as_slice())?;
-    if let Err(fault) = check(flat.connections.as_slice(), states.as_slice()) {
-        return Err(of_ports(alloc, flat.elements.as_slice(), fault)?);
+    match resolve(alloc, &flat, states.as_slice()) {
+        Err(fault) => Err(of_ports(alloc, flat.elements.as_slice(), fault)?),
+        Ok(net) => {
+            let names = names_from(alloc, flat.elements.as_slice())?;
+            Ok(Prepared {
+                text,
+                flat,
+                states: Sequence::of(states),
+                net,
+                names,
+            })
+        }
     }
-    let names = names_of(alloc, flat.elements.as_slice())?;
-    Ok(Prepared {
-        text,
-        flat,
-        states: Sequence::of(states),
-        names,
-    })
 }
 
 /// The router of a configuration, or its first fault.
 fn prepare_config(alloc: Global, config: Config) -> Result<Prepared, ConfigFault>
-    requires { length config.text ≤ longest_text }
+    requires within { length config.text ≤ longest_text }
+    requires spelled { Spells config.text config }
     ensures opened { IfOk result (λ p. OpensAs config p.flat p.states × (p.text ≡ config.text)) }
     ensures err { IfErr result (λ f. IsMemoryOr f (IsConfigFault config f)) }
 {
     match flatten(alloc, &config) {
         Ok(flat) => prepare_flat(alloc, config.text, flat),
-        Err(fault) => Err(of_names(config.text.as_slice(), fault)),
+        Err(fault) => Err(of_expand(config.text.as_slice(), fault)),
     }
 }
 

@@ -6,8 +6,8 @@ ghost use Rattle.click_router.specs.One.{one, is_dot};
 ghost use Rattle.click_router.specs.One as spec;
 
 use crate::call::{Call, Refusal, Reply, StepFault};
-use crate::classes::State;
 use crate::opening::Prepared;
+use click_classes::State;
 use click_text::sequence::Sequence;
 use itoa::Buffer;
 use std::alloc::{AllocError, Global};
@@ -54,39 +54,48 @@ fn number(alloc: Global, number: u64) -> Result<Reply, AllocError>
 }
 
 /// What a handler of an element reads.
-fn read_state(alloc: Global, state: State, handler: &[u8]) -> Result<Reply, AllocError>
-    ensures { IfOk result (λ reply. reply ≡ spec.read_state state handler.now) }
+fn read_state(alloc: Global, state: &State, handler: &[u8]) -> Result<Reply, AllocError>
+    ensures { IfOk result (λ reply. reply ≡ spec.read_state state.now handler.now) }
 {
     if let State::Counter { count, byte_count } = state {
         if handler == b"count".as_slice() {
-            return number(alloc, count);
+            return number(alloc, *count);
         }
         if handler == b"byte_count".as_slice() {
-            return number(alloc, byte_count);
+            return number(alloc, *byte_count);
         }
     }
     Ok(Reply::Refused(Refusal::NoHandler))
 }
 
 impl Prepared {
-    /// What the element of that name holds.
-    fn state(&self, name: &[u8]) -> Option<State>
-        ensures { result ≡ spec.state_at self.now.states (spec.place_of self.now name.now) }
+    /// Where the element of that name stands.
+    fn place(&self, name: &[u8]) -> Option<usize>
+        ensures { result ≡ spec.place_of self.now name.now }
     {
-        let place = self.names.place(name)?;
-        self.states.as_slice().get(place).copied()
+        self.names.place(name)
+    }
+
+    /// What a handler of the element of that name reads.
+    fn read_element(&self, alloc: Global, name: &[u8], handler: &[u8]) -> Result<Reply, AllocError>
+        ensures { IfOk result (λ reply. reply ≡ spec.read_at (spec.state_at self.now.states (spec.place_of self.now name.now)) handler.now) }
+    {
+        match self.place(name) {
+            None => Ok(Reply::Refused(Refusal::NoElement)),
+            Some(place) => match self.states.as_slice().get(place) {
+                None => Ok(Reply::Refused(Refusal::NoElement)),
+                Some(state) => read_state(alloc, state, handler),
+            },
+        }
     }
 
     /// What a handler reads, named as `element.handler`.
     fn read(&self, alloc: Global, name: &[u8]) -> Result<Reply, AllocError>
         ensures { IfOk result (λ reply. reply ≡ spec.read_name self.now name.now) }
     {
-        let Some(dot) = last_dot(name) else {
-            return Ok(Reply::Refused(Refusal::NoHandler));
-        };
-        match self.state(&name[..dot]) {
-            Some(state) => read_state(alloc, state, &name[dot + 1..]),
-            None => Ok(Reply::Refused(Refusal::NoElement)),
+        match last_dot(name) {
+            None => Ok(Reply::Refused(Refusal::NoHandler)),
+            Some(dot) => self.read_element(alloc, &name[..dot], &name[dot + 1..]),
         }
     }
 }

@@ -1,0 +1,5 @@
+use Rattle.click_ports.proofs.Telling.{CountedBelow}
+use Rattle.click_ports.proofs.counted.first_miscount.Given as goal
+
+abbrev pub invariant-loop-element : goal.invariant-loop-element
+invariant-loop-element l = CountedBelow l.layout.shapes l.layout.connections l.element

@@ -1,0 +1,15 @@
+pub mod Ports
+pub mod Links
+pub mod Kinds
+pub mod Lawful
+pub mod Breaches
+pub mod Net
+pub mod Wiring
+pub mod Used
+pub mod Numbered
+pub mod LaidOut
+pub mod Passages
+pub mod Ends
+pub mod Search
+pub mod Marks
+pub mod Kept

@@ -1,0 +1,50 @@
+-- What a contract sees of a net, and the net of a flat form and its elements' states.
+use Rattle.std.specs.Prelude.{◌≡◌, ℕ, ◌<◌, List, length, map, filter, All, Bool, ◌&&◌, nat_lt, Option, Some}
+use Rattle.click_classes.specs.declared.class.Class.{Class}
+use Rattle.click_classes.specs.declared.state.State.{State}
+use Rattle.click_classes.specs.Classes.{class_of}
+use Rattle.click_classes.specs.Counts.{counts}
+use Rattle.click_classes.specs.State.{class}
+use Rattle.click_expand.specs.declared.flat.FlatElement.{FlatElement}
+use Rattle.click_expand.specs.declared.flat.Connection.{Connection}
+use Rattle.click_expand.specs.declared.flat.Flat.{Flat}
+use Rattle.click_ports.specs.declared.shape.Shape.{Shape}
+use Rattle.click_ports.specs.Lawful.{Lawful}
+
+-- names and shapes of the elements in flat order, and the connections
+pub record Net : Type 0 where
+  pub names : List (List ℕ)
+  pub shapes : List Shape
+  pub connections : List Connection
+
+-- what the rules read of a state
+abbrev pub shape_of : State → Shape
+shape_of s = record { class = class s; counts = counts s }
+
+-- both ends of the connection are among so many elements
+abbrev pub is_there : ℕ → Connection → Bool
+is_there n c = nat_lt c.from n && nat_lt c.to n
+
+-- the connections that join two elements; one with an end at no element joins nothing
+abbrev pub joined : Flat → List Connection
+joined f = filter (is_there (length f.elements)) f.connections
+
+abbrev pub names_of : List FlatElement → List (List ℕ)
+names_of es = map (λ (e : FlatElement). e.name) es
+
+abbrev pub net_of : Flat → List State → Net
+net_of f states = record {
+  names = names_of f.elements;
+  shapes = map shape_of states;
+  connections = joined f;
+}
+
+-- one state for each element, of its class
+abbrev pub AreStatesOf : List FlatElement → List State → Type 0
+AreStatesOf es states = map (λ (e : FlatElement). class_of e.class) es ≡ map (λ (s : State). Some (class s)) states
+
+-- what each net keeps: a name for each element, connections between elements that are there, and the rules of ports
+pub record IsSound (net : Net) : Type 0 where
+  pub named : length net.names ≡ length net.shapes
+  pub within : All (λ (c : Connection). (c.from < length net.shapes) × (c.to < length net.shapes)) net.connections
+  pub lawful : Lawful net.shapes net.connections

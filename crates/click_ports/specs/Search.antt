@@ -1,0 +1,54 @@
+-- A search of a graph of ports, which knows of each port its code and the two rows of ports that it is linked with.
+use Rattle.std.specs.Prelude.{◌≡◌, ◌⊎◌, ℕ, ◌+◌, ◌<◌, ◌≤◌, List, [], ◌∷◌, length, Contains, slice_index_or, Bool, true, false, if◌then◌else◌}
+use Rattle.click_classes.specs.declared.ports.Code.{Code}
+use Rattle.click_classes.specs.declared.ports.Code.TheVariants.{Agnostic}
+
+abbrev pub code_of : List Code → ℕ → Code
+code_of codes x = slice_index_or codes x Agnostic
+
+abbrev pub row_of : List (List ℕ) → ℕ → List ℕ
+row_of rows x = slice_index_or rows x []
+
+-- a row of the port has the other one
+abbrev pub IsNext : List (List ℕ) → List (List ℕ) → ℕ → ℕ → Type 0
+IsNext outside inside x y = Contains (row_of outside x) y ⊎ Contains (row_of inside x) y
+
+-- so many ports, each with its rows, in which only such ports are
+pub record IsGraph (n : ℕ) (outside inside : List (List ℕ)) : Type 0 where
+  pub all_outside : length outside ≡ n
+  pub all_inside : length inside ≡ n
+  pub within : (x y : ℕ) → IsNext outside inside x y → y < n
+
+-- marks spread through ports of the code and agnostic ones
+abbrev pub IsOpen : List Code → Code → ℕ → Type 0
+IsOpen codes k x = (code_of codes x ≡ k) ⊎ (code_of codes x ≡ Agnostic)
+
+-- the marks begin at the ports of a code, and spread to what is linked with an open port that has a mark
+pub data Spreads (codes : List Code) (outside inside : List (List ℕ)) (k : Code) : ℕ → Type 0 where
+  begins : (x : ℕ) → x < length codes → code_of codes x ≡ k → Spreads codes outside inside k x
+  goes_on : (x y : ℕ) → Spreads codes outside inside k x → IsOpen codes k x → IsNext outside inside x y → Spreads codes outside inside k y
+
+abbrev pub IsMarked : List Bool → ℕ → Type 0
+IsMarked marks x = slice_index_or marks x false ≡ true
+
+-- how many ports have no mark
+abbrev pub unmarked : List Bool → ℕ
+unmarked [] = 0
+unmarked (m ∷ marks) = if m then unmarked marks else unmarked marks + 1
+
+-- what the marking of a row leaves
+pub record RowMarked (codes : List Code) (k : Code) (row : List ℕ) (marks : List Bool) (work : List ℕ) (marks' : List Bool) (work' : List ℕ) : Type 0 where
+  pub sized : length marks' ≡ length marks
+  pub kept : (x : ℕ) → IsMarked marks x → IsMarked marks' x
+  pub row_marked : (x : ℕ) → Contains row x → IsMarked marks' x
+  pub only : (x : ℕ) → IsMarked marks' x → IsMarked marks x ⊎ Contains row x
+  pub left : (x : ℕ) → Contains work x → Contains work' x
+  pub added : (x : ℕ) → IsMarked marks' x → IsOpen codes k x → IsMarked marks x ⊎ Contains work' x
+  pub only_added : (x : ℕ) → Contains work' x → Contains work x ⊎ (IsMarked marks' x × IsOpen codes k x)
+  pub less : unmarked marks' + length work' ≤ unmarked marks + length work
+
+-- the ports to which the marks spread, and no others, have one
+pub record AreMarked (codes : List Code) (outside inside : List (List ℕ)) (k : Code) (marks : List Bool) : Type 0 where
+  pub sized : length marks ≡ length codes
+  pub sound : (x : ℕ) → IsMarked marks x → Spreads codes outside inside k x
+  pub complete : (x : ℕ) → Spreads codes outside inside k x → IsMarked marks x

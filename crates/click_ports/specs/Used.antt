@@ -1,0 +1,11 @@
+-- A table of the numbers of ports.
+use Rattle.std.specs.Prelude.{◌≡◌, ℕ, ◌<◌, ◌≤◌, List, length, slice_index}
+use Rattle.click_classes.specs.declared.ports.Side.{Side}
+use Rattle.click_expand.specs.declared.flat.Connection.{Connection}
+use Rattle.click_ports.specs.Ports.{used}
+
+-- how many ports each of so many elements has at the side
+pub record AreUsed (cs : List Connection) (n : ℕ) (s : Side) (counts : List ℕ) : Type 0 where
+  pub all : length counts ≡ n
+  pub right : (e : ℕ) → e < n → slice_index counts e ≡ used cs e s
+  pub small : (e : ℕ) → e < n → slice_index counts e ≤ 256

@@ -1,0 +1,49 @@
+//! Which ports the connections join.
+
+ghost use Rattle.std.specs.Prelude.{◌≡◌, ◌<◌, [], ◌∷◌, ◌++◌, length, IfOk, OnOk, vec_len, slice_set, slice_index_or, replicate};
+ghost use Rattle.click_ports.specs.Ends.{AreEnds};
+
+use crate::layout::Layout;
+use crate::sizes::end_of;
+use click_classes::Side;
+use click_text::sequence::Sequence;
+use std::alloc::{AllocError, Global};
+
+/// So many empty rows.
+fn empty_rows(alloc: Global, count: usize) -> Result<Vec<Sequence<usize>>, AllocError>
+    ensures { IfOk result (λ rows. rows.items ≡ replicate count []) }
+{
+    let mut rows = Vec::new(alloc);
+    for _row in 0..count {
+        rows.push(Sequence::new(alloc))?;
+    }
+    Ok(rows)
+}
+
+/// Adds a number at the end of a row.
+fn add_to(
+    rows: &mut Vec<Sequence<usize>>,
+    row: usize,
+    number: usize,
+) -> Result<(), AllocError>
+    requires { row < vec_len rows.old }
+    ensures { OnOk result (rows.new.items ≡ slice_set rows.old.items row (slice_index_or rows.old.items row [] ++ number ∷ [])) }
+{
+    rows[row].push(number)
+}
+
+/// For each port the numbers of the ports at the other ends of its connections, one for each connection.
+pub fn ends_of(alloc: Global, layout: &Layout) -> Result<Vec<Sequence<usize>>, AllocError>
+    ensures { IfOk result (λ rows. AreEnds layout.now rows.items) }
+{
+    let mut rows = empty_rows(alloc, layout.ports().len())?;
+    for connection in layout.connections() {
+        let output = end_of(Side::Output, *connection);
+        let input = end_of(Side::Input, *connection);
+        let from = layout.number(output);
+        let to = layout.number(input);
+        add_to(&mut rows, from, to)?;
+        add_to(&mut rows, to, from)?;
+    }
+    Ok(rows)
+}

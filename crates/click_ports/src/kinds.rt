@@ -1,0 +1,52 @@
+//! Which ports are push and which are pull.
+
+ghost use Rattle.std.specs.Prelude.{length, IfOk};
+ghost use Rattle.click_classes.specs.declared.ports.Code.TheVariants.{Push, Pull};
+ghost use Rattle.click_ports.specs.Ends.{AreEnds};
+ghost use Rattle.click_ports.specs.Marks.{AreMarks, AreCodes};
+ghost use Rattle.click_ports.specs.Wiring.{AreWithin};
+
+use crate::layout::Layout;
+use crate::passages::all_passages;
+use crate::search::reaching;
+use click_classes::Code;
+use click_text::sequence::Sequence;
+use std::alloc::{AllocError, Global};
+
+/// Which ports reach a push port, and which a pull port.
+#[derive(Drop)]
+pub struct Kinds {
+    pub pushes: Vec<bool>,
+    pub pulls: Vec<bool>,
+}
+
+/// The code of each port.
+fn codes_of(alloc: Global, layout: &Layout) -> Result<Vec<Code>, AllocError>
+    ensures codes { IfOk result (λ codes. AreCodes layout.now codes.items) }
+    ensures within { AreWithin (length layout.now.shapes) layout.now.connections }
+{
+    let mut codes = Vec::new(alloc);
+    for port in layout.ports() {
+        codes.push(layout.code(*port))?;
+    }
+    Ok(codes)
+}
+
+/// The kinds of all ports, by the other ends of their connections.
+pub fn kinds_of(
+    alloc: Global,
+    layout: &Layout,
+    ends: &[Sequence<usize>],
+) -> Result<Kinds, AllocError>
+    requires { AreEnds layout.now ends.now }
+    ensures pushes { IfOk result (λ kinds. AreMarks layout.now Push kinds.pushes.items) }
+    ensures pulls { IfOk result (λ kinds. AreMarks layout.now Pull kinds.pulls.items) }
+{
+    let all_codes = codes_of(alloc, layout)?;
+    let all_inside = all_passages(alloc, layout)?;
+    let codes = all_codes.as_slice();
+    let inside = all_inside.as_slice();
+    let pushes = reaching(alloc, codes, ends, inside, Code::Push)?;
+    let pulls = reaching(alloc, codes, ends, inside, Code::Pull)?;
+    Ok(Kinds { pushes, pulls })
+}

@@ -1,0 +1,103 @@
+//! A lawful net.
+
+ghost use Rattle.std.specs.Prelude.{◌≡◌, ◌↔◌, ◌<◌, ◌≤◌, [], length, IfSome, IsSome, IsTrue, slice_index_or};
+ghost use Rattle.click_ports.specs.Kept.{IsKept};
+ghost use Rattle.click_ports.specs.Kinds.{IsPull};
+ghost use Rattle.click_ports.specs.Net.{IsSound};
+ghost use Rattle.click_ports.specs.Ports as spec;
+ghost use Rattle.click_ports.specs.Ports.{Has};
+
+use crate::layout::Layout;
+use crate::port::Port;
+use crate::shape::Shape;
+use click_classes::Side;
+use click_expand::Connection;
+use click_text::sequence::Sequence;
+use std::marker::Model;
+
+/// Elements and the connections between them, by which every port is push or pull and no rule of ports is broken.
+#[derive(Drop)]
+pub struct Net {
+    called: Sequence<Sequence<u8>>,
+    layout: Layout,
+    pulling: Vec<bool>,
+}
+
+impl Model for Net {
+    ghost use Rattle.click_ports.specs.Net.{Net as Seen};
+    ghost use Rattle.click_ports.specs.Kept.{IsKept};
+
+    ghost Value = { Seen };
+
+    ghost view = { λ n. record { names = n.called; shapes = n.layout.shapes; connections = n.layout.connections } };
+
+    ghost invariant = { λ n. IsKept n.called n.layout n.pulling.items };
+}
+
+impl Net {
+    /// The net of these parts.
+    pub(crate) fn of(
+        called: Sequence<Sequence<u8>>,
+        layout: Layout,
+        pulling: Vec<bool>,
+    ) -> Net
+        requires { IsKept called layout pulling.items }
+        ensures { result ≡ record { names = called; shapes = layout.shapes; connections = layout.connections } }
+    {
+        Net {
+            called,
+            layout,
+            pulling,
+        }
+    }
+
+    /// The element's flat name.
+    pub fn name(&self, element: usize) -> &[u8]
+        requires { element < length self.now.names }
+        ensures value { result.now ≡ slice_index_or self.now.names element [] }
+        ensures sound { IsSound self.now }
+    {
+        self.called.as_slice()[element].as_slice()
+    }
+
+    /// What the net knows of the elements' states, in flat order.
+    pub fn shapes(&self) -> &[Shape]
+        ensures value { result.now ≡ self.now.shapes }
+        ensures sound { IsSound self.now }
+    {
+        self.layout.shapes()
+    }
+
+    /// The connections, each between two elements of the net.
+    pub fn connections(&self) -> &[Connection]
+        ensures value { result.now ≡ self.now.connections }
+        ensures sound { IsSound self.now }
+    {
+        self.layout.connections()
+    }
+
+    /// How many ports the element has at the side.
+    pub fn used(&self, element: usize, side: Side) -> u16
+        requires { element < length self.now.shapes }
+        ensures value { result ≡ spec.used self.now.connections element side }
+        ensures small { result ≤ 256 }
+    {
+        self.layout.used(element, side)
+    }
+
+    /// Whether the port is pull, else it is push. None where the element has no such port.
+    pub fn pulls(&self, element: usize, side: Side, port: u16) -> Option<bool>
+        ensures there { IsSome result ↔ Has self.now.connections (record { element = element; side = side; number = port }) }
+        ensures pull { IfSome result (λ pull. IsTrue pull ↔ IsPull self.now.shapes self.now.connections (record { element = element; side = side; number = port })) }
+    {
+        if element >= self.layout.shapes().len() || port >= self.layout.used(element, side) {
+            return None;
+        }
+        let number = self.layout.number(Port {
+            element,
+            side,
+            number: port,
+        });
+        Some(self.pulling[number])
+    }
+}

@@ -1,0 +1,84 @@
+//! Which ports are linked inside their element.
+
+ghost use Rattle.std.specs.Prelude.{◌≡◌, ℕ, ◌<◌, ◌≤◌, length, true, IfOk};
+ghost use Rattle.click_classes.specs.Codes as codes;
+ghost use Rattle.click_ports.specs.Ports.{Has};
+ghost use Rattle.click_ports.specs.Passages as spec;
+ghost use Rattle.click_ports.specs.Passages.{IsRow, AreRows};
+
+use crate::layout::Layout;
+use crate::port::Port;
+use click_classes::{Class, Side, passes};
+use click_text::sequence::Sequence;
+use std::alloc::{AllocError, Global};
+
+/// The other side.
+fn opposite(side: Side) -> Side
+    ensures { result ≡ spec.opposite side }
+{
+    match side {
+        Side::Input => Side::Output,
+        Side::Output => Side::Input,
+    }
+}
+
+/// Which of so many ports of the other side may be passed to or from: those from the first number on, below the second.
+fn candidates(class: Class, number: u16, count: u16) -> (u16, u16)
+    ensures within { result.1 ≤ count }
+    ensures onward { (n : ℕ) → n < count → codes.passes class number n ≡ true → (result.0 ≤ n) × (n < result.1) }
+    ensures back { (n : ℕ) → n < count → codes.passes class n number ≡ true → (result.0 ≤ n) × (n < result.1) }
+{
+    match class {
+        Class::Idle => (0, 0),
+        Class::Suppressor if number < count => (number, number + 1),
+        Class::Suppressor => (0, 0),
+        _ => (0, count),
+    }
+}
+
+/// Whether packets pass between a port of that side and one of the other.
+fn passes_between(class: Class, side: Side, number: u16, other: u16) -> bool
+    ensures { result ≡ spec.passes_between class side number other }
+{
+    match side {
+        Side::Input => passes(class, number, other),
+        Side::Output => passes(class, other, number),
+    }
+}
+
+/// The numbers of the ports that the port is linked with inside its element.
+fn passages(alloc: Global, layout: &Layout, port: Port) -> Result<Sequence<usize>, AllocError>
+    requires there { Has layout.now.connections port }
+    requires within { port.element < length layout.now.shapes }
+    ensures { IfOk result (λ row. IsRow layout.now port row) }
+{
+    let mut row = Sequence::new(alloc);
+    if !layout.is_agnostic(port) {
+        return Ok(row);
+    }
+    let side = opposite(port.side);
+    let class = layout.class(port.element);
+    let (from, to) = candidates(class, port.number, layout.used(port.element, side));
+    for number in from..to {
+        let other = Port {
+            element: port.element,
+            side,
+            number,
+        };
+        if layout.is_agnostic(other) && passes_between(class, port.side, port.number, number) {
+            row.push(layout.number(other))?;
+        }
+    }
+    Ok(row)
+}
+
+/// For each port the numbers of the ports that it is linked with inside its element.
+pub fn all_passages(alloc: Global, layout: &Layout) -> Result<Vec<Sequence<usize>>, AllocError>
+    ensures { IfOk result (λ rows. AreRows layout.now rows.items) }
+{
+    let mut rows = Vec::new(alloc);
+    for port in layout.ports() {
+        rows.push(passages(alloc, layout, *port)?)?;
+    }
+    Ok(rows)
+}

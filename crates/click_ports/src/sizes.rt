@@ -1,0 +1,49 @@
+//! How many ports each element has.
+
+ghost use Rattle.std.specs.Prelude.{◌≡◌, ℕ, ◌<◌, ◌≤◌, IfOk, slice_index};
+ghost use Rattle.click_ports.specs.Ports as spec;
+ghost use Rattle.click_ports.specs.Used.{AreUsed};
+ghost use Rattle.click_ports.specs.Wiring.{AreWithin};
+
+use crate::port::Port;
+use click_classes::Side;
+use click_expand::Connection;
+use std::alloc::{AllocError, Global};
+
+/// The port that a connection joins at a side.
+pub fn end_of(side: Side, connection: Connection) -> Port
+    ensures is { result ≡ spec.end_of side connection }
+    ensures small { result.number < 256 }
+{
+    match side {
+        Side::Input => Port {
+            element: connection.to,
+            side,
+            number: u16::from(connection.in_port),
+        },
+        Side::Output => Port {
+            element: connection.from,
+            side,
+            number: u16::from(connection.out_port),
+        },
+    }
+}
+
+/// How many ports each of so many elements has at a side: one more than its highest connected one.
+pub fn used(
+    alloc: Global,
+    connections: &[Connection],
+    elements: usize,
+    side: Side,
+) -> Result<Vec<u16>, AllocError>
+    requires { AreWithin elements connections.now }
+    ensures { IfOk result (λ counts. AreUsed connections.now elements side counts.items) }
+{
+    let mut counts = vec![in alloc; 0u16; elements]?;
+    for connection in connections {
+        let port = end_of(side, *connection);
+        let count = counts[port.element].max(port.number + 1);
+        counts[port.element] = count;
+    }
+    Ok(counts)
+}
