@@ -20,7 +20,7 @@ use Rattle.click_ports.specs.Kept.{IsKept}
 use Rattle.click_ports.specs.Kinds.{IsPull}
 use Rattle.click_ports.specs.Lawful.{Lawful, AllCounted, AllConnected, NoneMixed, AllSingle}
 use Rattle.click_ports.specs.Marks.{AreMarks}
-use Rattle.click_ports.specs.Net.{Net, shape_of, is_there, joined, names_of, AreStatesOf}
+use Rattle.click_ports.specs.Net.{IsSound, Net, shape_of, is_there, joined, names_of, AreStatesOf}
 use Rattle.click_ports.specs.Ports.{Has, used}
 use Rattle.click_ports.specs.Wiring.{Wiring, AreWithin, number_of}
 use Rattle.click_ports.proofs.Lawfulness.{lawful-none}
@@ -76,22 +76,21 @@ kept-made es states names w pulls h p q i a b d s m = record {
   pulls = m;
 }
 
-module _ (n : Net) (names : List (List ℕ)) (w : Wiring) (pulls : List Bool) (seen : ◌≡◌ {A = Net} (record { names = names; shapes = w.shapes; connections = w.connections }) n) (k : IsKept names w pulls) where
-  seen_connections : w.connections ≡ n.connections
-  seen_connections = ap (λ (m : Net). m.connections) seen
+-- past the elements and past an element's ports there is none
+pub has-not : (n : Net) (p : Port) (len count : ℕ) → IsSound n → len ≡ length n.shapes → (len ≤ p.element) ⊎ ((count ≡ used n.connections p.element p.side) × (count ≤ p.number)) → Has n.connections p → ⊥
+has-not n p len count k e (inl l) h = let b = has-within (length n.shapes) n.connections p k.within h in omega (arith, b, l, e)
+has-not n p len count k e (inr (c, l)) h = omega (arith, h, l, c)
 
-  pub has-not : (p : Port) (len count : ℕ) → len ≡ length w.shapes → (len ≤ p.element) ⊎ ((count ≡ used w.connections p.element p.side) × (count ≤ p.number)) → Has n.connections p → ⊥
-  has-not p len count e (inl l) h =
-      let b = has-within (length w.shapes) w.connections p k.sound.within (subst (λ cs. Has cs p) (sym seen_connections) h) in omega (arith, b, l, e)
-  has-not p len count e (inr (c, l)) h = let b : Has w.connections p = subst (λ cs. Has cs p) (sym seen_connections) h in omega (arith, b, l, c)
-
-  pub pull-read : (p : Port) (i : ℕ) (b : Bool) → Has w.connections p → i ≡ number_of w.connections p → i < length pulls → b ≡ get_or pulls i b → (b ≡ true) ↔ IsPull n.shapes n.connections p
-  pull-read p i b h e l r =
-      let is : get_or pulls (number_of w.connections p) false ≡ b = mark-read pulls i (number_of w.connections p) b (sym e) l r in
-      let m = k.pulls.right p h in
-      let there : IsPull w.shapes w.connections p → IsPull n.shapes n.connections p = λ t. subst (λ (v : Net). IsPull v.shapes v.connections p) seen t in
-      let back : IsPull n.shapes n.connections p → IsPull w.shapes w.connections p = λ t. subst (λ (v : Net). IsPull v.shapes v.connections p) (sym seen) t in
-      ((λ t. there (m.0 (is ∙ t))), (λ t. sym is ∙ m.1 (back t)))
+-- what is read at a port's number
+pub pull-read : (n : Net) (names : List (List ℕ)) (w : Wiring) (pulls : List Bool) (p : Port) (i : ℕ) (b : Bool) → ◌≡◌ {A = Net} (record { names = names; shapes = w.shapes; connections = w.connections }) n →
+    IsKept names w pulls → Has n.connections p → i ≡ number_of w.connections p → i < length pulls → b ≡ get_or pulls i b → (b ≡ true) ↔ IsPull n.shapes n.connections p
+pull-read n names w pulls p i b seen k h e l r =
+    let here : Has w.connections p = subst (λ (m : Net). Has m.connections p) (sym seen) h in
+    let is : get_or pulls (number_of w.connections p) false ≡ b = mark-read pulls i (number_of w.connections p) b (sym e) l r in
+    let m = k.pulls.right p here in
+    let there : IsPull w.shapes w.connections p → IsPull n.shapes n.connections p = λ t. subst (λ (v : Net). IsPull v.shapes v.connections p) seen t in
+    let back : IsPull n.shapes n.connections p → IsPull w.shapes w.connections p = λ t. subst (λ (v : Net). IsPull v.shapes v.connections p) (sym seen) t in
+    ((λ t. there (m.0 (is ∙ t))), (λ t. sym is ∙ m.1 (back t)))
 
 -- one more element, with a state of its class
 pub states-more : (es made : List FlatElement) (states more : List State) (e : FlatElement) (s : State) → made ≡ es ++ e ∷ [] → more ≡ states ++ s ∷ [] → class_of e.class ≡ Some (class s) →

@@ -1,21 +1,21 @@
 //! The rules of ports: which nets are lawful, which ports are push and which are pull, and the first breach (Click manual, "Ports"; TOCS 2000).
 #![tactic(auto)]
 
-pub mod breaches;
-pub mod counted;
-pub mod ends;
+mod breaches;
+mod counted;
+mod ends;
 pub mod fault;
-pub mod kinds;
+mod kinds;
 pub mod laws;
-pub mod layout;
+mod layout;
 pub mod net;
-pub mod numbering;
-pub mod passages;
+mod numbering;
+mod passages;
 pub mod port;
-pub mod resolving;
-pub mod search;
+mod resolving;
+mod search;
 pub mod shape;
-pub mod sizes;
+mod sizes;
 
 pub use fault::{FaultKind, PortFault};
 pub use net::Net;

@@ -86,7 +86,7 @@ impl Net {
         ensures there { IsSome result ↔ Has self.now.connections (record { element = element; side = side; number = port }) }
         ensures pull { IfSome result (λ pull. IsTrue pull ↔ IsPull self.now.shapes self.now.connections (record { element = element; side = side; number = port })) }
     {
-        if element >= self.layout.shapes().len() || port >= self.layout.used(element, side) {
+        if element >= self.shapes().len() || port >= self.used(element, side) {
             return None;
         }
         let number = self.layout.number(Port {
