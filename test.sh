@@ -11,4 +11,5 @@ tools/element_pages.sh
 tools/refuse_each.sh
 tools/refuse_parse.sh
 tools/refuse_make.sh
+tools/refuse_prepare.sh
 exec rt ci

@@ -1,9 +1,9 @@
 #!/usr/bin/env bash
-# Parses each example of docs/LANGUAGE.md and docs/ELEMENTS.md and compares what is read with the line behind it. The program must have been built:
-# rt run click_bench.
+# Parses each example of docs/LANGUAGE.md and docs/ELEMENTS.md and compares what is read with the line behind it; where a fault stands behind that,
+# the router has to refuse the example with that line. The programs must have been built: rt run click_bench, rt run click_prog.
 set -eu
 cd "$(dirname "$0")/.."
-passed=0
+passed=0 refused=0
 text= inside=no
 while IFS= read -r line; do
     case "$inside:$line" in
@@ -17,7 +17,16 @@ while IFS= read -r line; do
             exit 1
         fi
         passed=$((passed + 1)) inside=no ;;
+    'no:Fault: '*)
+        status=0
+        told=$(crates/click_prog/out/click_prog -e "$text" < /dev/null 2>&1 > /dev/null) || status=$?
+        if [ "$status" != 1 ] || [ "$told" != "click_prog: ${line#Fault: }" ]; then
+            printf 'expected %s, told %s in:\n%s' "${line#Fault: }" "$told" "$text"
+            exit 1
+        fi
+        refused=$((refused + 1)) ;;
     esac
 done < <(cat docs/LANGUAGE.md docs/ELEMENTS.md)
 [ "$passed" = "$(cat docs/LANGUAGE.md docs/ELEMENTS.md | grep -c '^```click')" ]
-echo "$passed examples of the language read"
+[ "$refused" = "$(grep -c '^Fault: ' docs/LANGUAGE.md)" ]
+echo "$passed examples of the language read, $refused refused"
