@@ -1,6 +1,10 @@
 //! The router as a program: one control session on standard input and output.
 #![tactic(auto)]
 
+ghost use Rattle.std.specs.Prelude.{◌≡◌, ◌++◌, ◌∷◌, [], OnOk, codes};
+ghost use Rattle.std.specs.Io.KnownBytes.{Appends};
+ghost use Rattle.click_prog.specs.Statuses.{HasRun, status_of, config_status, unread_status};
+
 mod arguments;
 mod run;
 #[cfg(test)]
@@ -8,7 +12,7 @@ mod tests;
 
 use arguments::configuration;
 use clap::error::ErrorKind;
-use click_control::{Reading, ServeFault, Writing};
+use click_control::{Ended, Reading, ServeFault, Writing};
 use click_router::{ConfigFault, FaultKind};
 use run::{RunFault, run};
 use std::io::Write;
@@ -34,13 +38,13 @@ fn program(rt: &HostRuntime) -> Status {
     let alloc = rt.alloc();
     let words = match env::args(rt) {
         Ok(words) => words,
-        Err(error) => return unread(rt, error),
+        Err(error) => return unread(rt, error.kind()),
     };
     let Ok(words) = words.collect::<Vec<String>>(alloc) else {
         return Status::NoMemory;
     };
     match configuration(alloc, words.as_slice()) {
-        Ok(text) => session(rt, text.unwrap_or("").as_bytes()),
+        Ok(text) => session(rt, text.unwrap().as_bytes()),
         Err(error) if error.kind() == ErrorKind::OutOfMemory => Status::NoMemory,
         Err(error) => {
             // A failed write changes nothing of the status.
@@ -51,8 +55,10 @@ fn program(rt: &HostRuntime) -> Status {
 }
 
 /// Tells why the words of the command line cannot be read: memory ran out, or one of them is no text.
-fn unread(rt: &HostRuntime, error: io::Error) -> Status {
-    if error.kind() == io::ErrorKind::OutOfMemory {
+fn unread(rt: &HostRuntime, kind: io::ErrorKind) -> Status
+    ensures { result ≡ unread_status kind }
+{
+    if kind == io::ErrorKind::OutOfMemory {
         return Status::NoMemory;
     }
     // A failed write changes nothing of the status.
@@ -61,19 +67,33 @@ fn unread(rt: &HostRuntime, error: io::Error) -> Status {
 }
 
 /// Serves one session on standard input and output, over the router of the text.
-fn session(rt: &HostRuntime, text: &[u8]) -> Status {
+fn session(rt: &HostRuntime, text: &[u8]) -> Status
+    ensures { HasRun text.now result }
+{
     let mut reader = Reading::new(rt.stdin());
     let mut writer = Writing::new(rt.stdout());
-    match run(rt.alloc(), &mut reader, &mut writer, text, false) {
+    let ended = run(rt.alloc(), &mut reader, &mut writer, text, false);
+    status_of(rt, &ended)
+}
+
+/// The status of a run; the fault of a configuration is told.
+fn status_of(rt: &HostRuntime, ended: &Result<Ended, RunFault>) -> Status
+    ensures { result ≡ status_of ended.now }
+{
+    match ended {
         Ok(_) => Status::Good,
-        Err(RunFault::Config(fault)) => refused(rt, &fault),
+        Err(RunFault::Config(fault)) => refused(rt, fault),
         Err(RunFault::Serve(ServeFault::NoMemory)) => Status::NoMemory,
-        Err(RunFault::Serve(_)) => Status::DeviceFailed,
+        Err(RunFault::Serve(ServeFault::ReadFailed | ServeFault::WriteFailed)) => {
+            Status::DeviceFailed
+        }
     }
 }
 
 /// Tells why a configuration is refused.
-fn refused(rt: &HostRuntime, fault: &ConfigFault) -> Status {
+fn refused(rt: &HostRuntime, fault: &ConfigFault) -> Status
+    ensures { result ≡ config_status fault.now.kind }
+{
     if fault.kind == FaultKind::NoMemory {
         return Status::NoMemory;
     }
@@ -85,7 +105,10 @@ fn refused(rt: &HostRuntime, fault: &ConfigFault) -> Status {
     Status::FaultyConfiguration
 }
 
-fn told<W: Write>(to: &mut W, fault: &[u8]) -> io::Result<()> {
+/// Writes a fault as a line of the program's.
+fn told<W: Write>(to: &mut W, fault: &[u8]) -> io::Result<()>
+    ensures { OnOk result (Appends (W.contents to.old) (W.contents to.new) (codes "click_prog: " ++ fault.now ++ 10 ∷ [])) }
+{
     to.write_all(b"click_prog: ")?;
     to.write_all(fault)?;
     to.write_all(b"\n")
