@@ -9,9 +9,9 @@ use Rattle.std.proofs.lemmas.Option.{slice_get_within}
 use Rattle.click_text.specs.declared.syntax.Statement.{Statement}
 use Rattle.click_text.specs.declared.syntax.Config.{Config}
 use Rattle.click_expand.specs.Scopes.{Scope, Stands}
-use Rattle.click_expand.specs.Classes.{Meaning, primitive, compound}
+use Rattle.click_expand.specs.Classes.{primitive}
 use Rattle.click_expand.specs.Elements.{Local}
-use Rattle.click_expand.specs.Tables.{meaning_by, local_of}
+use Rattle.click_expand.specs.Tables.{meaning_by}
 use Rattle.click_expand.specs.Faults.{scope_locals}
 use Rattle.click_expand.specs.Parameters.{IsReplaced}
 use Rattle.click_expand.specs.Instances.{Leaf}

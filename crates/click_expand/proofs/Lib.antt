@@ -14,6 +14,7 @@ pub mod Valued
 pub mod ReadHomes
 pub mod Parting
 pub mod Unread
+pub mod Emptied
 pub mod Elemented
 pub mod Ordered
 pub mod Least

@@ -1,24 +1,23 @@
 -- What a text begins with, and what is read of the rest.
-use Rattle.std.proofs.Common.{◌≡◌, ℕ, zero, suc, ◌+◌, ◌-◌, ◌<◌, ◌≤◌, List, [], ◌∷◌, ◌++◌, length, take, drop, eqb, Bool, true, false, Option, Some, None, refl, sym, ap, ◌∙◌, subst, arith, length-drop}
+use Rattle.std.proofs.Common.{◌≡◌, ℕ, zero, suc, ◌-◌, ◌<◌, List, [], ◌∷◌, ◌++◌, take, drop, Option, Some, None, refl, sym, ap, ◌∙◌, subst, arith}
 use Rattle.std.specs.Prelude.{option_map}
 use Rattle.std.specs.List.{slice_get}
 use Rattle.click_text.specs.declared.items.ItemKind.{ItemKind}
 use Rattle.click_text.specs.declared.syntax.Config.{Config}
-use Rattle.click_text.specs.Items.{LongestItem, Item, item, AreItems, ended, next}
+use Rattle.click_text.specs.Items.{LongestItem, Item, item, AreItems, next}
 use Rattle.click_text.specs.Spans.{bytes_at}
 use Rattle.click_text.proofs.ItemReading.{items_once}
 use Rattle.click_text.proofs.ItemsExist.{reading}
-use Rattle.click_expand.specs.Parameters.{Formal, formal_at, value_by, found_bytes, found_size, replaced, value_in, IsReplaced}
+use Rattle.click_expand.specs.Parameters.{Formal, formal_at, value_by, found_bytes, found_size, replaced, value_in}
 use Rattle.click_expand.specs.Uses.{Used}
 use Rattle.click_expand.specs.Texts.{formal_of, formal_in}
 use Rattle.click_expand.specs.Values.{IsRead, IsValue}
-use Rattle.click_expand.specs.Spread.{IsReadAt, Parts}
+use Rattle.click_expand.specs.Spread.{Parts}
 use Rattle.click_expand.specs.declared.parameters.Parameter.{Parameter}
 use Rattle.click_expand.specs.declared.readings.Reading.{Reading}
 use Rattle.click_expand.specs.declared.texts.Part.TheVariants as part
 use Rattle.click_expand.proofs.Formals.{formal-here, replaced-skips}
 use Rattle.click_expand.proofs.ReadHomes.{value-of}
-use Rattle.click_expand.proofs.Valued.{some-same}
 
 module _ (value : List ℕ → Option (List ℕ)) where
   -- the first item of what is replaced

@@ -1,7 +1,8 @@
 -- What is left to read of a text, and that reading it ends.
-use Rattle.std.proofs.Common.{◌≡◌, ℕ, zero, suc, ◌+◌, ◌-◌, ◌<◌, ◌≤◌, List, [], ◌∷◌, ◌++◌, length, take, drop, Option, Some, None, refl, sym, ap, ◌∙◌, subst, arith, append_assoc, length-append, length-take}
+use Rattle.std.proofs.Common.{◌≡◌, ℕ, zero, suc, ◌+◌, ◌-◌, ◌<◌, ◌≤◌, List, [], ◌∷◌, ◌++◌, length, take, drop, refl, sym, ap, ◌∙◌, subst, arith, append_assoc, length-append, length-take}
 use Rattle.std.specs.List.{slice_get}
 use Rattle.std.proofs.lemmas.List.{append-nil, take_rest}
+use Rattle.std.proofs.lemmas.Option.{slice_get_within}
 use Rattle.click_text.specs.declared.syntax.Config.{Config}
 use Rattle.click_text.specs.Items.{AreItems, ended}
 use Rattle.click_expand.specs.Parameters.{replaced, value_in, IsReplaced}
@@ -111,7 +112,7 @@ module _ (c : Config) (known : List Used) where
   read-as r q n out i h =
       (h.0, ap (slice_get known) i.0 ∙ h.1, subst (λ z. IsReplaced c h.0.bindings (h.0.scope ∷ h.0.around) z out) (sym i.1) h.2)
 
-  read-none : (r : Reading) (out : List ℕ) → r.rest.now ≡ [] → IsRead c known r out → out ≡ []
+  pub read-none : (r : Reading) (out : List ℕ) → r.rest.now ≡ [] → IsRead c known r out → out ≡ []
   unfolding replaced
   read-none r out e h =
       let i = h.2 in
@@ -187,3 +188,8 @@ shorter-as text u bytes p q e h = subst (IsShorter text u bytes) e h
 
 pub part-as : (c : Config) (uses : List UseKept) (r : Reading) (p q : part.the_data) → p ≡ q → IsPart c uses r p → IsPart c uses r q
 part-as c uses r p q e h places known leaves whole are i = subst (Parts c known r.within r.rest.now whole) e (h places known leaves whole are i)
+
+-- what is read is read in a use that a table of all uses has
+pub within-table : (c : Config) (uses : List UseKept) (places : List Place) (known : List Used) (leaves : List Leaf) → AreUses c uses places known leaves → (n : ℕ) → n ≡ length uses → (r : Reading) (whole : List ℕ) →
+    IsRead c known r whole → r.within < n
+within-table c uses places known leaves are n e r whole h = let w = slice_get_within known r.within h.0 h.1 in let m = are.as_many in omega (arith, w, m, e)

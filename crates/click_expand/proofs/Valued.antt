@@ -1,28 +1,28 @@
 -- What stands for a parameter in a use, and where it is read.
-use Rattle.std.proofs.Common.{◌≡◌, inl, inr, ℕ, zero, suc, ◌+◌, ◌-◌, ◌<◌, ◌≤◌, List, [], ◌∷◌, ◌++◌, map, length, take, drop, Bool, true, false, cond, eqb, Vec, Global, Option, Some, None, refl, sym, ap, ◌∙◌, subst, arith, length-take, length-drop}
+use Rattle.std.proofs.Common.{◌≡◌, ℕ, zero, suc, ◌-◌, ◌<◌, ◌≤◌, List, [], ◌∷◌, length, drop, Bool, true, false, Vec, Global, Option, Some, None, refl, sym, ap, ◌∙◌, subst, arith, length-take, length-drop}
 use Rattle.std.specs.Prelude.{if◌then◌else◌}
 use Rattle.std.specs.List.{slice_get}
 use Rattle.std.specs.Str.{bytes_eq}
 use Rattle.std.proofs.lemmas.Option.{slice_get_within}
-use Rattle.std.proofs.lemmas.Bool.{cases_Bool, eq-eqb}
+use Rattle.std.proofs.lemmas.Bool.{eq-eqb}
 use Rattle.click_text.specs.declared.syntax.Span.{Span}
 use Rattle.click_text.specs.declared.syntax.Statement.{Statement}
 use Rattle.click_text.specs.declared.syntax.Config.{Config}
 use Rattle.click_text.specs.Arguments.{AreArguments}
-use Rattle.click_text.specs.Spans.{bytes_at, string_text}
-use Rattle.click_expand.specs.Scopes.{Scope, whole, inside, body_formals, formals_of, Stands}
+use Rattle.click_text.specs.Spans.{bytes_at}
+use Rattle.click_expand.specs.Scopes.{Scope, inside, body_formals, Stands}
 use Rattle.click_expand.specs.Classes.{compound}
 use Rattle.click_expand.specs.Elements.{Local, string_by}
-use Rattle.click_expand.specs.Tables.{local_of}
 use Rattle.click_expand.specs.Faults.{scope_locals}
-use Rattle.click_expand.specs.Parameters.{Bindings, arguments_for, argument_of, or_else, scope_value, value_in, IsReplaced}
+use Rattle.click_expand.specs.Parameters.{Bindings, arguments_for, argument_of, scope_value, IsReplaced}
 use Rattle.click_expand.specs.Instances.{Leaf, AreValues, no_values, next_value}
 use Rattle.click_expand.specs.Scoped.{place_of}
 use Rattle.click_expand.specs.Called.{AreAllArguments}
 use Rattle.click_expand.specs.Located.{AreAllLocals}
-use Rattle.click_expand.specs.Uses.{Used, IsInner, IsAround, IsHome, IsUse, IsLeaf, AreUses}
+use Rattle.click_expand.specs.Uses.{Used, IsAround, IsUse, AreUses}
 use Rattle.click_expand.specs.Texts.{span_beside}
-use Rattle.click_expand.specs.Values.{spans_by, spans_found, string_kept, string_found, IsRead, IsValue}
+use Rattle.click_expand.specs.Passing.{ArePassedTo}
+use Rattle.click_expand.specs.Values.{spans_by, spans_found, string_kept, string_found}
 use Rattle.click_expand.specs.declared.members.Local.{Local as LocalKept}
 use Rattle.click_expand.specs.declared.uses.Place.{Place}
 use Rattle.click_expand.specs.declared.uses.Use.{Use as UseKept}
@@ -90,12 +90,12 @@ module _ (c : Config) (uses : List UseKept) (places : List Place) (known : List 
   around-at u k x p h g e = subst (λ z. IsAround c known u x z) e (use-at u k x h g).around
 
   -- the parameters of a use's own body
-  pub own-value : (locals : List (Vec LocalKept Global)) (all : List (List (List Span))) → AreAllLocals c locals → AreAllArguments c all →
-      (u : ℕ) (k j : UseKept) (x : Used) (p : Place) (name : List ℕ) → slice_get uses u ≡ Some k → slice_get known u ≡ Some x → k.around ≡ Some p → slice_get uses p.within ≡ Some j →
+  pub own-value : (locals : List (Vec LocalKept Global)) (spans : List Span) → AreAllLocals c locals →
+      (u : ℕ) (k j : UseKept) (x : Used) (p : Place) (name : List ℕ) → slice_get uses u ≡ Some k → slice_get known u ≡ Some x → k.around ≡ Some p → slice_get uses p.within ≡ Some j → ArePassedTo c uses u spans →
       (o : Used) × (slice_get known p.within ≡ Some o) ×
       Beside c o.bindings (o.scope ∷ o.around) (string_found c.text (slice_get locals j.scope) p.element)
-      (span_beside c.text (body_formals (slice_get c.bodies k.scope)) (spans_found (slice_get all j.scope) p.element) name) (scope_value c x.bindings x.scope name)
-  own-value locals all hl ha u k j x p name h g e q =
+      (span_beside c.text (body_formals (slice_get c.bodies k.scope)) spans name) (scope_value c x.bindings x.scope name)
+  own-value locals spans hl u k j x p name h g e q ha =
       let n = use-at u k x h g in
       let a = around-at u k x p h g e in
       let o = a.1.0 in
@@ -104,15 +104,12 @@ module _ (c : Config) (uses : List UseKept) (places : List Place) (known : List 
       let ks : k.scope ≡ i.body = n.scope ∙ ap (place_of c) i.scope in
       let str : string_found c.text (slice_get locals j.scope) p.element ≡ i.local.text =
       ap (λ z. string_found c.text (slice_get locals z) p.element) m.scope ∙ string-is c locals hl o.scope o.visible o.around m.stands p.element i.local i.there in
-      let sps : spans_found (slice_get all j.scope) p.element ≡ i.spans =
-      ap (λ z. spans_found (slice_get all z) p.element) m.scope ∙ spans-are c all ha o.scope o.visible o.around m.stands p.element i.local i.body i.spans i.there i.meaning i.arguments in
-      let b = beside c o.bindings (o.scope ∷ o.around) i.local.text name (body_formals (slice_get c.bodies i.body)) i.spans i.values i.replaced in (
+      let b = beside c o.bindings (o.scope ∷ o.around) i.local.text name (body_formals (slice_get c.bodies i.body)) spans i.values (ha places known leaves are k p x o h e g a.1.1 i) in (
         o,
         a.1.1,
-        subst (λ z. Beside c o.bindings (o.scope ∷ o.around) z (span_beside c.text (body_formals (slice_get c.bodies k.scope)) (spans_found (slice_get all j.scope) p.element) name) (scope_value c x.bindings x.scope name)) (sym str)
-            (subst (λ z. Beside c o.bindings (o.scope ∷ o.around) i.local.text (span_beside c.text (body_formals (slice_get c.bodies z)) (spans_found (slice_get all j.scope) p.element) name) (scope_value c x.bindings x.scope name)) (sym ks)
-            (subst (λ z. Beside c o.bindings (o.scope ∷ o.around) i.local.text (span_beside c.text (body_formals (slice_get c.bodies i.body)) z name) (scope_value c x.bindings x.scope name)) (sym sps)
-            (subst (λ z. Beside c o.bindings (o.scope ∷ o.around) i.local.text (span_beside c.text (body_formals (slice_get c.bodies i.body)) i.spans name) z) (sym (scope-value-inner c o x i.body i.values name i.scope i.bindings)) b))),
+        subst (λ z. Beside c o.bindings (o.scope ∷ o.around) z (span_beside c.text (body_formals (slice_get c.bodies k.scope)) spans name) (scope_value c x.bindings x.scope name)) (sym str)
+            (subst (λ z. Beside c o.bindings (o.scope ∷ o.around) i.local.text (span_beside c.text (body_formals (slice_get c.bodies z)) spans name) (scope_value c x.bindings x.scope name)) (sym ks)
+            (subst (λ z. Beside c o.bindings (o.scope ∷ o.around) i.local.text (span_beside c.text (body_formals (slice_get c.bodies i.body)) spans name) z) (sym (scope-value-inner c o x i.body i.values name i.scope i.bindings)) b)),
       )
 
 -- no string is longer than the text

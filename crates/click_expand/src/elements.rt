@@ -11,6 +11,7 @@ ghost use Rattle.click_expand.specs.Flat.{flat_element, text_size, most_text};
 use crate::flat::FlatElement;
 use crate::flat_elements::element_at;
 use crate::members::Local;
+use crate::passed::all_spans;
 use crate::uses::Uses;
 use click_text::sequence::Sequence;
 use click_text::syntax::{Config, Span};
@@ -42,6 +43,7 @@ pub fn elements_of(
     ensures { IfOk result (λ r. (leaves : List Flattened) (known : List Used) → AreUses config.now uses.now.uses.items uses.now.leaves.items known leaves →
         MatchOption r (most_text < text_size leaves) (λ elements. (elements.items ≡ map flat_element leaves) × (text_size leaves ≤ most_text))) }
 {
+    let spans = all_spans(alloc, config, locals, arguments, uses.uses.as_slice())?;
     let mut room = MOST_TEXT;
     let mut elements = Vec::new(alloc);
     for place in uses.leaves.as_slice() {
@@ -49,7 +51,7 @@ pub fn elements_of(
             alloc,
             config,
             locals,
-            arguments,
+            spans.as_slice(),
             uses.uses.as_slice(),
             *place,
             room,

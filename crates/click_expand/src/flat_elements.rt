@@ -2,7 +2,7 @@
 
 ghost use Rattle.std.specs.Prelude.{◌≡◌, ◌<◌, ◌≤◌, ℕ, List, length, slice_get, Some, IfOk, MatchOption};
 ghost use Rattle.click_expand.specs.Located.{AreAllLocals};
-ghost use Rattle.click_expand.specs.Called.{AreAllArguments};
+ghost use Rattle.click_expand.specs.Passing.{ArePassed};
 ghost use Rattle.click_expand.specs.Instances.{Leaf as Flattened};
 ghost use Rattle.click_expand.specs.Uses.{Used, AreUses};
 ghost use Rattle.click_expand.specs.Flat.{flat_element};
@@ -41,13 +41,14 @@ pub fn element_at(
     alloc: Global,
     config: &Config,
     locals: &[Vec<Local>],
-    arguments: &[Sequence<Sequence<Span>>],
+    spans: &[Sequence<Span>],
     uses: &[Use],
     place: Place,
     room: usize,
 ) -> Result<Option<FlatElement>, AllocError>
     requires locals { AreAllLocals config.now locals.now }
-    requires arguments { AreAllArguments config.now arguments.now }
+    requires spans { ArePassed config.now uses.now spans.now }
+    requires all { length spans.now ≡ length uses.now }
     requires within { place.within < length uses.now }
     ensures { IfOk result (λ r. (places : List Placed) (known : List Used) (leaves : List Flattened) (n : ℕ) (leaf : Flattened) → AreUses config.now uses.now places known leaves →
         slice_get places n ≡ Some place → slice_get leaves n ≡ Some leaf → MatchOption r (room < length leaf.text) (λ e. (e ≡ flat_element leaf) × (length leaf.text ≤ room))) }
@@ -60,7 +61,7 @@ pub fn element_at(
         within: place.within,
         rest: string_at(text, locals, one.scope, place.element),
     };
-    let Some(replaced) = text_of(alloc, config, locals, arguments, uses, first, room)? else {
+    let Some(replaced) = text_of(alloc, config, locals, spans, uses, first, room)? else {
         return Ok(None);
     };
     Ok(Some(FlatElement {

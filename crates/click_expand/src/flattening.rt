@@ -264,3 +264,6 @@ pub fn flatten(alloc: Global, config: &Config) -> Result<Flat, ExpandFault>
         Err(refused) => Err(fault_of(alloc, refused)),
     }
 }
+
+#[cfg(test)]
+mod tests;

@@ -18,6 +18,7 @@ pub mod misused;
 pub mod names;
 pub mod order;
 pub mod parameters;
+pub mod passed;
 pub mod ports;
 pub mod readings;
 pub mod scopes;

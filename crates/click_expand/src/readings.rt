@@ -3,7 +3,7 @@
 ghost use Rattle.std.specs.Prelude.{◌≡◌, ℕ, ◌<◌, ◌≤◌, List, length, slice_get, ◌∷◌, Some, IfSome};
 ghost use Rattle.click_text.specs.Spans.{bytes_at};
 ghost use Rattle.click_expand.specs.Scopes.{body_formals};
-ghost use Rattle.click_expand.specs.Called.{AreAllArguments};
+ghost use Rattle.click_expand.specs.Passing.{ArePassed};
 ghost use Rattle.click_expand.specs.Located.{AreAllLocals};
 ghost use Rattle.click_expand.specs.Parameters.{scope_value, value_in};
 ghost use Rattle.click_expand.specs.Instances.{Leaf as Flattened};
@@ -36,7 +36,7 @@ fn formals_at(bodies: &[Body], scope: usize) -> &[Span]
 }
 
 /// Where the arguments of an element stand in its string.
-fn spans_at(arguments: &[Sequence<Sequence<Span>>], scope: usize, element: usize) -> &[Span]
+pub fn spans_at(arguments: &[Sequence<Sequence<Span>>], scope: usize, element: usize) -> &[Span]
     ensures { result.now ≡ spans_found (slice_get arguments.now scope) element }
 {
     let Some(one) = arguments.get(scope) else {
@@ -70,20 +70,23 @@ pub fn string_at<'a>(
 fn own_value<'a>(
     config: &'a Config,
     locals: &[Vec<Local>],
-    arguments: &[Sequence<Sequence<Span>>],
+    spans: &[Sequence<Span>],
     uses: &[Use],
     at: usize,
     name: &[u8],
 ) -> Option<Reading<'a>>
     requires locals { AreAllLocals config.now locals.now }
-    requires arguments { AreAllArguments config.now arguments.now }
-    ensures value { (places : List Placed) (known : List Used) (leaves : List Flattened) (x : Used) → AreUses config.now uses.now places known leaves → slice_get known at ≡ Some x →
+    requires spans { ArePassed config.now uses.now spans.now }
+    ensures value { (places : List Placed) (known : List Used) (leaves : List Flattened) (x : Used) → AreUses config.now uses.now places known leaves → slice_get known at ≡ Some x → at < length spans.now →
         IsValue config.now known result (scope_value config.now x.bindings x.scope name.now) }
     ensures before { IfSome result (λ r. r.within < at) }
     ensures short { IfSome result (λ r. length r.rest.now ≤ length config.now.text) }
 {
     let text = config.text.as_slice();
     if at >= uses.len() {
+        return None;
+    }
+    if at >= spans.len() {
         return None;
     }
     let one = &uses[at];
@@ -95,8 +98,8 @@ fn own_value<'a>(
     }
     let outer = &uses[place.within];
     let formals = formals_at(config.bodies.as_slice(), one.scope);
-    let spans = spans_at(arguments, outer.scope, place.element);
-    let Some(span) = argument_in(text, formals, spans, name) else {
+    let passed = spans[at].as_slice();
+    let Some(span) = argument_in(text, formals, passed, name) else {
         return None;
     };
     let string = string_at(text, locals, outer.scope, place.element);
@@ -110,21 +113,21 @@ fn own_value<'a>(
 pub fn value_at<'a>(
     config: &'a Config,
     locals: &[Vec<Local>],
-    arguments: &[Sequence<Sequence<Span>>],
+    spans: &[Sequence<Span>],
     uses: &[Use],
     from: usize,
     name: &[u8],
 ) -> Option<Reading<'a>>
     requires locals { AreAllLocals config.now locals.now }
-    requires arguments { AreAllArguments config.now arguments.now }
-    ensures value { (places : List Placed) (known : List Used) (leaves : List Flattened) (x : Used) → AreUses config.now uses.now places known leaves → slice_get known from ≡ Some x →
+    requires spans { ArePassed config.now uses.now spans.now }
+    ensures value { (places : List Placed) (known : List Used) (leaves : List Flattened) (x : Used) → AreUses config.now uses.now places known leaves → slice_get known from ≡ Some x → from < length spans.now →
         IsValue config.now known result (value_in config.now x.bindings (x.scope ∷ x.around) name.now) }
     ensures before { IfSome result (λ r. r.within < from) }
     ensures short { IfSome result (λ r. length r.rest.now ≤ length config.now.text) }
 {
     let mut at = from;
     'homes: loop {
-        if let Some(found) = own_value(config, locals, arguments, uses, at, name) {
+        if let Some(found) = own_value(config, locals, spans, uses, at, name) {
             return Some(found);
         }
         if at >= uses.len() {

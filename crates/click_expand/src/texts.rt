@@ -1,7 +1,7 @@
 //! Texts with their parameters replaced.
 
 ghost use Rattle.std.specs.Prelude.{◌≡◌, ℕ, ◌<◌, ◌≤◌, ◌++◌, ◌∷◌, [], List, length, take, drop, slice_get, Some, IfOk, OnOk, MatchOption};
-ghost use Rattle.click_expand.specs.Called.{AreAllArguments};
+ghost use Rattle.click_expand.specs.Passing.{ArePassed};
 ghost use Rattle.click_expand.specs.Located.{AreAllLocals};
 ghost use Rattle.click_expand.specs.Instances.{Leaf as Flattened};
 ghost use Rattle.click_expand.specs.Uses.{Used, AreUses};
@@ -26,23 +26,23 @@ pub enum Part<'a> {
 }
 
 /// What a text that is not empty begins with.
-fn part_of<'a>(
+pub fn part_of<'a>(
     config: &'a Config,
     locals: &[Vec<Local>],
-    arguments: &[Sequence<Sequence<Span>>],
+    spans: &[Sequence<Span>],
     uses: &[Use],
     reading: Reading<'a>,
 ) -> Part<'a>
     requires locals { AreAllLocals config.now locals.now }
-    requires arguments { AreAllArguments config.now arguments.now }
+    requires spans { ArePassed config.now uses.now spans.now }
     requires some { 0 < length reading.rest.now }
-    ensures parts { (places : List Placed) (known : List Used) (leaves : List Flattened) (whole : List ℕ) → AreUses config.now uses.now places known leaves → IsRead config.now known reading.entry whole →
+    ensures parts { (places : List Placed) (known : List Used) (leaves : List Flattened) (whole : List ℕ) → AreUses config.now uses.now places known leaves → IsRead config.now known reading.entry whole → reading.entry.within < length spans.now →
         Parts config.now known reading.entry.within reading.entry.rest.now whole result }
     ensures shorter { IsShorter config.now.text reading.entry.within reading.entry.rest.now result }
 {
     if let Some(parameter) = parameter_at(reading.rest) {
         let name = parameter.name.of(reading.rest);
-        if let Some(value) = value_at(config, locals, arguments, uses, reading.within, name) {
+        if let Some(value) = value_at(config, locals, spans, uses, reading.within, name) {
             return Part::Value(parameter.size, value);
         }
     }
@@ -63,13 +63,14 @@ pub fn text_of<'a>(
     alloc: Global,
     config: &'a Config,
     locals: &[Vec<Local>],
-    arguments: &[Sequence<Sequence<Span>>],
+    spans: &[Sequence<Span>],
     uses: &[Use],
     first: Reading<'a>,
     room: usize,
 ) -> Result<Option<Vec<u8>>, AllocError>
     requires locals { AreAllLocals config.now locals.now }
-    requires arguments { AreAllArguments config.now arguments.now }
+    requires spans { ArePassed config.now uses.now spans.now }
+    requires all { length spans.now ≡ length uses.now }
     ensures { IfOk result (λ r. (places : List Placed) (known : List Used) (leaves : List Flattened) (whole : List ℕ) → AreUses config.now uses.now places known leaves → IsRead config.now known first.entry whole →
         MatchOption r (room < length whole) (λ text. (text.items ≡ whole) × (length whole ≤ room))) }
 {
@@ -80,7 +81,7 @@ pub fn text_of<'a>(
         if reading.rest.is_empty() {
             continue;
         }
-        match part_of(config, locals, arguments, uses, reading) {
+        match part_of(config, locals, spans, uses, reading) {
             Part::Bytes(len) => {
                 if len > room - text.len() {
                     return Ok(None);

@@ -1,6 +1,6 @@
-use Rattle.std.proofs.Common.{◌≡◌, ◌<◌, ◌≤◌, ◌+◌, ◌++◌, ◌∷◌, [], ℕ, length, drop, take, refl, sym, ap, ◌∙◌, arith, rules, subst, length-append, length-take}
+use Rattle.std.proofs.Common.{◌≡◌, ◌++◌, ◌∷◌, [], length, take, refl, ap, ◌∙◌, arith, rules, length-append, length-take}
 use Rattle.click_expand.specs.declared.texts.Part.TheVariants as part
-use Rattle.click_expand.proofs.Unread.{to-read-first, to-read-empty, to-read-bytes, to-read-value, to-read-long, to-read-all, ends-empty, ends-bytes, ends-value, rest-of, no-length, shorter-as, part-as}
+use Rattle.click_expand.proofs.Unread.{to-read-first, to-read-empty, to-read-bytes, to-read-value, to-read-long, to-read-all, ends-empty, ends-bytes, ends-value, rest-of, no-length, shorter-as, part-as, within-table}
 use Rattle.click_expand.proofs.texts.text_of.Goals as goal
 
 pub readings-init : goal.readings-init
@@ -37,7 +37,7 @@ returns-then-len-room c places known leaves whole are h =
     let s = shorter-as C.text r.within r.rest.now c.part_of.result (part.Bytes n) c.in-Bytes.is c.part_of.ensures.shorter in
     let t = c.if-len-room.true in let v = c.len.ensures in let w = c.readings.invariant.within in
     to-read-long C us c.args.first c.readings.readings.items c.pop.new.self.items r c.readings.text.items is c.readings.invariant.told n c.args.room
-    (part-as C us r c.part_of.result (part.Bytes n) c.in-Bytes.is (λ p k l x a i. c.part_of.ensures.parts p k l x a i)) s.1 (omega (arith, t, v, w)) places known leaves whole are h
+    (part-as C us r c.part_of.result (part.Bytes n) c.in-Bytes.is (λ p k l x a i. c.part_of.ensures.parts p k l x a i (within-table C us p k l a (length c.args.spans.now) c.requires.all r x i))) s.1 (omega (arith, t, v, w)) places known leaves whole are h
 
 pub readings-smaller-in-Continue-branch-3 : goal.readings-smaller-in-Continue-branch-3
 readings-smaller-in-Continue-branch-3 c =
@@ -55,7 +55,7 @@ readings-preserved-in-Continue-branch-3 c =
     record {
       within = omega (arith, t, v, w, y, length-append c.readings.text.items (take n r.rest.now), length-take n r.rest.now);
       told = to-read-bytes C us c.args.first c.readings.readings.items c.pop.new.self.items r c.readings.text.items is c.readings.invariant.told n _ _ _
-          (part-as C us r c.part_of.result (part.Bytes n) c.in-Bytes.is (λ p k l x a i. c.part_of.ensures.parts p k l x a i)) (refl, rest-of n r.rest.now) c.in_ok-push_reading-in-Bytes.ensures x;
+          (part-as C us r c.part_of.result (part.Bytes n) c.in-Bytes.is (λ p k l x a i. c.part_of.ensures.parts p k l x a i (within-table C us p k l a (length c.args.spans.now) c.requires.all r x i))) (refl, rest-of n r.rest.now) c.in_ok-push_reading-in-Bytes.ensures x;
     }
 
 pub readings-smaller : goal.readings-smaller
@@ -73,5 +73,5 @@ readings-preserved c =
     record {
       within = c.readings.invariant.within;
       told = to-read-value C us c.args.first c.readings.readings.items c.pop.new.self.items r c.readings.text.items is c.readings.invariant.told n c.in-Value.value _ c.push_reading-in-Value.new.readings.items _
-          (part-as C us r c.part_of.result (part.Value n c.in-Value.value) c.in-Value.is (λ p k l x a i. c.part_of.ensures.parts p k l x a i)) (refl, rest-of n r.rest.now) c.in_ok-push_reading-in-Value.ensures c.in_ok-push_reading-in-Value-2.ensures;
+          (part-as C us r c.part_of.result (part.Value n c.in-Value.value) c.in-Value.is (λ p k l x a i. c.part_of.ensures.parts p k l x a i (within-table C us p k l a (length c.args.spans.now) c.requires.all r x i))) (refl, rest-of n r.rest.now) c.in_ok-push_reading-in-Value.ensures c.in_ok-push_reading-in-Value-2.ensures;
     }

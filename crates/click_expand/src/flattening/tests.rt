@@ -1,0 +1,64 @@
+//! Texts with their flat form, worked out by hand.
+
+use super::*;
+use crate::flat_text::flat_text;
+use click_text::parse;
+
+/// The flat form of the configuration that a text spells, if it has one.
+fn flattened(alloc: Global, text: &[u8]) -> Option<Flat> {
+    let config = parse(alloc, text).ok()?;
+    flatten(alloc, &config).ok()
+}
+
+/// The same as a text.
+fn written(alloc: Global, text: &[u8]) -> Option<Vec<u8>> {
+    let flat = flattened(alloc, text)?;
+    flat_text(alloc, &flat).ok()
+}
+
+#[test]
+fn compounds_inside_compounds(rt: HostRuntime) {
+    let text =
+        b"elementclass P { $n | input -> q :: Queue($n) -> u :: Unqueue -> output; } elementclass R { $m | input -> p :: P($m) -> output; } Idle -> x :: R(5) -> Discard;";
+    let want =
+        b"Idle@1 :: Idle;\nx/p/q :: Queue(5);\nx/p/u :: Unqueue;\nDiscard@3 :: Discard;\nIdle@1 -> x/p/q;\nx/p/q -> x/p/u;\nx/p/u -> Discard@3;\n";
+    let found = written(rt.alloc(), text.as_slice());
+    assert!(rt; matches!(&found, Some(flat) if flat.as_slice() == want.as_slice()));
+    assert_eq!(rt; want.len(), 128);
+}
+
+#[test]
+fn straight_through(rt: HostRuntime) {
+    let text = b"elementclass T { input -> output; } Idle -> T -> Discard;";
+    let want = b"Idle@1 :: Idle;\nDiscard@3 :: Discard;\nIdle@1 -> Discard@3;\n";
+    let found = written(rt.alloc(), text.as_slice());
+    assert!(rt; matches!(&found, Some(flat) if flat.as_slice() == want.as_slice()));
+}
+
+/// Compounds on so many levels, each of which gives the one inside twice its own first argument, the outermost with empty arguments.
+fn doubling(alloc: Global, levels: usize) -> Result<Vec<u8>, AllocError> {
+    let mut text = Vec::new(alloc);
+    text.extend_from_slice(b"elementclass D0 { $x, $y | Idle -> Strip(1$x) -> Discard }\n")?;
+    for inner in 0..levels {
+        let level = inner.wrapping_add(1);
+        let class = format!(in alloc; "elementclass D{level} {{ $x, $y | D{inner}($x$x, ) }}\n")?;
+        text.extend_from_slice(class.as_bytes())?;
+    }
+    let whole = format!(in alloc; "D{levels}(,)")?;
+    text.extend_from_slice(whole.as_bytes())?;
+    Ok(text)
+}
+
+/// What stands for nothing is not read again and again: with every level read twice this would not end.
+#[test]
+fn doubled_nothing(rt: HostRuntime) -> Result<(), AllocError> {
+    let text = doubling(rt.alloc(), 60)?;
+    let found = flattened(rt.alloc(), text.as_slice());
+    assert!(rt; matches!(&found, Some(flat) if flat.elements.len() == 3));
+    if let Some(flat) = &found {
+        let strip = &flat.elements.as_slice()[1];
+        assert_eq!(rt; strip.class.as_slice(), b"Strip".as_slice());
+        assert_eq!(rt; strip.text.as_slice(), b"1".as_slice());
+    }
+    Ok(())
+}
