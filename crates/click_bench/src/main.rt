@@ -1,14 +1,15 @@
-//! Parses large texts and makes elements with many arguments, to be measured from outside; it prints sizes and counts alone. With no arguments it
-//! does all it can at the greatest sizes. Else:
+//! Parses large texts, makes elements with many arguments and prepares routers, to be measured from outside; it prints sizes and counts alone.
+//! With no arguments it does all it can at the greatest sizes. Else:
 //!
 //! - `KIND SIZE` parses a text of that kind and size in bytes: its kind, its size, how many statements and bodies it has;
-//! - `input` parses what stands on standard input, `flat` expands it too;
+//! - `input` parses what stands on standard input, `flat` expands it too, and `router` prepares a router from it;
 //! - `lookup COUNT`, `classifier COUNT` make an element of that many arguments;
 //! - `make CLASS` makes an element of the class with the configuration string on standard input.
 #![tactic(auto)]
 
 mod expanding;
 mod making;
+mod preparing;
 
 use click_classes::Class;
 use click_text::{LONGEST_TEXT, parse};
@@ -129,6 +130,7 @@ fn run(rt: &HostRuntime) -> io::Result<()> {
         match word.as_str() {
             "input" => return read_input(rt),
             "flat" => return expanding::input(rt),
+            "router" => return preparing::input(rt),
             _ => {}
         }
     }

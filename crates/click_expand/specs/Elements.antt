@@ -135,10 +135,3 @@ locals_from text in_body declared n [] = []
 locals_from text in_body declared n (p ∷ ps) =
     let r = role text in_body declared p.element in
     local_by r (local text n p) (locals_from text in_body declared (counts r n) ps)
-
--- the local names that these go by, one for each as written
-unfoldable pub names_from : List ℕ → Bool → List (List ℕ) → ℕ → List Placed → List (List ℕ)
-names_from text in_body declared n [] = []
-names_from text in_body declared n (p ∷ ps) =
-    let r = role text in_body declared p.element in
-    name_by text n p.element.head r ∷ names_from text in_body declared (counts r n) ps
