@@ -55,6 +55,7 @@ pub mod Answering
 pub mod Indexing
 pub mod Derived
 pub mod Searching
+pub mod LeadingThrough
 pub mod Chains
 pub mod Following
 pub mod Gathering
