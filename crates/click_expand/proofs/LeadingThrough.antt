@@ -1,5 +1,5 @@
 -- A search through a scope finds the outputs that connections from one of its inputs lead to.
-use Rattle.std.proofs.Common.{◌≡◌, ◌⊎◌, inl, inr, ℕ, ◌+◌, ◌<◌, ◌≤◌, zero, suc, List, [], ◌∷◌, ◌++◌, length, get_or, take, Option, Some, None, Contains, refl, sym, ap, ◌∙◌, subst, arith}
+use Rattle.std.proofs.Common.{◌≡◌, ◌⊎◌, inl, inr, ℕ, ◌+◌, ◌<◌, ◌≤◌, zero, suc, List, [], ◌∷◌, ◌++◌, length, get_or, take, Option, Some, Contains, refl, sym, ap, ◌∙◌, subst, arith}
 use Rattle.std.specs.List.{slice_get}
 use Rattle.std.proofs.lemmas.Bool.{cases_order}
 use Rattle.std.proofs.lemmas.List.{take_more}
@@ -12,9 +12,9 @@ use Rattle.click_expand.specs.declared.joints.Owner.TheVariants as owner
 use Rattle.click_expand.specs.declared.starts.Port.{Port}
 use Rattle.click_expand.specs.declared.starts.Index.{Index}
 use Rattle.click_expand.specs.Wiring.{port, same_port, ends_in, Gains, HasAll}
-use Rattle.click_expand.specs.Through.{index_ends, ends_at, Runs, joined, over, Lands, on_element, inside, LeadsThrough, StandsIn, same, alike, AreStoodFor, AreShortened, IsOutputOf, GoesOver, GoesOut, AllLeadThrough, Passes, AreEndsOf, LeadAlike}
+use Rattle.click_expand.specs.Through.{index_ends, Runs, joined, over, Lands, on_element, inside, LeadsThrough, StandsIn, same, alike, AreStoodFor, AreShortened, IsOutputOf, GoesOver, GoesOut, AllLeadThrough, Passes, AreEndsOf, LeadAlike}
 use Rattle.click_expand.proofs.Indexing.{port-exact}
-use Rattle.click_expand.proofs.Searching.{contains-at, at-contains, gains-none, gains-trans, gains-kept, gains-cases, gains-length, gains-at, gains-insert, gains-weaken}
+use Rattle.click_expand.proofs.Searching.{contains-at, at-contains, gains-none, gains-trans, gains-kept, gains-cases, gains-at, gains-insert, gains-weaken}
 
 some_same : {X : Type 0} {x y : X} → Some x ≡ Some y → x ≡ y
 some_same h = cc h
@@ -42,15 +42,16 @@ module _ (element : ℕ) where
   outputs-push t e a b x h new =
       let here = port (owner.Element element) e.number in
       let now : IsOutputOf element (t ++ e ∷ []) here = (e, Contains-append_right t (e ∷ []) e (0, omega arith, refl), refl) in
-      let one = gains-insert (IsOutputOf element (t ++ e ∷ [])) same_port b x here new now in
-      (gains-trans (IsOutputOf element (t ++ e ∷ [])) a b x
-      (gains-weaken (IsOutputOf element t) (IsOutputOf element (t ++ e ∷ [])) a b (λ p m. (m.0, Contains-append_left t (e ∷ []) m.0 m.1, m.2)) h.0) one,
-      λ p m. elim (Contains-append_cases t (e ∷ []) m.0 m.1) [
-        | inl o ↦ gains-kept (IsOutputOf element (t ++ e ∷ [])) b x one p (h.1 p (m.0, o, m.2))
-        | inr o ↦
-            subst (Contains x) (ap (λ (q : Port). port (owner.Element element) q.number) (contains-single e m.0 o) ∙ sym m.2)
-            (subst (λ (l : List Port). Contains l here) (sym new) (Contains-insert_key same_port port-exact b here))
-      ])
+      let one = gains-insert (IsOutputOf element (t ++ e ∷ [])) same_port b x here new now in (
+        gains-trans (IsOutputOf element (t ++ e ∷ [])) a b x
+            (gains-weaken (IsOutputOf element t) (IsOutputOf element (t ++ e ∷ [])) a b (λ p m. (m.0, Contains-append_left t (e ∷ []) m.0 m.1, m.2)) h.0) one,
+        λ p m. elim (Contains-append_cases t (e ∷ []) m.0 m.1) [
+          | inl o ↦ gains-kept (IsOutputOf element (t ++ e ∷ [])) b x one p (h.1 p (m.0, o, m.2))
+          | inr o ↦
+              subst (Contains x) (ap (λ (q : Port). port (owner.Element element) q.number) (contains-single e m.0 o) ∙ sym m.2)
+              (subst (λ (l : List Port). Contains l here) (sym new) (Contains-insert_key same_port port-exact b here))
+        ],
+      )
 
   -- each insertion adds an output of that number
   pub outputs-next : (outs : List Port) (i : ℕ) (e d : Port) (a b x : List Port) → i < length outs → e ≡ get_or outs i d →
@@ -87,7 +88,7 @@ module _ (ends : ℕ → Port → List Port) (body : ℕ → ℕ → Option ℕ)
         number = k;
         is = ap (λ x. port (owner.Element x) k) e;
         lead = λ other c w.
-          subst (λ (x : ℕ). LeadsThrough ends body x n (short x (port owner.Input k))) (some_same (sym b ∙ ap (body s) e ∙ c)) l;
+            subst (λ (x : ℕ). LeadsThrough ends body x n (short x (port owner.Input k))) (some_same (sym b ∙ ap (body s) e ∙ c)) l;
       }
 
   -- where all connections from a port lead to outputs of the scope, nothing else can be reached
@@ -102,9 +103,12 @@ module _ (ends : ℕ → Port → List Port) (body : ℕ → ℕ → Option ℕ)
 
   stood-out : (s n : ℕ) (outs : List Port) → AreStoodFor ends body short s (ends s (port owner.Input n)) outs → ((p : Port) → Contains outs p → p.owner ≡ owner.Output) → LeadsThrough ends body s n outs
   stood-out s n outs stood all = record {
-    sound = λ p h. (p.number, port-of p owner.Output (all p h),
-        let r = stood.back p h in
-        joined s (port owner.Input n) p (subst (Contains (ends s (port owner.Input n))) (stands-same s r.0 p r.2 (inl (all p h))) r.1));
+    sound = λ p h. (
+      p.number,
+      port-of p owner.Output (all p h),
+      let r = stood.back p h in
+          joined s (port owner.Input n) p (subst (Contains (ends s (port owner.Input n))) (stands-same s r.0 p r.2 (inl (all p h))) r.1),
+    );
     complete = λ m r. (let w = stood.each (port owner.Output m) (runs-out s (port owner.Input n) (port owner.Output m) out r) in
         subst (Contains outs) (sym (stands-same s (port owner.Output m) w.0 w.2 (inr refl))) w.1);
     past = lands-out s (port owner.Input n) out;
@@ -120,14 +124,15 @@ module _ (ends : ℕ → Port → List Port) (body : ℕ → ℕ → Option ℕ)
       ((p : Port) → Contains outs p → p.owner ≡ owner.Output) → (outs ≡ short b (port owner.Input n)) × LeadsThrough ends body b n outs
   leads-through done b n x outs h there is all =
       let within = slice_get_within done b x there in
-      let short_is : short b (port owner.Input n) ≡ outs = h.is b (port owner.Input n) within ∙ ap (λ o. index_ends o (port owner.Input n)) there ∙ sym is in
-      (sym short_is,
-      elim (h.each b within (port owner.Input n)) [
-        | inl o ↦ stood-out b n outs (subst (AreStoodFor ends body short b (ends b (port owner.Input n))) short_is o) all
-        | inr o ↦
-            (let e : o.0 ≡ n = sym (ap (λ (p : Port). p.number) o.1) in
-            subst (LeadsThrough ends body b n) short_is (subst (λ (m : ℕ). LeadsThrough ends body b m (short b (port owner.Input n))) e o.2))
-      ])
+      let short_is : short b (port owner.Input n) ≡ outs = h.is b (port owner.Input n) within ∙ ap (λ o. index_ends o (port owner.Input n)) there ∙ sym is in (
+        sym short_is,
+        elim (h.each b within (port owner.Input n)) [
+          | inl o ↦ stood-out b n outs (subst (AreStoodFor ends body short b (ends b (port owner.Input n))) short_is o) all
+          | inr o ↦
+              (let e : o.0 ≡ n = sym (ap (λ (p : Port). p.number) o.1) in
+              subst (LeadsThrough ends body b n) short_is (subst (λ (m : ℕ). LeadsThrough ends body b m (short b (port owner.Input n))) e o.2))
+        ],
+      )
 
   module _ (s : ℕ) where
     pub passes-none : (seen outs : List Port) → Passes ends body short s [] seen seen outs outs
@@ -220,16 +225,20 @@ module _ (ends : ℕ → Port → List Port) (body : ℕ → ℕ → Option ℕ)
           let element : h.element ≡ i = cc (x, is) in
           let number : h.number ≡ e.number = cc x in
           let in_same : h.inner ≡ inner = some_same (sym h.is_body ∙ ap (body s) element ∙ b) in
-          all p (h.behind,
-          subst (λ (l : List Port). Contains l h.behind) (ap (λ n. short h.inner (port owner.Input n)) number ∙ ap (λ c. short c (port owner.Input e.number)) in_same ∙ sym short_is) h.out,
-          h.is ∙ ap (λ c. port (owner.Element c) h.behind.number) element));
+          all p (
+            h.behind,
+            subst (λ (l : List Port). Contains l h.behind) (ap (λ n. short h.inner (port owner.Input n)) number ∙ ap (λ c. short c (port owner.Input e.number)) in_same ∙ sym short_is) h.out,
+            h.is ∙ ap (λ c. port (owner.Element c) h.behind.number) element,
+          ));
       outs = gains-none (GoesOut (e ∷ [])) outs;
       outs_all = λ p h. absurd (let x = contains-single e p h.0 in let y = h.1 in cc (x, is, y));
       through = λ j n h. (let x = contains-single e (port (owner.Element j) n) h in
           let element : i ≡ j = cc (x, is) in
-          let number : e.number ≡ n = cc x in
-          (inner, ap (body s) (sym element) ∙ b,
-          subst (λ (m : ℕ). LeadsThrough ends body inner m (short inner (port owner.Input m))) number (subst (LeadsThrough ends body inner e.number) short_is lead)));
+          let number : e.number ≡ n = cc x in (
+            inner,
+            ap (body s) (sym element) ∙ b,
+            subst (λ (m : ℕ). LeadsThrough ends body inner m (short inner (port owner.Input m))) number (subst (LeadsThrough ends body inner e.number) short_is lead),
+          ));
     }
 
     -- nothing more is to be seen or found behind these ends, and each of them leads through
@@ -288,30 +297,33 @@ module _ (ends : ℕ → Port → List Port) (body : ℕ → ℕ → Option ℕ)
 
         reached-next : (t : Port) → IsReached t → AllLeadThrough ends body short s (here t) → (p : Port) → GoesOver body short s (here t) p → IsReached p
         reached-next t reached all p h = inr (λ n like b m.
-          let q = port (owner.Element h.element) h.number in
-          let met = is-met t reached n like q h.there in
-          let x = stands-before s met.met q met.stands h.element (inr refl) in
-          let number : x.number ≡ h.number = sym (ap (λ (p : Port). p.number) x.is) in
-          let a = all h.element h.number h.there in
-          let inner : a.0 ≡ h.inner = some_same (sym a.1 ∙ h.is_body) in
-          let lead : LeadsThrough ends body h.inner x.number (short h.inner (port owner.Input x.number)) =
+            let q = port (owner.Element h.element) h.number in
+            let met = is-met t reached n like q h.there in
+            let x = stands-before s met.met q met.stands h.element (inr refl) in
+            let number : x.number ≡ h.number = sym (ap (λ (p : Port). p.number) x.is) in
+            let a = all h.element h.number h.there in
+            let inner : a.0 ≡ h.inner = some_same (sym a.1 ∙ h.is_body) in
+            let lead : LeadsThrough ends body h.inner x.number (short h.inner (port owner.Input x.number)) =
             subst (λ (k : ℕ). LeadsThrough ends body h.inner k (short h.inner (port owner.Input k))) (sym number)
             (subst (λ (c : ℕ). LeadsThrough ends body c h.number (short c (port owner.Input h.number))) inner a.2) in
-          let out : Contains (short h.inner (port owner.Input x.number)) h.behind =
+            let out : Contains (short h.inner (port owner.Input x.number)) h.behind =
             subst (λ (k : ℕ). Contains (short h.inner (port owner.Input k)) h.behind) (sym number) h.out in
-          let r = (x.lead h.inner h.is_body lead).sound h.behind out in
-          let to : p ≡ port (owner.Element h.element) r.0 = h.is ∙ ap (λ (y : Port). port (owner.Element h.element) y.number) r.1 in
-          over s h.element x.outer h.inner r.0 (port owner.Input n) b (subst (Runs ends body s (port owner.Input n)) x.outer_is met.runs) h.is_body
-          (subst (Runs ends body h.inner (port owner.Input x.outer)) r.1 r.2)
-          (joined s (port (owner.Element h.element) r.0) b (subst (λ (y : Port). Contains (ends s y) b) to m)))
+            let r = (x.lead h.inner h.is_body lead).sound h.behind out in
+            let to : p ≡ port (owner.Element h.element) r.0 = h.is ∙ ap (λ (y : Port). port (owner.Element h.element) y.number) r.1 in
+            over s h.element x.outer h.inner r.0 (port owner.Input n) b (subst (Runs ends body s (port owner.Input n)) x.outer_is met.runs) h.is_body
+            (subst (Runs ends body h.inner (port owner.Input x.outer)) r.1 r.2)
+            (joined s (port (owner.Element h.element) r.0) b (subst (λ (y : Port). Contains (ends s y) b) to m)))
 
         -- an output of the scope that connections lead to, from each input with the same ends as the first
         abbrev pub IsSound : Port → Type 0
         IsSound p = (p.owner ≡ owner.Output) × ((n : ℕ) → here (port owner.Input n) ≡ here from → Runs ends body s (port owner.Input n) p)
 
         sound-next : (t : Port) → IsReached t → (p : Port) → GoesOut (here t) p → IsSound p
-        sound-next t reached p h = (h.1, λ n like. let met = is-met t reached n like p h.0 in
-            subst (Runs ends body s (port owner.Input n)) (stands-same s met.met p met.stands (inl h.1)) met.runs)
+        sound-next t reached p h = (
+          h.1,
+          λ n like. let met = is-met t reached n like p h.0 in
+              subst (Runs ends body s (port owner.Input n)) (stands-same s met.met p met.stands (inl h.1)) met.runs,
+        )
 
         -- A search from a port has gone on from the first of the ports that are seen.
         pub record Goes (seen outs : List Port) (at : ℕ) : Type 0 where
@@ -378,9 +390,9 @@ module _ (ends : ℕ → Port → List Port) (body : ℕ → ℕ → Option ℕ)
       let y = meets s seen outs (ends s x.by) (here x.by) x.closed (are x.by) i n x.joined in
       let c : y.inner ≡ inner = some_same (sym y.is_body ∙ e) in
       let out : Contains (short y.inner (port owner.Input y.number)) (port owner.Output m) =
-        y.lead.complete m (subst (λ (k : ℕ). Runs ends body k (port owner.Input n) (port owner.Output m)) (sym c) t) in
+      y.lead.complete m (subst (λ (k : ℕ). Runs ends body k (port owner.Input n) (port owner.Output m)) (sym c) t) in
       let on : Contains seen (port (owner.Element i) m) =
-        x.closed.seen_all (port (owner.Element i) m) (record { element = i; number = y.number; there = y.there; inner = y.inner; is_body = y.is_body; behind = port owner.Output m; out = out; is = refl }) in
+      x.closed.seen_all (port (owner.Element i) m) (record { element = i; number = y.number; there = y.there; inner = y.inner; is_body = y.is_body; behind = port owner.Output m; out = out; is = refl }) in
       runs-reach s here are seen outs all (port (owner.Element i) m) b (all (port (owner.Element i) m) on) u
 
   lands-never : (s : ℕ) (here : Port → List Port) (are : AreEndsOf ends body short s here) (seen outs : List Port) → ((t : Port) → Contains seen t → IsClosed s seen outs (here t)) →
@@ -402,9 +414,9 @@ module _ (ends : ℕ → Port → List Port) (body : ℕ → ℕ → Option ℕ)
       record {
         sound = λ p h. (let r = w.sound p h in (p.number, port-of p owner.Output r.0, r.1 n like));
         complete = λ m r.
-          (let x = runs-reach s here are seen outs all (port owner.Input n) (port owner.Output m) first r in
-          let y = (are x.by).each (port owner.Output m) x.joined in
-          x.closed.outs_all (port owner.Output m) (subst (Contains (here x.by)) (sym (stands-same s (port owner.Output m) y.0 y.2 (inr refl))) y.1, refl));
+            (let x = runs-reach s here are seen outs all (port owner.Input n) (port owner.Output m) first r in
+            let y = (are x.by).each (port owner.Output m) x.joined in
+            x.closed.outs_all (port owner.Output m) (subst (Contains (here x.by)) (sym (stands-same s (port owner.Output m) y.0 y.2 (inr refl))) y.1, refl));
         past = lands-never s here are seen outs all (port owner.Input n) first;
       }
     where

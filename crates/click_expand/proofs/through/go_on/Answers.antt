@@ -1,4 +1,4 @@
-use Rattle.std.proofs.Common.{◌≡◌, ◌∙◌, Bool, List, get_or, take, refl, subst, sym, arith}
+use Rattle.std.proofs.Common.{◌≡◌, Bool, List, get_or, refl, subst, arith}
 use Rattle.std.proofs.lemmas.List.{take_all}
 use Rattle.indexmap.specs.IndexSet.{insert_key}
 use Rattle.click_expand.specs.declared.joints.Owner.TheVariants as owner

@@ -8,7 +8,7 @@ use Rattle.click_expand.proofs.through.outputs_from.Given as goal
 abbrev pub invariant-loop-at : goal.invariant-loop-at
 invariant-loop-at l =
     (ends short : ℕ → Port → List Port) → AreShortened ends (body_at l.locals) short l.done → (are : AreEndsOf ends (body_at l.locals) short l.scope (ends_in l.index.ends.entries)) →
-      Goes ends (body_at l.locals) short l.scope (ends_in l.index.ends.entries) are l.fn.from l.seen.keys l.outputs.keys l.at
+    Goes ends (body_at l.locals) short l.scope (ends_in l.index.ends.entries) are l.fn.from l.seen.keys l.outputs.keys l.at
 
 abbrev pub decreases-loop-at : goal.decreases-loop-at
 decreases-loop-at l = 18446744073709551616 - l.at
