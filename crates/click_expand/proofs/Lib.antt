@@ -61,3 +61,4 @@ pub mod Following
 pub mod Gathering
 pub mod Connected
 pub mod FlatNaming
+pub mod FoundShortcuts
