@@ -58,6 +58,8 @@ pub mod Searching
 pub mod LeadingThrough
 pub mod Chains
 pub mod Following
+pub mod NestedUses
+pub mod Shortcuts
 pub mod Gathering
 pub mod Connected
 pub mod FlatNaming
