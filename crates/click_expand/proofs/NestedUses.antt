@@ -1,11 +1,10 @@
 -- Each element of a use is a flat element or the use of its body.
-use Rattle.std.proofs.Common.{◌≡◌, ℕ, zero, suc, List, [], ◌∷◌, length, map, Option, Some, None, Vec, refl, sym, ap, ◌∙◌, subst, arith}
+use Rattle.std.proofs.Common.{◌≡◌, ℕ, zero, suc, List, [], ◌∷◌, map, Option, Some, None, Vec, refl, sym, ap, ◌∙◌, subst, arith}
 use Rattle.std.specs.Global.{Global}
 use Rattle.std.specs.List.{slice_get}
 use Rattle.std.proofs.lemmas.Option.{slice_get_within, none-some}
 use Rattle.click_text.specs.declared.syntax.Config.{Config}
-use Rattle.click_expand.specs.Scopes.{inside}
-use Rattle.click_expand.specs.Classes.{Meaning, primitive, compound}
+use Rattle.click_expand.specs.Classes.{primitive, compound}
 use Rattle.click_expand.specs.Elements.{Local}
 use Rattle.click_expand.specs.Instances.{Leaf}
 use Rattle.click_expand.specs.Located.{AreAllLocals}

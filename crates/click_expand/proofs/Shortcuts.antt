@@ -1,12 +1,11 @@
 -- A search over the shortened connections finds what one over those as written does.
-use Rattle.std.proofs.Common.{◌≡◌, ◌⊎◌, ◌↔◌, inl, inr, ℕ, ◌<◌, zero, suc, List, [], length, Option, Some, None, Contains, refl, sym, ap, ◌∙◌, subst, arith}
+use Rattle.std.proofs.Common.{◌≡◌, ◌⊎◌, ◌↔◌, inl, inr, ℕ, zero, suc, List, length, Option, Some, None, Contains, refl, sym, ap, ◌∙◌, subst, arith}
 use Rattle.std.specs.List.{slice_get}
 use Rattle.std.proofs.lemmas.Option.{slice_get_within}
 use Rattle.click_expand.specs.declared.joints.Owner.{Owner}
 use Rattle.click_expand.specs.declared.joints.Owner.TheVariants as owner
 use Rattle.click_expand.specs.declared.uses.Part.{Part}
 use Rattle.click_expand.specs.declared.uses.Part.TheVariants as part
-use Rattle.click_expand.specs.declared.uses.Place.{Place}
 use Rattle.click_expand.specs.declared.uses.Use.{Use}
 use Rattle.click_expand.specs.declared.starts.Port.{Port}
 use Rattle.click_expand.specs.declared.starts.Start.{Start}
@@ -169,7 +168,7 @@ module _ (uses : List Use) where
               let w = inside-body u x inner k there (ap (λ z. body z x) (sym e) ∙ is) in
               let t = subst (λ z. LeadsThrough ends body z number (short z (port owner.Input other))) (sym w.scope) l in
               let way = leaves-through ends i n w.kept number (short w.kept.scope (port owner.Input other)) t
-                  (parts-within ends i n w.place w.kept (port owner.Input number) w.there (subst (Reaches ends i n) (w.into number) h)) in
+              (parts-within ends i n w.place w.kept (port owner.Input number) w.there (subst (Reaches ends i n) (w.into number) h)) in
               let r = below (outward w.kept.around way.0) way.2 in
               let inner_step : Reaches short i (suc r.0) (next.Start (start w.place (port owner.Input other))) =
               (w.kept, w.there, port owner.Output way.0, t.complete way.0 way.1, r.1) in (
