@@ -55,8 +55,12 @@ pub mod Answering
 pub mod Indexing
 pub mod Derived
 pub mod Searching
+pub mod LeadingThrough
 pub mod Chains
 pub mod Following
+pub mod NestedUses
+pub mod Shortcuts
 pub mod Gathering
 pub mod Connected
 pub mod FlatNaming
+pub mod FoundShortcuts

@@ -30,4 +30,5 @@ pub mod Counted
 pub mod Joining
 pub mod Misused
 pub mod Wiring
+pub mod Through
 pub mod Ways

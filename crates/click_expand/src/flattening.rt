@@ -115,7 +115,8 @@ fn expanded(
     let Some(elements) = elements_of(alloc, config, locals, arguments, uses)? else {
         return Ok(None);
     };
-    let Some(connections) = connections_of(alloc, config, tables.joints.as_slice(), uses)? else {
+    let joints = tables.joints.as_slice();
+    let Some(connections) = connections_of(alloc, config, locals, joints, uses)? else {
         return Ok(None);
     };
     Ok(Some(Flat {

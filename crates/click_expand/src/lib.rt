@@ -25,6 +25,7 @@ pub mod scopes;
 pub mod sizes;
 pub mod starts;
 pub mod texts;
+pub mod through;
 pub mod uses;
 pub mod whole;
 pub mod wiring;

@@ -3,11 +3,10 @@
 ghost use Rattle.std.specs.Prelude.{◌≡◌, ◌∷◌, ◌++◌, [], OnOk, IfOk, if◌then◌else◌};
 ghost use Rattle.click_expand.specs.declared.starts.Port.{Port as Jack};
 ghost use Rattle.click_expand.specs.Wiring as spec;
-ghost use Rattle.click_expand.specs.Wiring.{IsIndex, AreIndices, ends_in, same_port, next_by};
+ghost use Rattle.click_expand.specs.Wiring.{IsIndex, ends_in, same_port, next_by};
 
 use crate::joints::{Joint, Owner};
 use crate::uses::{Part, Place, Use};
-use click_text::sequence::Sequence;
 use indexmap::IndexMap;
 use std::alloc::{AllocError, Global};
 
@@ -43,10 +42,12 @@ pub enum Next {
     Nothing,
 }
 
-/// The connections of a scope: for each port that one begins at, those that they lead to.
+/// The connections of a scope: for each port that one begins at, those that they lead to; and for inputs that lead through the scope to the same
+/// outputs as another does, the number of that other.
 #[derive(Drop)]
 pub struct Index {
     pub ends: IndexMap<Port, Vec<Port>>,
+    pub alike: IndexMap<u8, u8>,
 }
 
 impl Index {
@@ -75,11 +76,12 @@ impl Index {
 }
 
 /// The index of the connections of a scope.
-fn index_of(alloc: Global, joints: &[Joint]) -> Result<Index, AllocError>
+pub fn index_of(alloc: Global, joints: &[Joint]) -> Result<Index, AllocError>
     ensures { IfOk result (λ x. IsIndex joints.now x.ends.entries) }
 {
     let mut index = Index {
         ends: IndexMap::new(alloc),
+        alike: IndexMap::new(alloc),
     };
     for joint in joints {
         let from = Port {
@@ -93,17 +95,6 @@ fn index_of(alloc: Global, joints: &[Joint]) -> Result<Index, AllocError>
         index.add(alloc, from, to)?;
     }
     Ok(index)
-}
-
-/// The indices of all scopes.
-pub fn all_indices(alloc: Global, joints: &[Sequence<Joint>]) -> Result<Vec<Index>, AllocError>
-    ensures { IfOk result (λ xs. AreIndices joints.now xs.items) }
-{
-    let mut indices = Vec::new(alloc);
-    for scope in joints {
-        indices.push(index_of(alloc, scope.as_slice())?)?;
-    }
-    Ok(indices)
 }
 
 /// What lies out of a use that stands at a place, behind its output of that number.

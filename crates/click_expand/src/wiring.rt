@@ -5,6 +5,7 @@ ghost use Rattle.click_expand.specs.declared.flat.Connection.{Connection as Join
 ghost use Rattle.click_expand.specs.Nesting.{IsNested};
 ghost use Rattle.click_expand.specs.Faults.{IsSound};
 ghost use Rattle.click_expand.specs.Joined.{AreAllJoints};
+ghost use Rattle.click_expand.specs.Located.{AreAllLocals};
 ghost use Rattle.click_expand.specs.Instances.{Leaf as Flattened};
 ghost use Rattle.click_expand.specs.Uses.{Used, AreUses};
 ghost use Rattle.click_expand.specs.Flat.{AreConnections, InOrder, Joins, most_connections};
@@ -13,8 +14,10 @@ ghost use Rattle.click_expand.specs.Wiring.{Connects, IsFrom, IsFromPort, IsFrom
 
 use crate::flat::Connection;
 use crate::joints::{Joint, Owner};
+use crate::members::Local;
 use crate::order::in_order;
-use crate::starts::{Index, Input, Next, Port, Start, all_indices, next_of};
+use crate::starts::{Index, Input, Next, Port, Start, next_of};
+use crate::through::all_indices;
 use crate::uses::{Part, Use, Uses};
 use click_text::sequence::Sequence;
 use click_text::syntax::Config;
@@ -192,18 +195,20 @@ fn search_all(
 pub fn connections_of(
     alloc: Global,
     config: &Config,
+    locals: &[Vec<Local>],
     joints: &[Sequence<Joint>],
     uses: &Uses,
 ) -> Result<Option<Vec<Connection>>, AllocError>
     requires nested { IsNested config.now }
     requires sound { IsSound config.now }
+    requires locals { AreAllLocals config.now locals.now }
     requires joined { AreAllJoints config.now joints.now }
     requires used { (leaves : List Flattened) × (known : List Used) × AreUses config.now uses.now.uses.items uses.now.leaves.items known leaves }
     ensures { IfOk result (λ r. (leaves : List Flattened) (known : List Used) → AreUses config.now uses.now.uses.items uses.now.leaves.items known leaves →
         MatchOption r ((ks : List Joined) × InOrder ks × ((k : Joined) → Contains ks k → Joins config.now leaves k) × (most_connections < length ks))
         (λ ks. AreConnections config.now leaves ks.items × (length ks.items ≤ most_connections))) }
 {
-    let indices = all_indices(alloc, joints)?;
+    let indices = all_indices(alloc, joints, locals)?;
     let found = search_all(alloc, uses.uses.as_slice(), indices.as_slice())?;
     let all = in_order(Vec::from_slice(alloc, found.as_slice())?);
     if all.len() > MOST_CONNECTIONS {

@@ -1,9 +1,10 @@
 //! Searches over tables made by hand. The expected connections are read off the texts beside them.
 
 use super::*;
+use crate::classes::ClassOf;
 use crate::joints::End;
 use crate::uses::Place;
-use click_text::syntax::Span;
+use click_text::syntax::{Head, Span};
 
 fn end(owner: Owner) -> End {
     End {
@@ -39,12 +40,47 @@ fn one_use(
     })
 }
 
+/// An element of that class: the other members are not looked at.
+fn local(alloc: Global, class: Option<ClassOf>) -> Local {
+    Local {
+        name: Vec::new(alloc),
+        class,
+        text: None,
+        head: Head::Compound(0),
+    }
+}
+
+/// The elements of a scope, as the uses have them.
+fn scope_locals(alloc: Global, scope: usize, uses: &[Use]) -> Result<Vec<Local>, AllocError> {
+    let mut locals = Vec::new(alloc);
+    let Some(one) = uses.iter().find(|one| one.scope == scope) else {
+        return Ok(locals);
+    };
+    for part in one.parts.as_slice() {
+        let class = match part {
+            Part::Leaf(_) => None,
+            Part::Inner(at) => Some(ClassOf::Compound(uses[*at].scope)),
+        };
+        locals.push(local(alloc, class))?;
+    }
+    Ok(locals)
+}
+
+fn locals_of(alloc: Global, scopes: usize, uses: &[Use]) -> Result<Vec<Vec<Local>>, AllocError> {
+    let mut all = Vec::new(alloc);
+    for scope in 0..scopes {
+        all.push(scope_locals(alloc, scope, uses)?)?;
+    }
+    Ok(all)
+}
+
 fn connected(
     alloc: Global,
     joints: &[Sequence<Joint>],
     uses: &[Use],
 ) -> Result<Vec<Connection>, AllocError> {
-    let indices = all_indices(alloc, joints)?;
+    let locals = locals_of(alloc, joints.len(), uses)?;
+    let indices = all_indices(alloc, joints, locals.as_slice())?;
     let found = search_all(alloc, uses, indices.as_slice())?;
     Ok(in_order(Vec::from_slice(alloc, found.as_slice())?))
 }

@@ -7,6 +7,9 @@ use Rattle.click_expand.proofs.flattening.expanded.Goals as goal
 pub elements_of-requires-clause-locals : goal.elements_of-requires-clause-locals
 elements_of-requires-clause-locals c = subst (AreAllLocals c.args.config.now) (sym c.as_slice-locals.ensures.value) c.requires.tables.locals
 
+pub connections_of-requires-clause-locals : goal.connections_of-requires-clause-locals
+connections_of-requires-clause-locals c = subst (AreAllLocals c.args.config.now) (sym c.as_slice-locals.ensures.value) c.requires.tables.locals
+
 pub returns-in_default : goal.returns-in_default
 returns-in_default c = λ leaves known paths used few short. much_text (match-none c.in_ok-elements.field-0 _ _ c.in_default.is (c.in_ok-elements.ensures leaves known used))
 

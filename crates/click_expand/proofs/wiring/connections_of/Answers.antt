@@ -16,7 +16,8 @@ returns-then-len-gt-MOST_CONNECTIONS c = λ leaves known are.
     λ k h. subst (λ (us : List Use). Connects us indices k) c.as_slice.ensures.value (subst (λ (xs : List Index). Connects c.as_slice.result.now xs k) c.as_slice-2.ensures.value (c.in_ok-found.ensures.sound k h)) in (
       ordered,
       c.in_order-all.ensures.order,
-      ordered-sound c.args.config.now c.requires.nested c.requires.sound c.args.joints.now c.requires.joined uses c.args.uses.now.leaves.items indices c.in_ok-indices.ensures found ordered
+      ordered-sound c.args.config.now c.requires.nested c.requires.sound c.args.locals.now c.requires.locals c.args.joints.now c.requires.joined uses c.args.uses.now.leaves.items
+          c.in_ok-indices.ensures.0 indices c.in_ok-indices.ensures.1 c.in_ok-indices.ensures.2 c.in_ok-indices.ensures.3 found ordered
           c.in_order-all.ensures.order alike found_sound known leaves are,
       (let n = c.len.ensures in let t = c.if-len-gt-MOST_CONNECTIONS.true in omega (arith, n, t)),
     )
@@ -32,7 +33,8 @@ returns c = λ leaves known are.
     λ few k h. c.in_ok-found.ensures.all few k
     (subst (λ (us : List Use). Connects us c.as_slice-2.result.now k) (sym c.as_slice.ensures.value) (subst (λ (xs : List Index). Connects uses xs k) (sym c.as_slice-2.ensures.value) h)) in
     let few : length ordered ≤ most_connections = let n = c.len.ensures in let t = c.if-len-gt-MOST_CONNECTIONS.false in omega (arith, n, t) in (
-      ordered-all c.args.config.now c.requires.nested c.requires.sound c.args.joints.now c.requires.joined uses c.args.uses.now.leaves.items indices c.in_ok-indices.ensures found ordered
+      ordered-all c.args.config.now c.requires.nested c.requires.sound c.args.locals.now c.requires.locals c.args.joints.now c.requires.joined uses c.args.uses.now.leaves.items
+          c.in_ok-indices.ensures.0 indices c.in_ok-indices.ensures.1 c.in_ok-indices.ensures.2 c.in_ok-indices.ensures.3 found ordered
           c.in_order-all.ensures.order alike found_sound known leaves are c.as_slice-3.ensures.unique found_all few,
       few,
     )

@@ -1,0 +1,159 @@
+-- Connections that only lead through a compound: in at one of its inputs and out at its outputs, past no element.
+use Rattle.std.specs.Prelude.{◌≡◌, ◌⊎◌, ℕ, ◌<◌, List, [], ◌∷◌, length, slice_get, Contains, nat_eq, Option, Some, None, Vec}
+use Rattle.std.specs.Global.{Global}
+use Rattle.std.specs.Map.{lookup}
+use Rattle.click_expand.specs.declared.classes.ClassOf.{ClassOf}
+use Rattle.click_expand.specs.declared.classes.ClassOf.TheVariants as class
+use Rattle.click_expand.specs.declared.members.Local.{Local as LocalKept}
+use Rattle.click_expand.specs.declared.joints.Owner.TheVariants as owner
+use Rattle.click_expand.specs.declared.starts.Port.{Port}
+use Rattle.click_expand.specs.declared.starts.Index.{Index}
+use Rattle.click_expand.specs.declared.uses.Part.TheVariants as part
+use Rattle.click_expand.specs.declared.uses.Place.{Place}
+use Rattle.click_expand.specs.declared.uses.Use.{Use}
+use Rattle.click_expand.specs.declared.through.Shortcut.{Shortcut}
+use Rattle.click_expand.specs.declared.through.Found.{Found}
+use Rattle.click_expand.specs.Wiring.{port, same_port, ends_in, Gains, HasAll}
+
+-- the body that a class stands for
+abbrev pub class_body : Option ClassOf → Option ℕ
+class_body None = None
+class_body (Some (class.Primitive s)) = None
+class_body (Some (class.Compound b)) = Some b
+
+abbrev pub local_body : Option LocalKept → Option ℕ
+local_body None = None
+local_body (Some l) = class_body l.class
+
+abbrev pub scope_body : ℕ → Option (Vec LocalKept Global) → Option ℕ
+scope_body i None = None
+scope_body i (Some ls) = local_body (slice_get ls.items i)
+
+-- the body that an element of a scope stands for
+abbrev pub body_at : List (Vec LocalKept Global) → ℕ → ℕ → Option ℕ
+body_at locals s i = scope_body i (slice_get locals s)
+
+abbrev pub index_ends : Option Index → Port → List Port
+index_ends None a = []
+index_ends (Some x) a = ends_in x.ends.entries a
+
+-- what the connections of a scope lead to from one of its ports
+abbrev pub ends_at : List Index → ℕ → Port → List Port
+ends_at xs s a = index_ends (slice_get xs s) a
+
+-- From a port of a scope, connections lead to another port of it, with only compounds between that they lead through.
+pub data Runs (ends : ℕ → Port → List Port) (body : ℕ → ℕ → Option ℕ) : ℕ → Port → Port → Type 0 where
+  joined : (s : ℕ) (a b : Port) → Contains (ends s a) b → Runs ends body s a b
+  over : (s i n inner m : ℕ) (a b : Port) → Runs ends body s a (port (owner.Element i) n) → body s i ≡ Some inner →
+      Runs ends body inner (port owner.Input n) (port owner.Output m) → Runs ends body s (port (owner.Element i) m) b → Runs ends body s a b
+
+-- From a port of a scope, connections lead to an element of the scope, or of a compound in it.
+pub data Lands (ends : ℕ → Port → List Port) (body : ℕ → ℕ → Option ℕ) : ℕ → Port → Type 0 where
+  on_element : (s i n : ℕ) (a : Port) → Runs ends body s a (port (owner.Element i) n) → body s i ≡ None → Lands ends body s a
+  inside : (s i n inner : ℕ) (a : Port) → Runs ends body s a (port (owner.Element i) n) → body s i ≡ Some inner → Lands ends body inner (port owner.Input n) → Lands ends body s a
+
+-- Connections from that input of a body lead through it, to these of its outputs.
+pub record LeadsThrough (ends : ℕ → Port → List Port) (body : ℕ → ℕ → Option ℕ) (s n : ℕ) (outs : List Port) : Type 0 where
+  pub sound : (p : Port) → Contains outs p → (m : ℕ) × (p ≡ port owner.Output m) × Runs ends body s (port owner.Input n) p
+  pub complete : (m : ℕ) → Runs ends body s (port owner.Input n) (port owner.Output m) → Contains outs (port owner.Output m)
+  pub past : Lands ends body s (port owner.Input n) → ⊥
+
+-- A port that a connection leads to, and one that stands in for it: the same, or an input of a compound where both lead through it alike.
+pub data StandsIn (ends : ℕ → Port → List Port) (body : ℕ → ℕ → Option ℕ) (short : ℕ → Port → List Port) (s : ℕ) : Port → Port → Type 0 where
+  same : (p : Port) → StandsIn ends body short s p p
+  alike : (i n k inner : ℕ) → body s i ≡ Some inner → LeadsThrough ends body inner n (short inner (port owner.Input k)) →
+      StandsIn ends body short s (port (owner.Element i) n) (port (owner.Element i) k)
+
+-- for each of these ports one of those stands in, and none of those for nothing
+pub record AreStoodFor (ends : ℕ → Port → List Port) (body : ℕ → ℕ → Option ℕ) (short : ℕ → Port → List Port) (s : ℕ) (ps qs : List Port) : Type 0 where
+  pub each : (p : Port) → Contains ps p → (q : Port) × Contains qs q × StandsIn ends body short s p q
+  pub back : (q : Port) → Contains qs q → (p : Port) × Contains ps p × StandsIn ends body short s p q
+
+-- The connections of a scope, but that others stand in for the ports that they lead to, and that some inputs that lead through it lead to its
+-- outputs at once.
+abbrev pub IsShortened : (ends : ℕ → Port → List Port) (body : ℕ → ℕ → Option ℕ) (short : ℕ → Port → List Port) → ℕ → Type 0
+IsShortened ends body short s =
+    (a : Port) → AreStoodFor ends body short s (ends s a) (short s a) ⊎ ((n : ℕ) × (a ≡ port owner.Input n) × LeadsThrough ends body s n (short s a))
+
+-- What is known of the scopes whose shortened connections are these.
+pub record AreShortened (ends : ℕ → Port → List Port) (body : ℕ → ℕ → Option ℕ) (short : ℕ → Port → List Port) (done : List Index) : Type 0 where
+  pub is : (s : ℕ) (a : Port) → s < length done → short s a ≡ ends_at done s a
+  pub each : (s : ℕ) → s < length done → IsShortened ends body short s
+  pub alike : (s : ℕ) (x : Index) → slice_get done s ≡ Some x → (n k : ℕ) → lookup (nat_eq n) x.alike.entries ≡ Some k → LeadsThrough ends body s n (short s (port owner.Input k))
+
+-- that is the output of the element whose number one of these has
+abbrev pub IsOutputOf : ℕ → List Port → Port → Type 0
+IsOutputOf i outs p = (q : Port) × Contains outs q × (p ≡ port (owner.Element i) q.number)
+
+-- connections lead from one of these ends on to that output of an element of the scope
+pub record GoesOver (body : ℕ → ℕ → Option ℕ) (short : ℕ → Port → List Port) (s : ℕ) (es : List Port) (p : Port) : Type 0 where
+  pub element : ℕ
+  pub number : ℕ
+  pub there : Contains es (port (owner.Element element) number)
+  pub inner : ℕ
+  pub is_body : body s element ≡ Some inner
+  pub behind : Port
+  pub out : Contains (short inner (port owner.Input number)) behind
+  pub is : p ≡ port (owner.Element element) behind.number
+
+-- that is one of these ends, and an output of the scope
+abbrev pub GoesOut : List Port → Port → Type 0
+GoesOut es p = Contains es p × (p.owner ≡ owner.Output)
+
+-- each of these ends that is an element's leads through it
+abbrev pub AllLeadThrough : (ends : ℕ → Port → List Port) (body : ℕ → ℕ → Option ℕ) (short : ℕ → Port → List Port) → ℕ → List Port → Type 0
+AllLeadThrough ends body short s es =
+    (i n : ℕ) → Contains es (port (owner.Element i) n) → (inner : ℕ) × (body s i ≡ Some inner) × LeadsThrough ends body inner n (short inner (port owner.Input n))
+
+-- The outputs of elements that are seen and those of the scope that are found, before and after a search goes on behind these ends.
+pub record Passes (ends : ℕ → Port → List Port) (body : ℕ → ℕ → Option ℕ) (short : ℕ → Port → List Port) (s : ℕ) (es : List Port) (seen_old seen_new outs_old outs_new : List Port) : Type 0 where
+  pub seen : Gains (GoesOver body short s es) seen_old seen_new
+  pub seen_all : HasAll (GoesOver body short s es) seen_new
+  pub outs : Gains (GoesOut es) outs_old outs_new
+  pub outs_all : HasAll (GoesOut es) outs_new
+  pub through : AllLeadThrough ends body short s es
+
+-- for each port, ends that stand for those that connections lead to
+abbrev pub AreEndsOf : (ends : ℕ → Port → List Port) (body : ℕ → ℕ → Option ℕ) (short : ℕ → Port → List Port) → ℕ → (Port → List Port) → Type 0
+AreEndsOf ends body short s here = (a : Port) → AreStoodFor ends body short s (ends s a) (here a)
+
+-- each input that has the same ends as that port leads through the scope to these outputs
+abbrev pub LeadAlike : (ends : ℕ → Port → List Port) (body : ℕ → ℕ → Option ℕ) → ℕ → (Port → List Port) → Port → List Port → Type 0
+LeadAlike ends body s here from outs = (n : ℕ) → here (port owner.Input n) ≡ here from → LeadsThrough ends body s n outs
+
+abbrev pub only : List Port → Option Port
+only [] = None
+only (p ∷ []) = Some p
+only (p ∷ q ∷ ps) = None
+
+-- that input has a shortcut, and the same ends as the port
+pub record IsLike (here : Port → List Port) (shortcuts : List Shortcut) (from : Port) (k : ℕ) : Type 0 where
+  pub ends : here from ≡ here (port owner.Input k)
+  pub shortcut : Shortcut
+  pub there : Contains shortcuts shortcut
+  pub is : shortcut.from ≡ port owner.Input k
+
+-- what is found of a scope
+pub record AreFound (ends : ℕ → Port → List Port) (body : ℕ → ℕ → Option ℕ) (s : ℕ) (here : Port → List Port) (found : Found) : Type 0 where
+  pub shortcuts : (k : Shortcut) → Contains found.shortcuts.items k → (k.from.owner ≡ owner.Input) × LeadAlike ends body s here k.from k.outputs.items
+  pub firsts : (p : Port) (k : ℕ) → lookup (same_port p) found.firsts.entries ≡ Some k → (from : Port) → here from ≡ p ∷ [] → IsLike here found.shortcuts.items from k
+  pub alike : (n k : ℕ) → lookup (nat_eq n) found.alike.entries ≡ Some k → IsLike here found.shortcuts.items (port owner.Input n) k
+
+-- the index with these shortcuts: each port's ends are as they were, or the outputs of a shortcut from there; those of a port with a shortcut are
+pub record HasShortcuts (old : Index) (found : Found) (new : Index) : Type 0 where
+  pub each : (a : Port) → (ends_in new.ends.entries a ≡ ends_in old.ends.entries a)
+      ⊎ ((k : Shortcut) × Contains found.shortcuts.items k × (a ≡ k.from) × (ends_in new.ends.entries a ≡ k.outputs.items))
+  pub all : (k : Shortcut) → Contains found.shortcuts.items k →
+      (j : Shortcut) × Contains found.shortcuts.items j × (k.from ≡ j.from) × (ends_in new.ends.entries k.from ≡ j.outputs.items)
+  pub alike : new.alike ≡ found.alike
+
+-- inputs of the scope are like others
+abbrev pub AreAlike : (ends : ℕ → Port → List Port) (body : ℕ → ℕ → Option ℕ) (short : ℕ → Port → List Port) → ℕ → Index → Type 0
+AreAlike ends body short s x = (n k : ℕ) → lookup (nat_eq n) x.alike.entries ≡ Some k → LeadsThrough ends body s n (short s (port owner.Input k))
+
+-- Each element of a use is a flat element, or the use of the body that it stands for.
+pub record AreNested (body : ℕ → ℕ → Option ℕ) (uses : List Use) : Type 0 where
+  pub leaf : (u i l : ℕ) (k : Use) → slice_get uses u ≡ Some k → slice_get k.parts i ≡ Some (part.Leaf l) → body k.scope i ≡ None
+  pub inner : (u i v : ℕ) (k : Use) → slice_get uses u ≡ Some k → slice_get k.parts i ≡ Some (part.Inner v) →
+      (m : Use) × (slice_get uses v ≡ Some m) × ((p : Place) × (m.around ≡ Some p) × (p.within ≡ u) × (p.element ≡ i)) × (body k.scope i ≡ Some m.scope)
+  pub part : (u i b : ℕ) (k : Use) → slice_get uses u ≡ Some k → body k.scope i ≡ Some b → (v : ℕ) × (slice_get k.parts i ≡ Some (part.Inner v))

@@ -1,0 +1,364 @@
+//! Connections that only lead through a body, in at an input and out at outputs, past no element. Where they lead is found once for the body, so that
+//! no search goes through all of its uses.
+
+ghost use Rattle.std.specs.Prelude.{◌≡◌, ◌⊎◌, ◌∷◌, [], ℕ, List, Contains, Option, true, length, IfOk, OnOk, IfSome};
+ghost use Rattle.click_expand.specs.declared.joints.Owner.TheVariants as own;
+ghost use Rattle.click_expand.specs.declared.starts.Port.{Port as Jack};
+ghost use Rattle.click_expand.specs.declared.starts.Index.{Index as Kept};
+ghost use Rattle.click_expand.specs.Wiring.{AreIndices, Gains, HasAll, ends_in, port as jack};
+ghost use Rattle.click_expand.specs.Through as spec;
+ghost use Rattle.click_expand.specs.Through.{AreAlike, AreEndsOf, AreFound, AreShortened, AreStoodFor, HasShortcuts, IsLike, IsOutputOf, IsShortened, LeadAlike, LeadsThrough, Passes, StandsIn};
+
+use crate::classes::ClassOf;
+use crate::joints::{Joint, Owner};
+use crate::members::Local;
+use crate::starts::{Index, Port, index_of};
+use click_text::sequence::Sequence;
+use indexmap::{IndexMap, IndexSet};
+use std::alloc::{AllocError, Global};
+
+/// An input that only leads through its body, and the outputs that it leads to.
+#[derive(Drop)]
+struct Shortcut {
+    from: Port,
+    outputs: Vec<Port>,
+}
+
+/// The body that an element of a scope stands for.
+fn body_at(locals: &[Vec<Local>], scope: usize, element: usize) -> Option<usize>
+    ensures { result ≡ spec.body_at locals.now scope element }
+{
+    match locals.get(scope)?.get(element)?.class {
+        Some(ClassOf::Compound(body)) => Some(body),
+        _ => None,
+    }
+}
+
+/// The input that stands in for that input of a body.
+fn number_for(done: &[Index], body: usize, number: u8) -> u8
+    ensures { (ends short : ℕ → Jack → List Jack) (bodies : ℕ → ℕ → Option ℕ) → AreShortened ends bodies short done.now →
+        (result ≡ number) ⊎ LeadsThrough ends bodies body number (short body (jack own.Input result)) }
+{
+    match done.get(body) {
+        Some(index) => match index.alike.get(&number) {
+            Some(other) => *other,
+            None => number,
+        },
+        None => number,
+    }
+}
+
+/// The port that stands in for one that a connection leads to.
+fn port_for(done: &[Index], locals: &[Vec<Local>], scope: usize, end: Port) -> Port
+    ensures { (ends short : ℕ → Jack → List Jack) → AreShortened ends (spec.body_at locals.now) short done.now → StandsIn ends (spec.body_at locals.now) short scope end result }
+{
+    let Owner::Element(element) = end.owner else {
+        return end;
+    };
+    match body_at(locals, scope, element) {
+        Some(body) => Port {
+            owner: end.owner,
+            number: number_for(done, body, end.number),
+        },
+        None => end,
+    }
+}
+
+/// Those that stand in for these, each once.
+fn ports_for(
+    alloc: Global,
+    done: &[Index],
+    locals: &[Vec<Local>],
+    scope: usize,
+    ends: &[Port],
+) -> Result<Vec<Port>, AllocError>
+    ensures { (all short : ℕ → Jack → List Jack) → AreShortened all (spec.body_at locals.now) short done.now →
+        IfOk result (λ ports. AreStoodFor all (spec.body_at locals.now) short scope ends.now ports.items) }
+{
+    let mut ports = IndexSet::new(alloc);
+    for end in ends {
+        ports.insert(port_for(done, locals, scope, *end))?;
+    }
+    Vec::from_slice(alloc, ports.as_slice())
+}
+
+/// The index of a scope, with those ports in it that stand in for others, where all bodies before it are done.
+fn reduced(
+    alloc: Global,
+    done: &[Index],
+    locals: &[Vec<Local>],
+    scope: usize,
+    index: &Index,
+) -> Result<Index, AllocError>
+    ensures { (ends short : ℕ → Jack → List Jack) → AreShortened ends (spec.body_at locals.now) short done.now → ((a : Jack) → ends scope a ≡ ends_in index.now.ends.entries a) →
+        IfOk result (λ x. AreEndsOf ends (spec.body_at locals.now) short scope (ends_in x.ends.entries)) }
+{
+    let mut ends = IndexMap::new(alloc);
+    for at in 0..index.ends.len() {
+        if let Some((port, _)) = index.ends.get_index(at) {
+            let ports = ports_for(alloc, done, locals, scope, index.ends(*port))?;
+            ends.insert(*port, ports)?;
+        }
+    }
+    Ok(Index {
+        ends,
+        alike: IndexMap::new(alloc),
+    })
+}
+
+/// Whether all of these ports are a body's own outputs.
+fn are_outputs(ends: &[Port]) -> bool
+    ensures { result ≡ true → (p : Jack) → Contains ends.now p → p.owner ≡ own.Output }
+{
+    for end in ends {
+        let Owner::Output = end.owner else {
+            return false;
+        };
+    }
+    true
+}
+
+/// What the connections from an input of a body lead to, where it is known that they only lead through it.
+fn through(done: &[Index], body: usize, number: u8) -> Option<&[Port]>
+    ensures { (ends short : ℕ → Jack → List Jack) (bodies : ℕ → ℕ → Option ℕ) → AreShortened ends bodies short done.now →
+        IfSome result (λ outputs. (outputs.now ≡ short body (jack own.Input number)) × LeadsThrough ends bodies body number outputs.now) }
+{
+    let ends = done.get(body)?.ends(Port {
+        owner: Owner::Input,
+        number,
+    });
+    if are_outputs(ends) { Some(ends) } else { None }
+}
+
+/// Goes on from those outputs of an element.
+fn go_on(element: usize, outputs: &[Port], seen: &mut IndexSet<Port>) -> Result<(), AllocError>
+    ensures more { OnOk result (Gains (IsOutputOf element outputs.now) seen.old.keys seen.new.keys) }
+    ensures all { OnOk result (HasAll (IsOutputOf element outputs.now) seen.new.keys) }
+{
+    for output in outputs {
+        seen.insert(Port {
+            owner: Owner::Element(element),
+            number: output.number,
+        })?;
+    }
+    Ok(())
+}
+
+/// Goes on behind a port that a connection leads to. False where that is a flat element's, or one that leads to one.
+fn pass(
+    done: &[Index],
+    locals: &[Vec<Local>],
+    scope: usize,
+    end: Port,
+    seen: &mut IndexSet<Port>,
+    outputs: &mut IndexSet<Port>,
+) -> Result<bool, AllocError>
+    ensures { (ends short : ℕ → Jack → List Jack) → AreShortened ends (spec.body_at locals.now) short done.now →
+        IfOk result (λ on. on ≡ true → Passes ends (spec.body_at locals.now) short scope (end ∷ []) seen.old.keys seen.new.keys outputs.old.keys outputs.new.keys) }
+{
+    match end.owner {
+        Owner::Input => Ok(true),
+        Owner::Output => {
+            outputs.insert(end)?;
+            Ok(true)
+        }
+        Owner::Element(element) => {
+            let Some(body) = body_at(locals, scope, element) else {
+                return Ok(false);
+            };
+            let Some(behind) = through(done, body, end.number) else {
+                return Ok(false);
+            };
+            go_on(element, behind, seen)?;
+            Ok(true)
+        }
+    }
+}
+
+/// The same for each of these ports.
+fn pass_all(
+    done: &[Index],
+    locals: &[Vec<Local>],
+    scope: usize,
+    ends: &[Port],
+    seen: &mut IndexSet<Port>,
+    outputs: &mut IndexSet<Port>,
+) -> Result<bool, AllocError>
+    ensures { (all short : ℕ → Jack → List Jack) → AreShortened all (spec.body_at locals.now) short done.now →
+        IfOk result (λ on. on ≡ true → Passes all (spec.body_at locals.now) short scope ends.now seen.old.keys seen.new.keys outputs.old.keys outputs.new.keys) }
+{
+    for end in ends {
+        if !pass(done, locals, scope, *end, seen, outputs)? {
+            return Ok(false);
+        }
+    }
+    Ok(true)
+}
+
+/// The outputs of a scope that connections from one of its inputs lead to, where they lead to no element.
+fn outputs_from(
+    alloc: Global,
+    done: &[Index],
+    locals: &[Vec<Local>],
+    scope: usize,
+    index: &Index,
+    from: Port,
+) -> Result<Option<Vec<Port>>, AllocError>
+    ensures { (ends short : ℕ → Jack → List Jack) → AreShortened ends (spec.body_at locals.now) short done.now → AreEndsOf ends (spec.body_at locals.now) short scope (ends_in index.now.ends.entries) →
+        IfOk result (λ r. IfSome r (λ outputs. LeadAlike ends (spec.body_at locals.now) scope (ends_in index.now.ends.entries) from outputs.items)) }
+{
+    let mut seen = IndexSet::new(alloc);
+    let mut outputs = IndexSet::new(alloc);
+    seen.insert(from)?;
+    let mut at = 0;
+    while at < seen.len() {
+        let port = seen.as_slice()[at];
+        let ends = index.ends(port);
+        if !pass_all(done, locals, scope, ends, &mut seen, &mut outputs)? {
+            return Ok(None);
+        }
+        at += 1;
+    }
+    Ok(Some(Vec::from_slice(alloc, outputs.as_slice())?))
+}
+
+/// What is found of a scope: its shortcuts, by the one port that they lead to first those inputs that have one, and the inputs that are like them.
+#[derive(Drop)]
+struct Found {
+    shortcuts: Vec<Shortcut>,
+    firsts: IndexMap<Port, u8>,
+    alike: IndexMap<u8, u8>,
+}
+
+/// The one port that connections lead to from a port, if there is one.
+fn only_end(index: &Index, from: Port) -> Option<Port>
+    ensures { result ≡ spec.only (ends_in index.now.ends.entries from) }
+{
+    match index.ends(from) {
+        [end] => Some(*end),
+        _ => None,
+    }
+}
+
+impl Found {
+    /// The input that leads to the same port as this one and was found before it.
+    fn like(&self, index: &Index, from: Port) -> Option<u8>
+        ensures { (ends : ℕ → Jack → List Jack) (bodies : ℕ → ℕ → Option ℕ) (scope : ℕ) → AreFound ends bodies scope (ends_in index.now.ends.entries) self.now →
+            IfSome result (IsLike (ends_in index.now.ends.entries) self.now.shortcuts.items from) }
+    {
+        match only_end(index, from) {
+            Some(end) => self.firsts.get(&end).copied(),
+            None => None,
+        }
+    }
+
+    /// Adds a shortcut.
+    fn add(&mut self, index: &Index, from: Port, outputs: Vec<Port>) -> Result<(), AllocError>
+        ensures { (ends : ℕ → Jack → List Jack) (bodies : ℕ → ℕ → Option ℕ) (scope : ℕ) → AreFound ends bodies scope (ends_in index.now.ends.entries) self.old → from.owner ≡ own.Input →
+            LeadAlike ends bodies scope (ends_in index.now.ends.entries) from outputs.items → OnOk result (AreFound ends bodies scope (ends_in index.now.ends.entries) self.new) }
+    {
+        if let Some(end) = only_end(index, from) {
+            self.firsts.insert(end, from.number)?;
+        }
+        self.shortcuts.push(Shortcut { from, outputs })?;
+        Ok(())
+    }
+
+    /// Looks at a port of a scope: is it an input that leads through it?
+    fn look(
+        &mut self,
+        alloc: Global,
+        done: &[Index],
+        locals: &[Vec<Local>],
+        scope: usize,
+        index: &Index,
+        from: Port,
+    ) -> Result<(), AllocError>
+        ensures { (ends short : ℕ → Jack → List Jack) → AreShortened ends (spec.body_at locals.now) short done.now → AreEndsOf ends (spec.body_at locals.now) short scope (ends_in index.now.ends.entries) →
+            AreFound ends (spec.body_at locals.now) scope (ends_in index.now.ends.entries) self.old → OnOk result (AreFound ends (spec.body_at locals.now) scope (ends_in index.now.ends.entries) self.new) }
+    {
+        let Owner::Input = from.owner else {
+            return Ok(());
+        };
+        if let Some(number) = self.like(index, from) {
+            self.alike.insert(from.number, number)?;
+            return Ok(());
+        }
+        match outputs_from(alloc, done, locals, scope, index, from)? {
+            Some(outputs) => self.add(index, from, outputs),
+            None => Ok(()),
+        }
+    }
+}
+
+/// The shortcuts through a scope, where those through all bodies before it are known.
+fn found_in(
+    alloc: Global,
+    done: &[Index],
+    locals: &[Vec<Local>],
+    scope: usize,
+    index: &Index,
+) -> Result<Found, AllocError>
+    ensures { (ends short : ℕ → Jack → List Jack) → AreShortened ends (spec.body_at locals.now) short done.now → AreEndsOf ends (spec.body_at locals.now) short scope (ends_in index.now.ends.entries) →
+        IfOk result (AreFound ends (spec.body_at locals.now) scope (ends_in index.now.ends.entries)) }
+{
+    let mut found = Found {
+        shortcuts: Vec::new(alloc),
+        firsts: IndexMap::new(alloc),
+        alike: IndexMap::new(alloc),
+    };
+    for at in 0..index.ends.len() {
+        if let Some((port, _)) = index.ends.get_index(at) {
+            found.look(alloc, done, locals, scope, index, *port)?;
+        }
+    }
+    Ok(found)
+}
+
+/// The index with these shortcuts.
+fn with_shortcuts(index: Index, found: Found) -> Result<Index, AllocError>
+    ensures { IfOk result (HasShortcuts index found) }
+{
+    let mut ends = index.ends;
+    let mut shortcuts = found.shortcuts;
+    while let Some(one) = shortcuts.pop() {
+        ends.insert(one.from, one.outputs)?;
+    }
+    Ok(Index {
+        ends,
+        alike: found.alike,
+    })
+}
+
+/// The index of a scope with the shortcuts through it, where all bodies before it are done.
+fn shortened(
+    alloc: Global,
+    done: &[Index],
+    locals: &[Vec<Local>],
+    scope: usize,
+    index: &Index,
+) -> Result<Index, AllocError>
+    ensures { (ends short : ℕ → Jack → List Jack) → AreShortened ends (spec.body_at locals.now) short done.now → ((a : Jack) → ends scope a ≡ ends_in index.now.ends.entries a) →
+        IfOk result (λ x. ((a : Jack) → short scope a ≡ ends_in x.ends.entries a) → IsShortened ends (spec.body_at locals.now) short scope × AreAlike ends (spec.body_at locals.now) short scope x) }
+{
+    let short = reduced(alloc, done, locals, scope, index)?;
+    let found = found_in(alloc, done, locals, scope, &short)?;
+    with_shortcuts(short, found)
+}
+
+/// The indices of all scopes, with the shortcuts through them.
+pub fn all_indices(
+    alloc: Global,
+    joints: &[Sequence<Joint>],
+    locals: &[Vec<Local>],
+) -> Result<Vec<Index>, AllocError>
+    ensures { IfOk result (λ short. (whole : List Kept) × AreIndices joints.now whole × (length whole ≡ length short.items)
+        × AreShortened (spec.ends_at whole) (spec.body_at locals.now) (spec.ends_at short.items) short.items) }
+{
+    let mut indices = Vec::new(alloc);
+    for (scope, one) in joints.iter().enumerate() {
+        let index = index_of(alloc, one.as_slice())?;
+        indices.push(shortened(alloc, indices.as_slice(), locals, scope, &index)?)?;
+    }
+    Ok(indices)
+}
