@@ -35,6 +35,28 @@ fn straight_through(rt: HostRuntime) {
     assert!(rt; matches!(&found, Some(flat) if flat.as_slice() == want.as_slice()));
 }
 
+/// Two inputs that one compound joins to two outputs, in a compound that has it twice: each source is joined to each sink.
+#[test]
+fn crossed_through(rt: HostRuntime) {
+    let text =
+        b"elementclass H { input -> output; } elementclass B { h :: H; input -> h -> output; input [1] -> h; h -> [1] output; } elementclass D { x, y :: B; input -> x -> y -> output; input [1] -> [1] x [1] -> [1] y [1] -> [1] output; } a, b :: Idle; c, d :: Discard; w :: D; a -> w -> c; b -> [1] w [1] -> d;";
+    let want =
+        b"a :: Idle;\nb :: Idle;\nc :: Discard;\nd :: Discard;\na -> c;\na -> d;\nb -> c;\nb -> d;\n";
+    let found = written(rt.alloc(), text.as_slice());
+    assert!(rt; matches!(&found, Some(flat) if flat.as_slice() == want.as_slice()));
+}
+
+/// One input leads through its compound, one to an element in it, and one to both.
+#[test]
+fn through_and_into(rt: HostRuntime) {
+    let text =
+        b"elementclass M { p, q :: Counter; input -> output; input [1] -> p -> [1] output; input [2] -> output; input [2] -> q -> [1] output; } w :: M; a, b, e :: Idle; c, d :: Discard; a -> w -> c; b -> [1] w [1] -> d; e -> [2] w;";
+    let want =
+        b"w/p :: Counter;\nw/q :: Counter;\na :: Idle;\nb :: Idle;\ne :: Idle;\nc :: Discard;\nd :: Discard;\nw/p -> d;\nw/q -> d;\na -> c;\nb -> w/p;\ne -> w/q;\ne -> c;\n";
+    let found = written(rt.alloc(), text.as_slice());
+    assert!(rt; matches!(&found, Some(flat) if flat.as_slice() == want.as_slice()));
+}
+
 /// Compounds on so many levels, each of which gives the one inside twice its own first argument, the outermost with empty arguments.
 fn doubling(alloc: Global, levels: usize) -> Result<Vec<u8>, AllocError> {
     let mut text = Vec::new(alloc);
