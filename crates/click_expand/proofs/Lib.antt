@@ -64,3 +64,5 @@ pub mod Gathering
 pub mod Connected
 pub mod FlatNaming
 pub mod FoundShortcuts
+pub mod StandingIn
+pub mod Shortening

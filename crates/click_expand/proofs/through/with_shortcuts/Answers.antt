@@ -1,0 +1,23 @@
+use Rattle.std.proofs.Common.{◌≡◌, length, refl, arith}
+use Rattle.std.proofs.lemmas.List.{nil_from_length}
+use Rattle.click_expand.proofs.StandingIn.{changed-by}
+use Rattle.click_expand.proofs.Shortening.{puts-next, puts-all}
+use Rattle.click_expand.proofs.through.with_shortcuts.Goals as goal
+
+pub loop-one-preserved-in_ok-insert : goal.loop-one-preserved-in_ok-insert
+loop-one-preserved-in_ok-insert c =
+    let one = c.in-Some.one in let mid = c.loop-one.ends.entries in let new = c.insert.new.self.entries in
+    puts-next c.args.index.ends.entries c.args.found.shortcuts.items c.loop-one.shortcuts.items c.pop.new.self.items one mid new c.in-Some.ensures.items
+    (changed-by mid new one.from one.outputs c.in_ok-insert.ensures.updates.0) c.loop-one.invariant
+
+pub loop-one-preserved : goal.loop-one-preserved
+loop-one-preserved c =
+    let one = c.in-Some.one in let mid = c.loop-one.ends.entries in let new = c.insert.new.self.entries in
+    puts-next c.args.index.ends.entries c.args.found.shortcuts.items c.loop-one.shortcuts.items c.pop.new.self.items one mid new c.in-Some.ensures.items
+    (changed-by mid new one.from one.outputs c.in_ok-insert.ensures.updates.0) c.loop-one.invariant
+
+pub returns : goal.returns
+returns c =
+    let h = c.in_default.ensures.cases in
+    let none : length c.loop-one.shortcuts.items ≡ 0 = omega (arith, h.0, c.loop-one.shortcuts.ok.0) in
+    puts-all c.args.index _ c.args.found c.loop-one.shortcuts.items c.loop-one.ends.entries c.loop-one.invariant (nil_from_length c.loop-one.shortcuts.items none) refl refl
