@@ -236,7 +236,12 @@ fn unused(rt: HostRuntime) -> Result<(), Fail> {
         .as_slice(),
         FaultKind::Unused,
         (4, INPUT, 1),
-    )?;
+    )
+}
+
+#[test]
+fn unused_of_two(rt: HostRuntime) -> Result<(), Fail> {
+    let alloc = rt.alloc();
     // Inputs before outputs.
     expect_fault(
         &rt,
@@ -276,7 +281,12 @@ fn twice(rt: HostRuntime) -> Result<(), Fail> {
         [(0, 0, 1, 0), (1, 0, 4, 0), (2, 0, 3, 0), (3, 0, 4, 0)].as_slice(),
         FaultKind::Twice,
         (4, INPUT, 0),
-    )?;
+    )
+}
+
+#[test]
+fn twice_first(rt: HostRuntime) -> Result<(), Fail> {
+    let alloc = rt.alloc();
     // A PullTee's input has two connections, and so has its push output.
     expect_fault(
         &rt,
@@ -341,7 +351,12 @@ fn counts(rt: HostRuntime) -> Result<(), Fail> {
         [].as_slice(),
         FaultKind::Count,
         (0, OUTPUT, 0),
-    )?;
+    )
+}
+
+#[test]
+fn counts_too_many(rt: HostRuntime) -> Result<(), Fail> {
+    let alloc = rt.alloc();
     expect_fault(
         &rt,
         alloc,
@@ -388,7 +403,12 @@ fn unequal_sides(rt: HostRuntime) -> Result<(), Fail> {
         [(0, 0, 1, 0)].as_slice(),
         FaultKind::Count,
         (1, OUTPUT, 0),
-    )?;
+    )
+}
+
+#[test]
+fn two_passages(rt: HostRuntime) -> Result<(), Fail> {
+    let alloc = rt.alloc();
     // Two passages, one of which is push and the other pull.
     expect_kinds(
         &rt,
@@ -485,7 +505,12 @@ fn kinds(rt: HostRuntime) -> Result<(), Fail> {
             (2, OUTPUT, 0, PUSH),
         ]
         .as_slice(),
-    )?;
+    )
+}
+
+#[test]
+fn kinds_of_two_connections(rt: HostRuntime) -> Result<(), Fail> {
+    let alloc = rt.alloc();
     // Two connections are lawful at a push input and at a pull output.
     expect_kinds(
         &rt,

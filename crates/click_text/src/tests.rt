@@ -3,6 +3,7 @@
 use crate::parse;
 use crate::syntax::{Class, Config, FaultKind, Head, Span, Statement, TextFault};
 use std::alloc::Global;
+use std::process::Abort;
 use std::test::Fail;
 
 /// What a statement is, short enough to compare: its first name, its class or body, its string, and how many names or links it has.
@@ -136,6 +137,14 @@ fn every_kind_of_statement(rt: HostRuntime) -> Result<(), Fail> {
     for (i, outline) in wanted.iter().enumerate() {
         assert_eq!(rt; statement_at(&config, i), Some(*outline), "statement {i}");
     }
+    Ok(())
+}
+
+#[test]
+fn bodies_of_statements(rt: HostRuntime) -> Result<(), Fail> {
+    let text =
+        b"elementclass P { $n, $m | input -> Queue($n) -> output; } x, y :: P(1, 2); z :: { input -> output }(3); elementclass Q P; require(click); ;;";
+    let config = parse(rt.alloc(), text)?;
     assert_eq!(rt; config.bodies.len(), 2);
     let first = &config.bodies.as_slice()[0];
     let second = &config.bodies.as_slice()[1];
@@ -183,9 +192,20 @@ fn texts_that_are_read(rt: HostRuntime) -> Result<(), Fail> {
     Ok(())
 }
 
+/// The first fault of each of these texts: its kind and place.
+fn expect_faults(rt: &impl Abort, alloc: Global, rows: &[(&[u8], FaultKind, usize, usize)]) {
+    for (text, kind, start, end) in rows {
+        let fault = TextFault {
+            kind: *kind,
+            span: span(*start, *end),
+        };
+        assert_eq!(rt; fault_of(alloc, *text), Some(fault), "{text:?}");
+    }
+}
+
 #[test]
-fn first_faults(rt: HostRuntime) -> Result<(), Fail> {
-    let wanted: [(&[u8], FaultKind, usize, usize); 38] = [
+fn first_faults_of_tokens(rt: HostRuntime) {
+    let rows: [(&[u8], FaultKind, usize, usize); 13] = [
         (b"=", FaultKind::BadByte, 0, 1),
         (b"Idle => Discard;", FaultKind::BadByte, 5, 6),
         (b"a:", FaultKind::BadByte, 1, 2),
@@ -199,6 +219,13 @@ fn first_faults(rt: HostRuntime) -> Result<(), Fail> {
         (b"Counter(a", FaultKind::UnclosedString, 7, 9),
         (b"{ a( }", FaultKind::UnclosedString, 3, 6),
         (b"a -> b(", FaultKind::UnclosedString, 6, 7),
+    ];
+    expect_faults(&rt, rt.alloc(), rows.as_slice());
+}
+
+#[test]
+fn unexpected_tokens(rt: HostRuntime) {
+    let rows: [(&[u8], FaultKind, usize, usize); 19] = [
         (b"-> a", FaultKind::Unexpected, 0, 2),
         (b"}", FaultKind::Unexpected, 0, 1),
         (b"a b", FaultKind::Unexpected, 2, 3),
@@ -218,6 +245,13 @@ fn first_faults(rt: HostRuntime) -> Result<(), Fail> {
         (b"{ $a }", FaultKind::Unexpected, 5, 6),
         (b"{ $a, | }", FaultKind::Unexpected, 6, 7),
         (b"{ a", FaultKind::Unexpected, 3, 3),
+    ];
+    expect_faults(&rt, rt.alloc(), rows.as_slice());
+}
+
+#[test]
+fn bodies_too_deep(rt: HostRuntime) {
+    let rows: [(&[u8], FaultKind, usize, usize); 6] = [
         (
             b"{{{{{{{{{{{{{{{{{{{{{{{{{{{{{{{{",
             FaultKind::Unexpected,
@@ -255,15 +289,7 @@ fn first_faults(rt: HostRuntime) -> Result<(), Fail> {
             35,
         ),
     ];
-    for (text, kind, start, end) in wanted {
-        let span = span(start, end);
-        assert_eq!(rt;
-            fault_of(rt.alloc(), text),
-            Some(TextFault { kind, span }),
-            "{text:?}"
-        );
-    }
-    Ok(())
+    expect_faults(&rt, rt.alloc(), rows.as_slice());
 }
 
 #[test]

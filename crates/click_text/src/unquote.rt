@@ -175,7 +175,7 @@ mod tests {
     }
 
     #[test]
-    fn quotes(rt: HostRuntime) -> Result<(), Fail> {
+    fn quoted_codes(rt: HostRuntime) -> Result<(), Fail> {
         let alloc = rt.alloc();
         assert_eq!(rt;
             shown(alloc, b"\"a\\n\"'b'".as_slice())?.as_slice(),
@@ -213,6 +213,12 @@ mod tests {
             shown(alloc, b"\"\\<41\"".as_slice())?.as_slice(),
             b"!".as_slice()
         );
+        Ok(())
+    }
+
+    #[test]
+    fn other_characters(rt: HostRuntime) -> Result<(), Fail> {
+        let alloc = rt.alloc();
         assert_eq!(rt;
             shown(alloc, b"'a\\n'".as_slice())?.as_slice(),
             b"a\\n".as_slice()
