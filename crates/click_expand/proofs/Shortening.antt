@@ -1,5 +1,5 @@
 -- Shortcuts in the index of a scope, and the indices of all scopes with theirs.
-use Rattle.std.proofs.Common.{◌≡◌, ◌⊎◌, inl, inr, ℕ, ◌+◌, ◌<◌, zero, suc, List, [], ◌∷◌, ◌++◌, length, get_or, take, cond, nat_eq, Option, Some, Vec, Global, Contains, refl, sym, ap, ◌∙◌, subst, append_assoc, append-nil, arith}
+use Rattle.std.proofs.Common.{◌≡◌, ◌⊎◌, inl, inr, ℕ, ◌+◌, ◌<◌, zero, suc, List, [], ◌∷◌, ◌++◌, length, get_or, take, cond, nat_eq, Option, Some, Vec, Global, Contains, refl, sym, ap, ◌∙◌, subst, append_assoc, arith}
 use Rattle.std.specs.Map.{lookup}
 use Rattle.std.specs.List.{slice_get}
 use Rattle.std.proofs.lemmas.Bool.{cases_order}
@@ -75,9 +75,6 @@ module _ (old : List (Port × Vec Port Global)) (all : List Shortcut) where
     pub puts-next : Puts rest new
     puts-next = record { each = each-more; gone = k ∷ h.gone; are = h.are ∙ ap (λ xs. xs ++ h.gone) is ∙ append_assoc rest (k ∷ []) h.gone; done = done-more }
 
-  pub puts-none : (new : List (Port × Vec Port Global)) (left : List Shortcut) → new ≡ old → all ≡ left → Puts left new
-  puts-none new left e is = record { each = λ a. inl (ap (λ x. ends_in x a) e); gone = []; are = is ∙ sym (append-nil left); done = λ k m. absurd (omega (arith, m.1)) }
-
 pub puts-all : (old new : Index) (found : Found) (left : List Shortcut) (entries : List (Port × Vec Port Global)) → Puts old.ends.entries found.shortcuts.items left entries → left ≡ [] → new.ends.entries ≡ entries → new.alike ≡ found.alike →
     HasShortcuts old found new
 puts-all old new found left entries h none is alike =
@@ -152,14 +149,6 @@ below-front xs x ends h s a l = h s a (omega (arith, l, length-append xs (x ∷ 
 
 below-last : (xs : List Index) (x : Index) (ends : ℕ → Port → List Port) → AreEndsBelow (xs ++ x ∷ []) ends → (a : Port) → ends (length xs) a ≡ ends_in x.ends.entries a
 below-last xs x ends h a = h (length xs) a (omega (arith, length-append xs (x ∷ []))) ∙ ap (λ o. index_ends o a) (slice_get-last xs x)
-
-pub all-shortened-none : (body : ℕ → ℕ → Option ℕ) (xs : List Index) → xs ≡ [] → AreAllShortened body [] xs
-all-shortened-none body xs e = subst (AreAllShortened body []) (sym e) (record {
-  whole = [];
-  are = tt;
-  as_many = refl;
-  shortened = λ ends short _ _. record { is = λ s a l. absurd (omega (arith, l)); each = λ s l. absurd (omega (arith, l)); alike = λ s x at. absurd (cc at) };
-})
 
 module _ (body : ℕ → ℕ → Option ℕ) (joints : List (List Joint)) (i : ℕ) (xs new : List Index) (ks d : List Joint) (index x : Index) (l : i < length joints) (item : ks ≡ get_or joints i d)
     (h : AreAllShortened body (take i joints) xs) (many : i ≡ length xs) (is_index : IsIndex ks index.ends.entries) (e : new ≡ xs ++ x ∷ []) where

@@ -72,9 +72,6 @@ module _ (ends : ℕ → Port → List Port) (body : ℕ → ℕ → Option ℕ)
       pub each : (q : Port) → (ends_in new q ≡ []) ⊎ AreStoodFor ends body short s (ends_in raw q) (ends_in new q)
       pub all : (j : ℕ) (q : Port) (v : Vec Port Global) → j < i → slice_get raw j ≡ Some (q, v) → AreStoodFor ends body short s (ends_in raw q) (ends_in new q)
 
-    pub reduces-none : (new : List (Port × Vec Port Global)) → new ≡ [] → Reduces 0 new
-    reduces-none new e = record { each = λ q. inl (ap (λ x. ends_in x q) e); all = λ j q v l. absurd (omega (arith, l)) }
-
     module _ (i : ℕ) (old new : List (Port × Vec Port Global)) (p : Port) (v w : Vec Port Global) (there : slice_get raw i ≡ Some (p, w)) (stood : AreStoodFor ends body short s (ends_in raw p) v.items)
         (changed : (q : Port) → lookup (same_port q) new ≡ cond (same_port p q) (Some v) (lookup (same_port q) old)) (h : Reduces i old) where
       put : (q : Port) → q ≡ p → ends_in new q ≡ v.items → AreStoodFor ends body short s (ends_in raw q) (ends_in new q)
