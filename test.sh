@@ -1,8 +1,9 @@
 #!/usr/bin/env bash
-# Runs the examples and the refusals of memory through the programs, and then the gate: every proof from nothing, the must-fail edits, the tests and
-# the stored runs.
+# The gate: every proof from nothing, the must-fail edits, the tests and the stored runs; and then, with the programs that it has built, the examples
+# and the refusals of memory.
 set -eu
 cd "$(dirname "$0")"
+rt ci
 (cd crates/click_prog && rt run -- -e 'Idle' < /dev/null > /dev/null)
 (cd crates/click_bench && rt run < /dev/null > /dev/null)
 examples/run.sh
@@ -12,4 +13,3 @@ tools/refuse_each.sh
 tools/refuse_parse.sh
 tools/refuse_make.sh
 tools/refuse_prepare.sh
-exec rt ci
