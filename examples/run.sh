@@ -1,5 +1,5 @@
 #!/usr/bin/env bash
-# Runs each example through the program, which must have been built (rt run click_prog), and compares what it writes and its status.
+# Runs each example through the program, which must have been built (`rt ci`, or `rt run click_prog`), and compares what it writes and its status.
 set -eu
 cd "$(dirname "$0")"
 program=../crates/click_prog/out/click_prog
@@ -30,6 +30,9 @@ times() { for _ in $(seq "$1"); do printf '%s' "$2"; done; }
 refused '4 Unexpected at 1:33' "$(times 32 '{')"
 refused '5 TooDeep at 1:33' "$(times 33 '{')"
 refused '16 TooMany' "$(times 4097 'Idle;')"
+# A wrong class is told before a passed limit, and that before a flat name that is taken.
+refused '13 UnknownClass at 1:20491' "$(times 4097 'Idle;')x :: Foo;"
+refused '16 TooMany' "a :: { b :: Idle; }; a/b :: Idle; $(times 4097 'Idle;')"
 doubling='elementclass B0 { }'
 for k in $(seq 15); do
     doubling+=" elementclass B$k { x, y :: B$((k - 1)); }"

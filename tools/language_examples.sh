@@ -1,6 +1,6 @@
 #!/usr/bin/env bash
 # Parses each example of docs/LANGUAGE.md and docs/ELEMENTS.md and compares what is read with the line behind it; where a fault stands behind that,
-# the router has to refuse the example with that line. The programs must have been built: rt run click_bench, rt run click_prog.
+# the router has to refuse the example with that line. The programs must have been built: `rt ci`, or `rt run` of click_bench and click_prog.
 set -eu
 cd "$(dirname "$0")/.."
 passed=0 refused=0

@@ -1,7 +1,7 @@
 #!/usr/bin/env bash
 # Runs the program's stored session with each request for memory refused in turn, until none is. A run whose request is refused must end with
 # status 3 behind a front of the stored output, or, where the router's own request was refused, answer `520 Out of memory` in place of the value
-# and go on. A run in which none is refused must be the stored one. The program must have been built: rt run click_prog.
+# and go on. A run in which none is refused must be the stored one. The program must have been built: `rt ci`, or `rt run click_prog`.
 . "$(dirname "$0")/refusing.sh"
 program=crates/click_prog/out/click_prog
 mapfile -t args < crates/click_prog/args

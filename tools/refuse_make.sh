@@ -1,7 +1,7 @@
 #!/usr/bin/env bash
 # Makes some elements with each request for memory refused in turn, until none is: each run must tell want of memory and nothing else, or fail to read
 # its input for want of memory. The requests that the program makes for itself, as for an element without arguments, come first and are left out. The
-# program must have been built: rt run click_bench.
+# program must have been built: `rt ci`, or `rt run click_bench`.
 . "$(dirname "$0")/refusing.sh"
 program=crates/click_bench/out/click_bench
 own=1

@@ -1,6 +1,6 @@
 #!/usr/bin/env bash
 # Parses some texts with each request for memory refused in turn, until none is: each run must tell want of memory and nothing else, or fail to read
-# its input for want of memory. The program must have been built: rt run click_bench.
+# its input for want of memory. The program must have been built: `rt ci`, or `rt run click_bench`.
 . "$(dirname "$0")/refusing.sh"
 program=crates/click_bench/out/click_bench
 total=0

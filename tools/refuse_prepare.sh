@@ -1,6 +1,6 @@
 #!/usr/bin/env bash
 # Prepares some configurations with each request for memory refused in turn, until none is: each such run must end with status 3 behind a front of
-# the greeting, which alone is written where none is refused. The program must have been built: rt run click_prog.
+# the greeting, which alone is written where none is refused. The program must have been built: `rt ci`, or `rt run click_prog`.
 . "$(dirname "$0")/refusing.sh"
 program=crates/click_prog/out/click_prog
 printf 'Click::ControlSocket/1.3\r\n' > "$work/greeting"

@@ -1,4 +1,4 @@
--- The classes (Click element reference): names, counts of ports, and kinds of ports.
+-- The names of the classes (Click element reference).
 use Rattle.std.specs.Prelude.{ℕ, List, codes, find, Option}
 use Rattle.std.specs.Str.{bytes_eq}
 use Rattle.click_classes.specs.declared.class.TheConstants.{CLASSES}

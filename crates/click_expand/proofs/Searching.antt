@@ -1,4 +1,4 @@
--- A search over the ports of uses, one connection as written after another.
+-- A search over the ports of uses, one step of the scopes' indices after another.
 use Rattle.std.proofs.Common.{◌≡◌, ◌⊎◌, inl, inr, ℕ, ◌+◌, ◌<◌, ◌≤◌, zero, suc, List, [], ◌∷◌, ◌++◌, length, get_or, take, map, Bool, true, false, nat_eq, cond, Some, None, Contains, refl, sym, ap, ◌∙◌, subst, append_assoc, append-nil, arith}
 use Rattle.std.specs.List.{slice_get, list_any}
 use Rattle.std.proofs.lemmas.Bool.{and_parts, eqb-true, cases_order}

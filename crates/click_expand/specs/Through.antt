@@ -1,4 +1,4 @@
--- Connections that only lead through a compound: in at one of its inputs and out at its outputs, past no element.
+-- Connections that only lead through a compound: in at one of its inputs and out at its outputs, past no flat element.
 use Rattle.std.specs.Prelude.{◌≡◌, ◌⊎◌, ℕ, ◌<◌, List, [], ◌∷◌, length, slice_get, Contains, nat_eq, Option, Some, None, Vec}
 use Rattle.std.specs.Global.{Global}
 use Rattle.std.specs.Map.{lookup}
@@ -47,7 +47,7 @@ pub data Runs (ends : ℕ → Port → List Port) (body : ℕ → ℕ → Option
   over : (s i n inner m : ℕ) (a b : Port) → Runs ends body s a (port (owner.Element i) n) → body s i ≡ Some inner →
       Runs ends body inner (port owner.Input n) (port owner.Output m) → Runs ends body s (port (owner.Element i) m) b → Runs ends body s a b
 
--- From a port of a scope, connections lead to an element of the scope, or of a compound in it.
+-- From a port of a scope, connections lead to a flat element of the scope, or of a compound in it.
 pub data Lands (ends : ℕ → Port → List Port) (body : ℕ → ℕ → Option ℕ) : ℕ → Port → Type 0 where
   on_element : (s i n : ℕ) (a : Port) → Runs ends body s a (port (owner.Element i) n) → body s i ≡ None → Lands ends body s a
   inside : (s i n inner : ℕ) (a : Port) → Runs ends body s a (port (owner.Element i) n) → body s i ≡ Some inner → Lands ends body inner (port owner.Input n) → Lands ends body s a
@@ -85,7 +85,7 @@ pub record AreShortened (ends : ℕ → Port → List Port) (body : ℕ → ℕ 
 abbrev pub IsOutputOf : ℕ → List Port → Port → Type 0
 IsOutputOf i outs p = (q : Port) × Contains outs q × (p ≡ port (owner.Element i) q.number)
 
--- connections lead from one of these ends on to that output of an element of the scope
+-- one of these ends is an input of an element, and what is kept of its body leads from there to an output; that is the element's output of that number
 pub record GoesOver (body : ℕ → ℕ → Option ℕ) (short : ℕ → Port → List Port) (s : ℕ) (es : List Port) (p : Port) : Type 0 where
   pub element : ℕ
   pub number : ℕ
@@ -121,6 +121,7 @@ AreEndsOf ends body short s here = (a : Port) → AreStoodFor ends body short s 
 abbrev pub LeadAlike : (ends : ℕ → Port → List Port) (body : ℕ → ℕ → Option ℕ) → ℕ → (Port → List Port) → Port → List Port → Type 0
 LeadAlike ends body s here from outs = (n : ℕ) → here (port owner.Input n) ≡ here from → LeadsThrough ends body s n outs
 
+-- the one port of a list of one
 abbrev pub only : List Port → Option Port
 only [] = None
 only (p ∷ []) = Some p
@@ -139,7 +140,7 @@ pub record AreFound (ends : ℕ → Port → List Port) (body : ℕ → ℕ → 
   pub firsts : (p : Port) (k : ℕ) → lookup (same_port p) found.firsts.entries ≡ Some k → (from : Port) → here from ≡ p ∷ [] → IsLike here found.shortcuts.items from k
   pub alike : (n k : ℕ) → lookup (nat_eq n) found.alike.entries ≡ Some k → IsLike here found.shortcuts.items (port owner.Input n) k
 
--- the index with these shortcuts: each port's ends are as they were, or the outputs of a shortcut from there; those of a port with a shortcut are
+-- the index with these shortcuts: each port's ends are as they were, or the outputs of a shortcut from there; of a port with one always the latter
 pub record HasShortcuts (old : Index) (found : Found) (new : Index) : Type 0 where
   pub each : (a : Port) → (ends_in new.ends.entries a ≡ ends_in old.ends.entries a)
       ⊎ ((k : Shortcut) × Contains found.shortcuts.items k × (a ≡ k.from) × (ends_in new.ends.entries a ≡ k.outputs.items))
@@ -147,7 +148,7 @@ pub record HasShortcuts (old : Index) (found : Found) (new : Index) : Type 0 whe
       (j : Shortcut) × Contains found.shortcuts.items j × (k.from ≡ j.from) × (ends_in new.ends.entries k.from ≡ j.outputs.items)
   pub alike : new.alike ≡ found.alike
 
--- inputs of the scope are like others
+-- each input that is kept as like another leads through the scope to what is kept of that other
 abbrev pub AreAlike : (ends : ℕ → Port → List Port) (body : ℕ → ℕ → Option ℕ) (short : ℕ → Port → List Port) → ℕ → Index → Type 0
 AreAlike ends body short s x = (n k : ℕ) → lookup (nat_eq n) x.alike.entries ≡ Some k → LeadsThrough ends body s n (short s (port owner.Input k))
 

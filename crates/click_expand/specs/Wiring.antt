@@ -1,4 +1,4 @@
--- How the connections of a flat configuration are found: from a port of a use of a scope, one connection as written after another.
+-- How the connections of a flat configuration are found: from a port of a use of a scope, one step of the scopes' indices after another.
 use Rattle.std.specs.Prelude.{◌≡◌, ℕ, List, [], ◌∷◌, ◌++◌, map, slice_get, nat_eq, Bool, true, false, ◌&&◌, Contains, Vec, Option, Some, None}
 use Rattle.std.specs.Global.{Global}
 use Rattle.std.specs.Map.{lookup}

@@ -13,7 +13,7 @@ pub fn flat_text_reads_back()
     ensures { (text : List ℕ) (config : Config) (flat : Flat) → Spells text config → IsFlat config flat → (again : Config) × Spells (text_of flat) again × IsFlat again flat }
 {}
 
-/// A configuration that a text spells has one flat form or one first fault, and never both.
+/// A configuration that a text spells has one flat form at most, one first fault at most, and never both.
 pub fn flat_once()
     ensures flat { (text : List ℕ) (config : Config) (flat other : Flat) → Spells text config → IsFlat config flat → IsFlat config other → flat ≡ other }
     ensures fault { (text : List ℕ) (config : Config) (fault other : ExpandFault) → Spells text config → IsFlatFault config fault → IsFlatFault config other → fault ≡ other }

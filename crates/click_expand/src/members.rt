@@ -1,4 +1,4 @@
-//! The elements of a scope, their names, and the ends of its connections.
+//! The elements of a scope and their names.
 
 ghost use Rattle.std.specs.Prelude.{◌≡◌, ◌<◌, ℕ, List, [], ◌∷◌, ◌++◌, map, IfOk, OnOk};
 ghost use Rattle.click_expand.specs.Elements as spec;

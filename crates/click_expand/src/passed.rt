@@ -143,8 +143,8 @@ fn push_spans(all: &mut Vec<Sequence<Span>>, one: Sequence<Span>) -> Result<(), 
     Ok(())
 }
 
-/// For each use where its arguments stand in the string of its element. An argument that stands for nothing has an empty place: reading a text then
-/// takes no longer than what it stands for is long.
+/// For each use where its arguments stand in the string of its element. An argument that stands for nothing has an empty place, so that no text
+/// reads what stands for nothing.
 pub fn all_spans(
     alloc: Global,
     config: &Config,

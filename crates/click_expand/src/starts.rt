@@ -42,8 +42,8 @@ pub enum Next {
     Nothing,
 }
 
-/// The connections of a scope: for each port that one begins at, those that they lead to; and for inputs that lead through the scope to the same
-/// outputs as another does, the number of that other.
+/// The connections of a scope: for each port that one begins at, the ports that they lead to, or for an input with a shortcut its outputs; and for
+/// inputs that lead through the scope to the same outputs as another does, the number of that other.
 #[derive(Drop)]
 pub struct Index {
     pub ends: IndexMap<Port, Vec<Port>>,

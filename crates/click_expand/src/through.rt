@@ -1,11 +1,11 @@
-//! Connections that only lead through a body, in at an input and out at outputs, past no element. Where they lead is found once for the body, so that
-//! no search goes through all of its uses.
+//! Inputs of a body whose connections lead out at its outputs, past no element. The outputs are found once for the body, so that no search goes into
+//! the compounds inside it.
 
 ghost use Rattle.std.specs.Prelude.{◌≡◌, ◌⊎◌, ◌∷◌, [], ℕ, List, Contains, Option, true, length, IfOk, OnOk, IfSome};
-ghost use Rattle.click_expand.specs.declared.joints.Owner.TheVariants as own;
-ghost use Rattle.click_expand.specs.declared.starts.Port.{Port as Jack};
-ghost use Rattle.click_expand.specs.declared.starts.Index.{Index as Kept};
-ghost use Rattle.click_expand.specs.Wiring.{AreIndices, Gains, HasAll, ends_in, port as jack};
+ghost use Rattle.click_expand.specs.declared.joints.Owner.TheVariants as owner;
+ghost use Rattle.click_expand.specs.declared.starts.Port.{Port as PortKept};
+ghost use Rattle.click_expand.specs.declared.starts.Index.{Index as IndexKept};
+ghost use Rattle.click_expand.specs.Wiring.{AreIndices, Gains, HasAll, ends_in, port as port_of};
 ghost use Rattle.click_expand.specs.Through as spec;
 ghost use Rattle.click_expand.specs.Through.{AreAlike, AreEndsOf, AreFound, AreShortened, AreStoodFor, HasShortcuts, IsLike, IsOutputOf, IsShortened, LeadAlike, LeadsThrough, Passes, StandsIn};
 
@@ -34,10 +34,10 @@ fn body_at(locals: &[Vec<Local>], scope: usize, element: usize) -> Option<usize>
     }
 }
 
-/// The input that stands in for that input of a body.
+/// The number of the input that stands in for that input of a body: its own, where none is kept.
 fn number_for(done: &[Index], body: usize, number: u8) -> u8
-    ensures { (ends short : ℕ → Jack → List Jack) (bodies : ℕ → ℕ → Option ℕ) → AreShortened ends bodies short done.now →
-        (result ≡ number) ⊎ LeadsThrough ends bodies body number (short body (jack own.Input result)) }
+    ensures { (ends short : ℕ → PortKept → List PortKept) (bodies : ℕ → ℕ → Option ℕ) → AreShortened ends bodies short done.now →
+        (result ≡ number) ⊎ LeadsThrough ends bodies body number (short body (port_of owner.Input result)) }
 {
     match done.get(body) {
         Some(index) => match index.alike.get(&number) {
@@ -50,7 +50,7 @@ fn number_for(done: &[Index], body: usize, number: u8) -> u8
 
 /// The port that stands in for one that a connection leads to.
 fn port_for(done: &[Index], locals: &[Vec<Local>], scope: usize, end: Port) -> Port
-    ensures { (ends short : ℕ → Jack → List Jack) → AreShortened ends (spec.body_at locals.now) short done.now → StandsIn ends (spec.body_at locals.now) short scope end result }
+    ensures { (ends short : ℕ → PortKept → List PortKept) → AreShortened ends (spec.body_at locals.now) short done.now → StandsIn ends (spec.body_at locals.now) short scope end result }
 {
     let Owner::Element(element) = end.owner else {
         return end;
@@ -72,8 +72,8 @@ fn ports_for(
     scope: usize,
     ends: &[Port],
 ) -> Result<Vec<Port>, AllocError>
-    ensures { (all short : ℕ → Jack → List Jack) → AreShortened all (spec.body_at locals.now) short done.now →
-        IfOk result (λ ports. AreStoodFor all (spec.body_at locals.now) short scope ends.now ports.items) }
+    ensures { (joined short : ℕ → PortKept → List PortKept) → AreShortened joined (spec.body_at locals.now) short done.now →
+        IfOk result (λ ports. AreStoodFor joined (spec.body_at locals.now) short scope ends.now ports.items) }
 {
     let mut ports = IndexSet::new(alloc);
     for end in ends {
@@ -82,7 +82,7 @@ fn ports_for(
     Vec::from_slice(alloc, ports.as_slice())
 }
 
-/// The index of a scope, with those ports in it that stand in for others, where all bodies before it are done.
+/// The index of a scope with each port that a connection leads to replaced by the one that stands in for it, where all bodies before are done.
 fn reduced(
     alloc: Global,
     done: &[Index],
@@ -90,7 +90,7 @@ fn reduced(
     scope: usize,
     index: &Index,
 ) -> Result<Index, AllocError>
-    ensures { (ends short : ℕ → Jack → List Jack) → AreShortened ends (spec.body_at locals.now) short done.now → ((a : Jack) → ends scope a ≡ ends_in index.now.ends.entries a) →
+    ensures { (ends short : ℕ → PortKept → List PortKept) → AreShortened ends (spec.body_at locals.now) short done.now → ((a : PortKept) → ends scope a ≡ ends_in index.now.ends.entries a) →
         IfOk result (λ x. AreEndsOf ends (spec.body_at locals.now) short scope (ends_in x.ends.entries)) }
 {
     let mut ends = IndexMap::new(alloc);
@@ -106,9 +106,9 @@ fn reduced(
     })
 }
 
-/// Whether all of these ports are a body's own outputs.
+/// Whether all of these ports are a body's own outputs. True of none: an input without connections leads nowhere, and so past no element.
 fn are_outputs(ends: &[Port]) -> bool
-    ensures { result ≡ true → (p : Jack) → Contains ends.now p → p.owner ≡ own.Output }
+    ensures { result ≡ true → (p : PortKept) → Contains ends.now p → p.owner ≡ owner.Output }
 {
     for end in ends {
         let Owner::Output = end.owner else {
@@ -118,10 +118,10 @@ fn are_outputs(ends: &[Port]) -> bool
     true
 }
 
-/// What the connections from an input of a body lead to, where it is known that they only lead through it.
+/// The outputs that an input of a body leads to, where it is known that it only leads through. None of a body that is not done.
 fn through(done: &[Index], body: usize, number: u8) -> Option<&[Port]>
-    ensures { (ends short : ℕ → Jack → List Jack) (bodies : ℕ → ℕ → Option ℕ) → AreShortened ends bodies short done.now →
-        IfSome result (λ outputs. (outputs.now ≡ short body (jack own.Input number)) × LeadsThrough ends bodies body number outputs.now) }
+    ensures { (ends short : ℕ → PortKept → List PortKept) (bodies : ℕ → ℕ → Option ℕ) → AreShortened ends bodies short done.now →
+        IfSome result (λ outputs. (outputs.now ≡ short body (port_of owner.Input number)) × LeadsThrough ends bodies body number outputs.now) }
 {
     let ends = done.get(body)?.ends(Port {
         owner: Owner::Input,
@@ -130,7 +130,7 @@ fn through(done: &[Index], body: usize, number: u8) -> Option<&[Port]>
     if are_outputs(ends) { Some(ends) } else { None }
 }
 
-/// Goes on from those outputs of an element.
+/// Has the search go on from the element's outputs of these numbers.
 fn go_on(element: usize, outputs: &[Port], seen: &mut IndexSet<Port>) -> Result<(), AllocError>
     ensures more { OnOk result (Gains (IsOutputOf element outputs.now) seen.old.keys seen.new.keys) }
     ensures all { OnOk result (HasAll (IsOutputOf element outputs.now) seen.new.keys) }
@@ -144,7 +144,7 @@ fn go_on(element: usize, outputs: &[Port], seen: &mut IndexSet<Port>) -> Result<
     Ok(())
 }
 
-/// Goes on behind a port that a connection leads to. False where that is a flat element's, or one that leads to one.
+/// Goes on behind a port that a connection leads to. False where that is a flat element's, or an input that leads to an element.
 fn pass(
     done: &[Index],
     locals: &[Vec<Local>],
@@ -153,10 +153,11 @@ fn pass(
     seen: &mut IndexSet<Port>,
     outputs: &mut IndexSet<Port>,
 ) -> Result<bool, AllocError>
-    ensures { (ends short : ℕ → Jack → List Jack) → AreShortened ends (spec.body_at locals.now) short done.now →
+    ensures { (ends short : ℕ → PortKept → List PortKept) → AreShortened ends (spec.body_at locals.now) short done.now →
         IfOk result (λ on. on ≡ true → Passes ends (spec.body_at locals.now) short scope (end ∷ []) seen.old.keys seen.new.keys outputs.old.keys outputs.new.keys) }
 {
     match end.owner {
+        // No connection leads to a body's own input: that is a wrong use.
         Owner::Input => Ok(true),
         Owner::Output => {
             outputs.insert(end)?;
@@ -175,7 +176,7 @@ fn pass(
     }
 }
 
-/// The same for each of these ports.
+/// Goes on behind each of these ports, up to the first that leads to an element; false there.
 fn pass_all(
     done: &[Index],
     locals: &[Vec<Local>],
@@ -184,8 +185,8 @@ fn pass_all(
     seen: &mut IndexSet<Port>,
     outputs: &mut IndexSet<Port>,
 ) -> Result<bool, AllocError>
-    ensures { (all short : ℕ → Jack → List Jack) → AreShortened all (spec.body_at locals.now) short done.now →
-        IfOk result (λ on. on ≡ true → Passes all (spec.body_at locals.now) short scope ends.now seen.old.keys seen.new.keys outputs.old.keys outputs.new.keys) }
+    ensures { (joined short : ℕ → PortKept → List PortKept) → AreShortened joined (spec.body_at locals.now) short done.now →
+        IfOk result (λ on. on ≡ true → Passes joined (spec.body_at locals.now) short scope ends.now seen.old.keys seen.new.keys outputs.old.keys outputs.new.keys) }
 {
     for end in ends {
         if !pass(done, locals, scope, *end, seen, outputs)? {
@@ -195,7 +196,7 @@ fn pass_all(
     Ok(true)
 }
 
-/// The outputs of a scope that connections from one of its inputs lead to, where they lead to no element.
+/// The outputs of a scope that connections from one of its inputs lead to; none where they lead to an element.
 fn outputs_from(
     alloc: Global,
     done: &[Index],
@@ -204,7 +205,7 @@ fn outputs_from(
     index: &Index,
     from: Port,
 ) -> Result<Option<Vec<Port>>, AllocError>
-    ensures { (ends short : ℕ → Jack → List Jack) → AreShortened ends (spec.body_at locals.now) short done.now → AreEndsOf ends (spec.body_at locals.now) short scope (ends_in index.now.ends.entries) →
+    ensures { (ends short : ℕ → PortKept → List PortKept) → AreShortened ends (spec.body_at locals.now) short done.now → AreEndsOf ends (spec.body_at locals.now) short scope (ends_in index.now.ends.entries) →
         IfOk result (λ r. IfSome r (λ outputs. LeadAlike ends (spec.body_at locals.now) scope (ends_in index.now.ends.entries) from outputs.items)) }
 {
     let mut seen = IndexSet::new(alloc);
@@ -222,11 +223,14 @@ fn outputs_from(
     Ok(Some(Vec::from_slice(alloc, outputs.as_slice())?))
 }
 
-/// What is found of a scope: its shortcuts, by the one port that they lead to first those inputs that have one, and the inputs that are like them.
+/// What is found of a scope.
 #[derive(Drop)]
 struct Found {
+    /// Its inputs that only lead through.
     shortcuts: Vec<Shortcut>,
+    /// By a port: the first of these inputs whose one connection leads there.
     firsts: IndexMap<Port, u8>,
+    /// By an input: the one with a shortcut that has the same one connection.
     alike: IndexMap<u8, u8>,
 }
 
@@ -241,9 +245,9 @@ fn only_end(index: &Index, from: Port) -> Option<Port>
 }
 
 impl Found {
-    /// The input that leads to the same port as this one and was found before it.
+    /// The input whose one connection leads to the same port and that was found before.
     fn like(&self, index: &Index, from: Port) -> Option<u8>
-        ensures { (ends : ℕ → Jack → List Jack) (bodies : ℕ → ℕ → Option ℕ) (scope : ℕ) → AreFound ends bodies scope (ends_in index.now.ends.entries) self.now →
+        ensures { (ends : ℕ → PortKept → List PortKept) (bodies : ℕ → ℕ → Option ℕ) (scope : ℕ) → AreFound ends bodies scope (ends_in index.now.ends.entries) self.now →
             IfSome result (IsLike (ends_in index.now.ends.entries) self.now.shortcuts.items from) }
     {
         match only_end(index, from) {
@@ -254,7 +258,7 @@ impl Found {
 
     /// Adds a shortcut.
     fn add(&mut self, index: &Index, from: Port, outputs: Vec<Port>) -> Result<(), AllocError>
-        ensures { (ends : ℕ → Jack → List Jack) (bodies : ℕ → ℕ → Option ℕ) (scope : ℕ) → AreFound ends bodies scope (ends_in index.now.ends.entries) self.old → from.owner ≡ own.Input →
+        ensures { (ends : ℕ → PortKept → List PortKept) (bodies : ℕ → ℕ → Option ℕ) (scope : ℕ) → AreFound ends bodies scope (ends_in index.now.ends.entries) self.old → from.owner ≡ owner.Input →
             LeadAlike ends bodies scope (ends_in index.now.ends.entries) from outputs.items → OnOk result (AreFound ends bodies scope (ends_in index.now.ends.entries) self.new) }
     {
         if let Some(end) = only_end(index, from) {
@@ -264,7 +268,7 @@ impl Found {
         Ok(())
     }
 
-    /// Looks at a port of a scope: is it an input that leads through it?
+    /// Adds the shortcut from a port, or the input that it is like, where it is an input that leads through the scope.
     fn look(
         &mut self,
         alloc: Global,
@@ -274,7 +278,7 @@ impl Found {
         index: &Index,
         from: Port,
     ) -> Result<(), AllocError>
-        ensures { (ends short : ℕ → Jack → List Jack) → AreShortened ends (spec.body_at locals.now) short done.now → AreEndsOf ends (spec.body_at locals.now) short scope (ends_in index.now.ends.entries) →
+        ensures { (ends short : ℕ → PortKept → List PortKept) → AreShortened ends (spec.body_at locals.now) short done.now → AreEndsOf ends (spec.body_at locals.now) short scope (ends_in index.now.ends.entries) →
             AreFound ends (spec.body_at locals.now) scope (ends_in index.now.ends.entries) self.old → OnOk result (AreFound ends (spec.body_at locals.now) scope (ends_in index.now.ends.entries) self.new) }
     {
         let Owner::Input = from.owner else {
@@ -299,7 +303,7 @@ fn found_in(
     scope: usize,
     index: &Index,
 ) -> Result<Found, AllocError>
-    ensures { (ends short : ℕ → Jack → List Jack) → AreShortened ends (spec.body_at locals.now) short done.now → AreEndsOf ends (spec.body_at locals.now) short scope (ends_in index.now.ends.entries) →
+    ensures { (ends short : ℕ → PortKept → List PortKept) → AreShortened ends (spec.body_at locals.now) short done.now → AreEndsOf ends (spec.body_at locals.now) short scope (ends_in index.now.ends.entries) →
         IfOk result (AreFound ends (spec.body_at locals.now) scope (ends_in index.now.ends.entries)) }
 {
     let mut found = Found {
@@ -338,8 +342,8 @@ fn shortened(
     scope: usize,
     index: &Index,
 ) -> Result<Index, AllocError>
-    ensures { (ends short : ℕ → Jack → List Jack) → AreShortened ends (spec.body_at locals.now) short done.now → ((a : Jack) → ends scope a ≡ ends_in index.now.ends.entries a) →
-        IfOk result (λ x. ((a : Jack) → short scope a ≡ ends_in x.ends.entries a) → IsShortened ends (spec.body_at locals.now) short scope × AreAlike ends (spec.body_at locals.now) short scope x) }
+    ensures { (ends short : ℕ → PortKept → List PortKept) → AreShortened ends (spec.body_at locals.now) short done.now → ((a : PortKept) → ends scope a ≡ ends_in index.now.ends.entries a) →
+        IfOk result (λ x. ((a : PortKept) → short scope a ≡ ends_in x.ends.entries a) → IsShortened ends (spec.body_at locals.now) short scope × AreAlike ends (spec.body_at locals.now) short scope x) }
 {
     let short = reduced(alloc, done, locals, scope, index)?;
     let found = found_in(alloc, done, locals, scope, &short)?;
@@ -352,7 +356,7 @@ pub fn all_indices(
     joints: &[Sequence<Joint>],
     locals: &[Vec<Local>],
 ) -> Result<Vec<Index>, AllocError>
-    ensures { IfOk result (λ short. (whole : List Kept) × AreIndices joints.now whole × (length whole ≡ length short.items)
+    ensures { IfOk result (λ short. (whole : List IndexKept) × AreIndices joints.now whole × (length whole ≡ length short.items)
         × AreShortened (spec.ends_at whole) (spec.body_at locals.now) (spec.ends_at short.items) short.items) }
 {
     let mut indices = Vec::new(alloc);

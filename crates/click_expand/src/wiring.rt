@@ -83,7 +83,7 @@ fn take_all(
     Ok(())
 }
 
-/// Goes on by one connection from a start.
+/// Goes on from a start by what its scope's index has there: connections, or a shortcut.
 fn visit(
     uses: &[Use],
     indices: &[Index],
