@@ -59,7 +59,10 @@ fn scope_locals(alloc: Global, scope: usize, uses: &[Use]) -> Result<Vec<Local>,
     for part in one.parts.as_slice() {
         let class = match part {
             Part::Leaf(_) => None,
-            Part::Inner(at) => Some(ClassOf::Compound(uses[*at].scope)),
+            Part::Inner(at) => match uses.get(*at) {
+                Some(inner) => Some(ClassOf::Compound(inner.scope)),
+                None => None,
+            },
         };
         locals.push(local(alloc, class))?;
     }
