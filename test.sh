@@ -4,8 +4,6 @@
 set -eu
 cd "$(dirname "$0")"
 rt ci
-(cd crates/click_prog && rt run -- -e 'Idle' < /dev/null > /dev/null)
-(cd crates/click_bench && rt run < /dev/null > /dev/null)
 examples/run.sh
 tools/language_examples.sh
 tools/element_pages.sh
