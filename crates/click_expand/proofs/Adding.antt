@@ -15,7 +15,7 @@ use Rattle.click_expand.specs.declared.uses.Part.{Part}
 use Rattle.click_expand.specs.declared.uses.Part.TheVariants as part
 use Rattle.click_expand.specs.declared.uses.Place.{Place}
 use Rattle.click_expand.specs.declared.uses.Use.{Use}
-use Rattle.click_expand.proofs.Keeping.{slice_get-more}
+use Rattle.click_expand.proofs.Keeping.{slice_get-more, slice_get-front}
 use Rattle.click_expand.proofs.Homes.{same_some, IsHomeKept}
 
 pub slice_get-there : {X : Type 0} (xs : List X) (i : ℕ) → i < length xs → (x : X) × (slice_get xs i ≡ Some x)
@@ -34,11 +34,6 @@ slice_get-other (x ∷ xs) zero zero v n = absurd (n refl)
 slice_get-other (x ∷ xs) zero (suc j) v n = refl
 slice_get-other (x ∷ xs) (suc i) zero v n = refl
 slice_get-other (x ∷ xs) (suc i) (suc j) v n = slice_get-other xs i j v (λ e. n (ap suc e))
-
-slice_get-front : {X : Type 0} (xs ys : List X) (i : ℕ) → i < length xs → slice_get (xs ++ ys) i ≡ slice_get xs i
-slice_get-front [] ys i l = absurd (omega (arith, l))
-slice_get-front (x ∷ xs) ys zero l = refl
-slice_get-front (x ∷ xs) ys (suc i) l = slice_get-front xs ys i (omega (arith, l))
 
 pub slice_get-behind : {X : Type 0} (xs ys : List X) (j : ℕ) → slice_get (xs ++ ys) (length xs + j) ≡ slice_get ys j
 slice_get-behind [] ys j = let e : 0 + j ≡ j = omega arith in ap (slice_get ys) e

@@ -24,6 +24,11 @@ slice_get-more [] ys i x h = absurd (cc h)
 slice_get-more (y ∷ xs) ys zero x h = h
 slice_get-more (y ∷ xs) ys (suc i) x h = slice_get-more xs ys i x h
 
+pub slice_get-front : {X : Type 0} (xs ys : List X) (i : ℕ) → i < length xs → slice_get (xs ++ ys) i ≡ slice_get xs i
+slice_get-front [] ys i l = absurd (omega (arith, l))
+slice_get-front (x ∷ xs) ys zero l = refl
+slice_get-front (x ∷ xs) ys (suc i) l = slice_get-front xs ys i (omega (arith, l))
+
 pub slice_get-last : {X : Type 0} (xs : List X) (x : X) → slice_get (xs ++ x ∷ []) (length xs) ≡ Some x
 slice_get-last [] x = refl
 slice_get-last (y ∷ xs) x = slice_get-last xs x

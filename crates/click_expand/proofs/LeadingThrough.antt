@@ -111,7 +111,7 @@ module _ (ends : ℕ → Port → List Port) (body : ℕ → ℕ → Option ℕ)
     );
     complete = λ m r. (let w = stood.each (port owner.Output m) (runs-out s (port owner.Input n) (port owner.Output m) out r) in
         subst (Contains outs) (sym (stands-same s (port owner.Output m) w.0 w.2 (inr refl))) w.1);
-    past = lands-out s (port owner.Input n) out;
+    no_landing = lands-out s (port owner.Input n) out;
   }
     where
       out : (p : Port) → Contains (ends s (port owner.Input n)) p → p.owner ≡ owner.Output
@@ -405,7 +405,7 @@ module _ (ends : ℕ → Port → List Port) (body : ℕ → ℕ → Option ℕ)
       let x = runs-reach s here are seen outs all a (port (owner.Element i) n) h r in
       let y = meets s seen outs (ends s x.by) (here x.by) x.closed (are x.by) i n x.joined in
       let c : y.inner ≡ inner = some_same (sym y.is_body ∙ e) in
-      y.lead.past (subst (λ (k : ℕ). Lands ends body k (port owner.Input n)) (sym c) l)
+      y.lead.no_landing (subst (λ (k : ℕ). Lands ends body k (port owner.Input n)) (sym c) l)
 
   -- at the end of the search all ports that are seen are gone on from
   pub goes-all : (s : ℕ) (here : Port → List Port) (are : AreEndsOf ends body short s here) (from : Port) (seen outs : List Port) (at : ℕ) → Goes s here are from seen outs at → length seen ≤ at →
@@ -417,7 +417,7 @@ module _ (ends : ℕ → Port → List Port) (body : ℕ → ℕ → Option ℕ)
             (let x = runs-reach s here are seen outs all (port owner.Input n) (port owner.Output m) first r in
             let y = (are x.by).each (port owner.Output m) x.joined in
             x.closed.outs_all (port owner.Output m) (subst (Contains (here x.by)) (sym (stands-same s (port owner.Output m) y.0 y.2 (inr refl))) y.1, refl));
-        past = lands-never s here are seen outs all (port owner.Input n) first;
+        no_landing = lands-never s here are seen outs all (port owner.Input n) first;
       }
     where
       all : (t : Port) → Contains seen t → IsClosed s seen outs (here t)

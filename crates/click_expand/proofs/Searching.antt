@@ -17,6 +17,7 @@ use Rattle.click_expand.specs.declared.starts.Index.{Index}
 use Rattle.click_expand.specs.declared.flat.Connection.{Connection}
 use Rattle.click_expand.specs.Wiring.{start, same_start, same_port, next_by, nexts, ends_in, StepsTo, Arrives, at_once, behind, connection, IsFrom, Gains, HasAll, IsOn, IsEnd, Takes, IsAtOnce, Visits}
 use Rattle.click_expand.proofs.Indexing.{port-exact}
+use Rattle.click_expand.proofs.Keeping.{slice_get-front}
 use Rattle.click_expand.proofs.Ordered.{same, exact}
 
 some_same : {X : Type 0} {x y : X} → Some x ≡ Some y → x ≡ y
@@ -32,11 +33,6 @@ contains-at xs x (k, l, e) = (k, slice_get-get_or xs k x l ∙ ap (λ y. Some y)
 
 pub at-contains : {X : Type 0} (xs : List X) (i : ℕ) (x : X) → slice_get xs i ≡ Some x → Contains xs x
 at-contains xs i x h = (i, slice_get_within xs i x h, get_or_from_slice_get xs i x x h)
-
-slice_get-front : {X : Type 0} (xs ys : List X) (i : ℕ) → i < length xs → slice_get (xs ++ ys) i ≡ slice_get xs i
-slice_get-front [] ys i l = absurd (omega (arith, l))
-slice_get-front (x ∷ xs) ys zero l = refl
-slice_get-front (x ∷ xs) ys (suc i) l = slice_get-front xs ys i (omega (arith, l))
 
 contains-map : {X Y : Type 0} (f : X → Y) (xs : List X) (y : Y) → Contains (map f xs) y → (x : X) × Contains xs x × (f x ≡ y)
 contains-map f [] y h = absurd (omega (arith, h.1))

@@ -141,7 +141,7 @@ module _ (uses : List Use) where
 
       -- where connections lead through a use from there, the way goes out of it
       leaves-through : (n : ℕ) (k : Use) (q : ℕ) (outs : List Port) → LeadsThrough ends body k.scope q outs → Parts n k (port owner.Input q) → Leaves n k (port owner.Input q)
-      leaves-through n k q outs l (inl h) = absurd (l.past h)
+      leaves-through n k q outs l (inl h) = absurd (l.no_landing h)
       leaves-through n k q outs l (inr h) = h
 
     module _ (ends short : ℕ → Port → List Port) (i : Input) where

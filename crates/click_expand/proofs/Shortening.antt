@@ -16,17 +16,12 @@ use Rattle.click_expand.specs.Wiring.{port, same_port, ends_in, IsIndex, AreIndi
 use Rattle.click_expand.specs.Through.{index_ends, ends_at, LeadsThrough, AreStoodFor, IsShortened, AreShortened, AreEndsOf, AreFound, HasShortcuts, AreAlike}
 use Rattle.click_expand.proofs.Chains.{some_same}
 use Rattle.click_expand.proofs.Indexing.{indices-more}
-use Rattle.click_expand.proofs.Keeping.{slice_get-last}
+use Rattle.click_expand.proofs.Keeping.{slice_get-last, slice_get-front}
 use Rattle.click_expand.proofs.StandingIn.{changed-at, changed-here}
 
 contains-cons : {X : Type 0} (x : X) (xs : List X) (y : X) → Contains (x ∷ xs) y → (x ≡ y) ⊎ Contains xs y
 contains-cons x xs y (zero, l, e) = inl e
 contains-cons x xs y (suc k, l, e) = inr (k, omega (arith, l), e)
-
-slice_get-front : {X : Type 0} (xs ys : List X) (i : ℕ) → i < length xs → slice_get (xs ++ ys) i ≡ slice_get xs i
-slice_get-front [] ys i l = absurd (omega (arith, l))
-slice_get-front (x ∷ xs) ys zero l = refl
-slice_get-front (x ∷ xs) ys (suc i) l = slice_get-front xs ys i (omega (arith, l))
 
 module _ (old : List (Port × Vec Port Global)) (all : List Shortcut) where
   -- each port's ends are as they were, or the outputs of a shortcut from there

@@ -1,17 +1,19 @@
 -- Ports that stand in for those that connections lead to, and the index of a scope that has them.
-use Rattle.std.proofs.Common.{◌≡◌, ◌⊎◌, inl, inr, ℕ, ◌+◌, ◌<◌, ◌≤◌, List, [], ◌∷◌, ◌++◌, length, get_or, take, Bool, cond, Option, Some, None, Vec, Global, Contains, refl, sym, ap, ◌∙◌, subst, arith}
+use Rattle.std.proofs.Common.{◌≡◌, ◌⊎◌, inl, inr, ℕ, zero, suc, ◌+◌, ◌<◌, ◌≤◌, List, [], ◌∷◌, ◌++◌, length, get_or, take, Bool, false, cond, Option, Some, None, Vec, Global, Contains, refl, sym, ap, ◌∙◌, subst, arith}
 use Rattle.std.specs.Map.{lookup}
 use Rattle.std.specs.List.{slice_get}
+use Rattle.std.specs.Option.{is_some}
 use Rattle.std.proofs.lemmas.Bool.{cases_Bool, cases_order}
 use Rattle.std.proofs.lemmas.List.{take_more}
 use Rattle.std.proofs.lemmas.Option.{slice_get_within}
 use Rattle.std.proofs.lemmas.List.Elements.{Contains-push, Contains-push_cases, Contains-append_left}
 use Rattle.indexmap.specs.IndexSet.{insert_key}
 use Rattle.indexmap.proofs.CallerLemmas.{Contains-insert_key}
+use Rattle.click_expand.specs.declared.members.Local.{Local as LocalKept}
 use Rattle.click_expand.specs.declared.joints.Owner.TheVariants as owner
 use Rattle.click_expand.specs.declared.starts.Port.{Port}
 use Rattle.click_expand.specs.Wiring.{port, same_port, ends_by, ends_in, Gains}
-use Rattle.click_expand.specs.Through.{LeadsThrough, StandsIn, same, alike, AreStoodFor, AreEndsOf}
+use Rattle.click_expand.specs.Through.{local_body, scope_body, body_at, LeadsThrough, StandsIn, same, alike, AreStoodFor, AreEndsOf}
 use Rattle.click_expand.specs.contracts.starts.PortPartialEq.TheImpl as ports
 use Rattle.click_expand.proofs.Chains.{some_same}
 use Rattle.click_expand.proofs.Derived.{port-eq}
@@ -127,3 +129,42 @@ module _ (ends : ℕ → Port → List Port) (body : ℕ → ℕ → Option ℕ)
 
       pub reduces-all : ((a : Port) → ends s a ≡ ends_in raw a) → AreEndsOf ends body short s (ends_in new)
       reduces-all is a = subst (λ x. AreStoodFor ends body short s x (ends_in new a)) (sym (is a)) (at-port a)
+
+-- none of the first elements of a scope stands for a body
+abbrev pub NoBodies : (ℕ → Option ℕ) → ℕ → Type 0
+NoBodies body n = (i : ℕ) → i < n → body i ≡ None
+
+pub no-bodies-more : (body : ℕ → Option ℕ) (n : ℕ) → is_some (body n) ≡ false → NoBodies body n → NoBodies body (n + 1)
+no-bodies-more body n e h i l =
+    elim (cases_order i n) [
+      | inl q ↦ ap body q ∙ is-none (body n) e
+      | inr (inl m) ↦ h i m
+      | inr (inr m) ↦ absurd (omega (arith, l, m))
+    ]
+  where
+    is-none : (o : Option ℕ) → is_some o ≡ false → o ≡ None
+    is-none None k = refl
+    is-none (Some b) k = absurd (cc k)
+
+beyond : (ls : List LocalKept) (i : ℕ) → length ls ≤ i → slice_get ls i ≡ None
+beyond [] i l = refl
+beyond (k ∷ ls) zero l = absurd (omega (arith, l))
+beyond (k ∷ ls) (suc i) l = beyond ls i (omega (arith, l))
+
+pub no-bodies-all : (locals : List (Vec LocalKept Global)) (s n : ℕ) (ls : Vec LocalKept Global) → slice_get locals s ≡ Some ls → length ls.items ≤ n → NoBodies (body_at locals s) n → (i : ℕ) → body_at locals s i ≡ None
+no-bodies-all locals s n ls e l h i =
+    elim (cases_order i n) [
+      | inl q ↦ outside (omega (arith, l, q))
+      | inr (inl m) ↦ h i m
+      | inr (inr m) ↦ outside (omega (arith, l, m))
+    ]
+  where
+    outside : length ls.items ≤ i → body_at locals s i ≡ None
+    outside m = ap (scope_body i) e ∙ ap local_body (beyond ls.items i m)
+
+-- each port may stand for itself
+pub stood-same : (ends : ℕ → Port → List Port) (body : ℕ → ℕ → Option ℕ) (short : ℕ → Port → List Port) (s : ℕ) (ps qs : List Port) → ps ≡ qs → AreStoodFor ends body short s ps qs
+stood-same ends body short s ps qs e = record {
+  each = λ p h. (p, subst (λ z. Contains z p) e h, same p);
+  back = λ q h. (q, subst (λ z. Contains z q) (sym e) h, same q);
+}

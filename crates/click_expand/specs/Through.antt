@@ -56,7 +56,7 @@ pub data Lands (ends : ℕ → Port → List Port) (body : ℕ → ℕ → Optio
 pub record LeadsThrough (ends : ℕ → Port → List Port) (body : ℕ → ℕ → Option ℕ) (s n : ℕ) (outs : List Port) : Type 0 where
   pub sound : (p : Port) → Contains outs p → (m : ℕ) × (p ≡ port owner.Output m) × Runs ends body s (port owner.Input n) p
   pub complete : (m : ℕ) → Runs ends body s (port owner.Input n) (port owner.Output m) → Contains outs (port owner.Output m)
-  pub past : Lands ends body s (port owner.Input n) → ⊥
+  pub no_landing : Lands ends body s (port owner.Input n) → ⊥
 
 -- A port that a connection leads to, and one that stands in for it: the same, or an input of a compound where both lead through it alike.
 pub data StandsIn (ends : ℕ → Port → List Port) (body : ℕ → ℕ → Option ℕ) (short : ℕ → Port → List Port) (s : ℕ) : Port → Port → Type 0 where

@@ -1,7 +1,7 @@
 //! Inputs of a body whose connections lead out at its outputs, past no element. The outputs are found once for the body, so that no search goes into
 //! the compounds inside it.
 
-ghost use Rattle.std.specs.Prelude.{◌≡◌, ◌⊎◌, ◌∷◌, [], ℕ, List, Contains, Option, true, length, IfOk, OnOk, IfSome};
+ghost use Rattle.std.specs.Prelude.{◌≡◌, ◌⊎◌, ◌∷◌, [], ℕ, List, Contains, Option, None, true, false, length, IfOk, OnOk, IfSome};
 ghost use Rattle.click_expand.specs.declared.joints.Owner.TheVariants as owner;
 ghost use Rattle.click_expand.specs.declared.starts.Port.{Port as PortKept};
 ghost use Rattle.click_expand.specs.declared.starts.Index.{Index as IndexKept};
@@ -83,7 +83,7 @@ fn ports_for(
 }
 
 /// The index of a scope with each port that a connection leads to replaced by the one that stands in for it, where all bodies before are done.
-fn reduced(
+fn with_stand_ins(
     alloc: Global,
     done: &[Index],
     locals: &[Vec<Local>],
@@ -106,6 +106,38 @@ fn reduced(
     })
 }
 
+/// Whether an element of the scope is a compound.
+fn has_compounds(locals: &[Vec<Local>], scope: usize) -> bool
+    ensures { result ≡ false → (element : ℕ) → spec.body_at locals.now scope element ≡ None }
+{
+    let Some(one) = locals.get(scope) else {
+        return false;
+    };
+    for element in 0..one.len() {
+        if body_at(locals, scope, element).is_some() {
+            return true;
+        }
+    }
+    false
+}
+
+/// The same index. That of a scope without compounds is handed on as it is: there no other port stands in for one.
+fn reduced(
+    alloc: Global,
+    done: &[Index],
+    locals: &[Vec<Local>],
+    scope: usize,
+    index: Index,
+) -> Result<Index, AllocError>
+    ensures { (ends short : ℕ → PortKept → List PortKept) → AreShortened ends (spec.body_at locals.now) short done.now → ((a : PortKept) → ends scope a ≡ ends_in index.ends.entries a) →
+        IfOk result (λ x. AreEndsOf ends (spec.body_at locals.now) short scope (ends_in x.ends.entries)) }
+{
+    if has_compounds(locals, scope) {
+        return with_stand_ins(alloc, done, locals, scope, &index);
+    }
+    Ok(index)
+}
+
 /// Whether all of these ports are a body's own outputs. True of none: an input without connections leads nowhere, and so past no element.
 fn are_outputs(ends: &[Port]) -> bool
     ensures { result ≡ true → (p : PortKept) → Contains ends.now p → p.owner ≡ owner.Output }
@@ -119,7 +151,7 @@ fn are_outputs(ends: &[Port]) -> bool
 }
 
 /// The outputs that an input of a body leads to, where it is known that it only leads through. None of a body that is not done.
-fn through(done: &[Index], body: usize, number: u8) -> Option<&[Port]>
+fn outputs_through(done: &[Index], body: usize, number: u8) -> Option<&[Port]>
     ensures { (ends short : ℕ → PortKept → List PortKept) (bodies : ℕ → ℕ → Option ℕ) → AreShortened ends bodies short done.now →
         IfSome result (λ outputs. (outputs.now ≡ short body (port_of owner.Input number)) × LeadsThrough ends bodies body number outputs.now) }
 {
@@ -167,7 +199,7 @@ fn pass(
             let Some(body) = body_at(locals, scope, element) else {
                 return Ok(false);
             };
-            let Some(behind) = through(done, body, end.number) else {
+            let Some(behind) = outputs_through(done, body, end.number) else {
                 return Ok(false);
             };
             go_on(element, behind, seen)?;
@@ -340,9 +372,9 @@ fn shortened(
     done: &[Index],
     locals: &[Vec<Local>],
     scope: usize,
-    index: &Index,
+    index: Index,
 ) -> Result<Index, AllocError>
-    ensures { (ends short : ℕ → PortKept → List PortKept) → AreShortened ends (spec.body_at locals.now) short done.now → ((a : PortKept) → ends scope a ≡ ends_in index.now.ends.entries a) →
+    ensures { (ends short : ℕ → PortKept → List PortKept) → AreShortened ends (spec.body_at locals.now) short done.now → ((a : PortKept) → ends scope a ≡ ends_in index.ends.entries a) →
         IfOk result (λ x. ((a : PortKept) → short scope a ≡ ends_in x.ends.entries a) → IsShortened ends (spec.body_at locals.now) short scope × AreAlike ends (spec.body_at locals.now) short scope x) }
 {
     let short = reduced(alloc, done, locals, scope, index)?;
@@ -362,7 +394,7 @@ pub fn all_indices(
     let mut indices = Vec::new(alloc);
     for (scope, one) in joints.iter().enumerate() {
         let index = index_of(alloc, one.as_slice())?;
-        indices.push(shortened(alloc, indices.as_slice(), locals, scope, &index)?)?;
+        indices.push(shortened(alloc, indices.as_slice(), locals, scope, index)?)?;
     }
     Ok(indices)
 }

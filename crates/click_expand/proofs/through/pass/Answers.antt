@@ -14,6 +14,6 @@ returns-in_ok-insert-in-Output c = λ ends short h _.
 
 pub returns-in_ok-go_on-in-Element : goal.returns-in_ok-go_on-in-Element
 returns-in_ok-go_on-in-Element c = λ ends short h _.
-    let led = c.in-Some-through.ensures ends short (body_at c.args.locals.now) h in
-    passes-element ends (body_at c.args.locals.now) short c.args.scope c.args.end c.in-Element.element c.in-Some.body c.in-Some-through.behind.now c.args.seen.now.keys c.go_on.new.seen.keys c.args.outputs.now.keys
+    let led = c.in-Some-outputs_through.ensures ends short (body_at c.args.locals.now) h in
+    passes-element ends (body_at c.args.locals.now) short c.args.scope c.args.end c.in-Element.element c.in-Some.body c.in-Some-outputs_through.behind.now c.args.seen.now.keys c.go_on.new.seen.keys c.args.outputs.now.keys
     c.in-Element.is (sym c.in-Some.ensures) led.0 led.1 c.in_ok-go_on-in-Element.ensures.more c.in_ok-go_on-in-Element.ensures.all

@@ -3,7 +3,7 @@ use Rattle.std.specs.List.{slice_get}
 use Rattle.std.specs.Option.{option_copied}
 use Rattle.click_expand.proofs.Gathering.{item-is}
 use Rattle.click_expand.proofs.LeadingThrough.{leads-through}
-use Rattle.click_expand.proofs.through.through.Goals as goal
+use Rattle.click_expand.proofs.through.outputs_through.Goals as goal
 
 pub returns-then-are_outputs : goal.returns-then-are_outputs
 returns-then-are_outputs c = λ ends short bodies h.
