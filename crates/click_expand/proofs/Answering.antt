@@ -1,13 +1,13 @@
 -- The flat form of a sound configuration, or what is refused of it.
-use Rattle.std.proofs.Common.{◌≡◌, inl, inr, ℕ, ◌+◌, ◌<◌, ◌≤◌, List, map, length, Option, Some, None, refl, sym, ap, ◌∙◌, subst, arith}
+use Rattle.std.proofs.Common.{◌≡◌, inl, inr, ℕ, ◌+◌, ◌<◌, ◌≤◌, List, length, Some, None, refl, sym, ◌∙◌, subst, arith}
 use Rattle.std.specs.Prelude.{min}
 use Rattle.click_text.specs.declared.syntax.Config.{Config}
 use Rattle.click_expand.specs.Nesting.{IsNested}
 use Rattle.click_expand.specs.Faults.{IsSound}
 use Rattle.click_expand.specs.Instances.{Leaf, LeavesOf}
-use Rattle.click_expand.specs.Sizes.{IsSize, IsSizeOf}
-use Rattle.click_expand.specs.Flat.{most_elements, most_paths, Exceeds, many_elements, many_paths, Meant, IsFlat, IsFlatFault, wrong, too_many, repeated, broken, expand_fault, no_memory, IsMemoryOr}
-use Rattle.click_expand.specs.Tabled.{IsFirst, IsExpanded, IsExpandedOr, IsRefused, IsRefusedOf, fault_for}
+use Rattle.click_expand.specs.Sizes.{IsSizeOf}
+use Rattle.click_expand.specs.Flat.{most_elements, most_paths, Exceeds, many_elements, many_paths, Meant, IsFlat, IsFlatFault, wrong, too_many, repeated, broken, no_memory, IsMemoryOr}
+use Rattle.click_expand.specs.Tabled.{IsFirst, IsExpanded, IsRefused, IsRefusedOf, fault_for}
 use Rattle.click_expand.specs.declared.fault.FaultKind.TheVariants as kind
 use Rattle.click_expand.specs.declared.flat.Flat.{Flat}
 use Rattle.click_expand.specs.declared.flattening.Refused.{Refused}

@@ -1,7 +1,8 @@
 -- A flat element by what is found of it.
-use Rattle.std.proofs.Common.{◌≡◌, ℕ, zero, suc, ◌+◌, ◌<◌, ◌≤◌, List, [], ◌∷◌, ◌++◌, map, take, get_or, length, Vec, Global, Option, Some, None, refl, sym, ap, ◌∙◌, subst, arith}
+use Rattle.std.proofs.Common.{◌≡◌, ℕ, zero, suc, ◌+◌, ◌<◌, ◌≤◌, List, [], ◌∷◌, ◌++◌, map, take, drop, get_or, length, Vec, Global, Option, Some, None, refl, sym, ap, ◌∙◌, subst, arith, length-append}
 use Rattle.std.specs.List.{slice_get}
 use Rattle.std.proofs.lemmas.List.{map-append, take_all}
+use Rattle.std.proofs.lemmas.List.Prefix.{front_rest}
 use Rattle.std.proofs.lemmas.List.Sums.{sum_by-cons}
 use Rattle.click_expand.specs.Flat.{flat_name, flat_element, text_size, most_text}
 use Rattle.click_expand.specs.declared.flat.FlatElement.{FlatElement}
@@ -69,6 +70,14 @@ pub element-same : (f : Leaf) (name kind text : List ℕ) → name ≡ flat_name
 element-same f name kind text e g h =
     ap (λ (z : List ℕ). the-element z kind text) e ∙ ap (λ (z : List ℕ). the-element (flat_name f.path) z text) g ∙ ap (λ (z : List ℕ). the-element (flat_name f.path) f.class z) h
 
+-- What is written behind the old text.
+module _ (old text new : List ℕ) where
+  pub text-behind : (n : ℕ) → n ≡ length old → new ≡ old ++ text → drop n new ≡ text
+  text-behind n e h = ap (λ m. drop m new) e ∙ front_rest new old text h
+
+  pub room-behind : (left room : ℕ) → new ≡ old ++ text → left + length new ≡ room + length old → left + length text ≡ room
+  room-behind left room h r = let l = ap length h in omega (arith, l, r, length-append old text)
+
 -- So many of the leaves are made, and so much room is left.
 pub record AreMade (leaves : List Leaf) (i : ℕ) (made : List FlatElement) (room : ℕ) : Type 0 where
   pub is : made ≡ map flat_element (take i leaves)
@@ -120,30 +129,29 @@ some-at [] i d l = absurd (omega (arith, l))
 some-at (x ∷ xs) zero d l = refl
 some-at (x ∷ xs) (suc i) d l = some-at xs i d (omega (arith, l))
 
--- The element at a place is made, or there is no room for it.
-abbrev pub IsElement : Config → List UseKept → Place → ℕ → Option FlatElement → Type 0
-IsElement c uses p room o =
+-- The element at a place is made, and so much room is left, or there is no room for it.
+abbrev pub IsElement : Config → List UseKept → Place → ℕ → ℕ → Option FlatElement → Type 0
+IsElement c uses p room left o =
     (places : List Place) (known : List Used) (leaves : List Leaf) (n : ℕ) (f : Leaf) → AreUses c uses places known leaves → slice_get places n ≡ Some p → slice_get leaves n ≡ Some f →
-    MatchOption o (room < length f.text) (λ e. (e ≡ flat_element f) × (length f.text ≤ room))
+    MatchOption o (room < length f.text) (λ e. (e ≡ flat_element f) × (left + length f.text ≡ room))
 
-module _ (c : Config) (uses us : List UseKept) (places ps : List Place) (i : ℕ) (d : Place) (room : ℕ) (made : List FlatElement) (o : Option FlatElement) (same-uses : us ≡ uses) (same : ps ≡ places) (l : i < length ps)
-    (is : IsElement c us (get_or ps i d) room o) (known : List Used) (leaves : List Leaf) (are : AreUses c uses places known leaves) (h : AreMade leaves i made room) where
+module _ (c : Config) (uses us : List UseKept) (places ps : List Place) (i : ℕ) (d : Place) (same-uses : us ≡ uses) (same : ps ≡ places) (l : i < length ps)
+    (known : List Used) (leaves : List Leaf) (are : AreUses c uses places known leaves) where
   here : slice_get places i ≡ Some (get_or ps i d)
   here = ap (λ z. slice_get z i) (sym same) ∙ some-at ps i d l
+
+  pub step-within : (get_or ps i d).within < length us
+  step-within = let w = place-within c uses places known leaves are i (get_or ps i d) here in let e = ap length same-uses in omega (arith, w, e)
 
   its-leaf : (f : Leaf) × (slice_get leaves i ≡ Some f)
   its-leaf = leaf-at c uses places known leaves are i (get_or ps i d) here
 
-  found : MatchOption o (room < length its-leaf.0.text) (λ e. (e ≡ flat_element its-leaf.0) × (length its-leaf.0.text ≤ room))
-  found = is places known leaves i its-leaf.0 (subst (λ z. AreUses c z places known leaves) (sym same-uses) are) here its-leaf.1
+  module _ (room left : ℕ) (made : List FlatElement) (o : Option FlatElement) (is : IsElement c us (get_or ps i d) room left o) (h : AreMade leaves i made room) where
+    found : MatchOption o (room < length its-leaf.0.text) (λ e. (e ≡ flat_element its-leaf.0) × (left + length its-leaf.0.text ≡ room))
+    found = is places known leaves i its-leaf.0 (subst (λ z. AreUses c z places known leaves) (sym same-uses) are) here its-leaf.1
 
-  pub step-none : o ≡ None → most_text < text_size leaves
-  step-none e = made-long leaves i made room its-leaf.0 its-leaf.1 h (match-none o _ _ e found)
+    pub step-none : o ≡ None → most_text < text_size leaves
+    step-none e = made-long leaves i made room its-leaf.0 its-leaf.1 h (match-none o _ _ e found)
 
-  pub step-fits : (e : FlatElement) → o ≡ Some e → length e.text ≤ room
-  step-fits e q = let r = match-some o e _ _ q found in let t = ap (λ (z : FlatElement). length z.text) r.0 in let m = r.1 in omega (arith, t, m)
-
-  pub step-made : (e : FlatElement) (more : List FlatElement) (left : ℕ) → o ≡ Some e → more ≡ made ++ e ∷ [] → left + length e.text ≡ room → AreMade leaves (i + 1) more left
-  step-made e more left q a b =
-      let r = match-some o e _ _ q found in let t = ap (λ (z : FlatElement). length z.text) r.0 in
-      made-more leaves i made room its-leaf.0 its-leaf.1 h more e left a r.0 (omega (arith, t, b))
+    pub step-made : (e : FlatElement) (more : List FlatElement) → o ≡ Some e → more ≡ made ++ e ∷ [] → AreMade leaves (i + 1) more left
+    step-made e more q a = let r = match-some o e _ _ q found in made-more leaves i made room its-leaf.0 its-leaf.1 h more e left a r.0 r.1

@@ -1,5 +1,5 @@
 -- The configuration of a text has one fault: its wrong uses stand at tokens.
-use Rattle.std.proofs.Common.{◌≡◌, inl, inr, ℕ, zero, suc, ◌<◌, List, [], ◌∷◌, ◌++◌, map, length, Option, Some, None, refl, sym, ap, ◌∙◌, subst, arith, Contains}
+use Rattle.std.proofs.Common.{◌≡◌, inl, inr, ℕ, zero, suc, ◌<◌, List, [], ◌∷◌, ◌++◌, map, length, Option, Some, None, refl, sym, ap, subst, arith, Contains}
 use Rattle.std.specs.List.{slice_get}
 use Rattle.std.proofs.lemmas.List.Elements.{Contains-append_right, Contains-append_cases}
 use Rattle.click_text.specs.declared.syntax.Span.{Span}
@@ -12,7 +12,6 @@ use Rattle.click_text.specs.declared.syntax.Statement.{Statement}
 use Rattle.click_text.specs.declared.syntax.Statement.TheVariants as statement
 use Rattle.click_text.specs.declared.syntax.Body.{Body}
 use Rattle.click_text.specs.declared.syntax.Config.{Config}
-use Rattle.click_text.specs.Pieces.{span}
 use Rattle.click_text.specs.Grammar.{element}
 use Rattle.click_text.specs.Spelling.{Spells}
 use Rattle.click_expand.specs.Scopes.{Scope, whole, inside, body_statements, statements_of, body_formals, formals_of, statement_elements, Stands, nested}
@@ -25,10 +24,10 @@ use Rattle.click_expand.specs.declared.fault.FaultKind.{FaultKind}
 use Rattle.click_expand.specs.declared.fault.ExpandFault.{ExpandFault}
 use Rattle.click_expand.proofs.Walking.{inside-within}
 use Rattle.click_expand.proofs.Once.{contains-nil, contains-cons}
-use Rattle.click_expand.proofs.Contained.{contains-here, contains-behind, contains-map, map-contains, contains-split}
+use Rattle.click_expand.proofs.Contained.{contains-here, contains-behind, contains-map, contains-split}
 use Rattle.click_expand.proofs.Founded.{placed-there, element-body}
 use Rattle.click_expand.proofs.FlatOnce.{HasTokens, fault-once}
-use Rattle.click_expand.proofs.Spelled.{IsToken, token-once, OfClass, OfHead, OfLinks, OfStatement, OfBody, StandsAtTokens, spelled-tokens}
+use Rattle.click_expand.proofs.Spelled.{IsToken, token-once, OfHead, OfLinks, OfStatement, OfBody, StandsAtTokens, spelled-tokens}
 
 each-has : {X : Type 0} (P : X → Type 0) (xs : List X) (x : X) → Each P xs → Contains xs x → P x
 each-has P [] x h i = absurd (contains-nil x i)

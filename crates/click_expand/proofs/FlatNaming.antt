@@ -1,5 +1,5 @@
 -- The flat names of elements by the way outwards.
-use Rattle.std.proofs.Common.{◌≡◌, ℕ, ◌+◌, ◌<◌, List, [], ◌∷◌, ◌++◌, map, reverse, length, nat_lt, Bool, true, false, cond, Option, Some, None, Vec, refl, sym, ap, ◌∙◌, subst, append_assoc, arith}
+use Rattle.std.proofs.Common.{◌≡◌, ℕ, ◌<◌, List, [], ◌∷◌, ◌++◌, map, reverse, nat_lt, Bool, true, false, cond, Option, Some, None, Vec, refl, sym, ap, ◌∙◌, subst, append_assoc, arith}
 use Rattle.std.specs.Global.{Global}
 use Rattle.std.specs.List.{slice_get}
 use Rattle.std.proofs.lemmas.Bool.Decides.{nat_tests}

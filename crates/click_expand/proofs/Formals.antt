@@ -1,22 +1,18 @@
 -- A parameter begins the items of a text where it begins the text.
-use Rattle.std.proofs.Common.{◌≡◌, inl, inr, ℕ, zero, suc, ◌+◌, ◌-◌, ◌<◌, ◌≤◌, List, [], ◌∷◌, ◌++◌, length, get_or, take, drop, Bool, true, false, cond, eqb, Option, Some, None, refl, sym, ap, ◌∙◌, subst, arith, length-take, append_assoc}
-use Rattle.std.specs.Prelude.{if◌then◌else◌, ◌||◌, ◌&&◌}
+use Rattle.std.proofs.Common.{◌≡◌, inl, inr, ℕ, zero, suc, ◌+◌, ◌-◌, ◌<◌, ◌≤◌, List, [], ◌∷◌, ◌++◌, length, take, drop, Bool, true, false, cond, eqb, Option, Some, None, refl, sym, ap, ◌∙◌, subst, arith, length-take}
+use Rattle.std.specs.Prelude.{if◌then◌else◌}
 use Rattle.std.specs.List.{prefix_len}
 use Rattle.std.proofs.lemmas.Bool.{cases_Bool, false≢true, ne_eqb}
 use Rattle.std.proofs.lemmas.Bool.Decides.{nat_tests}
-use Rattle.std.proofs.lemmas.List.{drop_all, drop_more}
 use Rattle.std.proofs.lemmas.List.Sums.{prefix_len-le-length}
 use Rattle.std.proofs.lemmas.List.Folds.{length-prefix_len}
-use Rattle.std.specs.Str.{bytes_eq}
-use Rattle.click_text.specs.declared.syntax.Span.{Span}
-use Rattle.click_text.specs.Spans.{bytes_at}
 use Rattle.click_text.specs.declared.items.ItemKind.{ItemKind}
 use Rattle.click_text.specs.declared.items.ItemKind.TheVariants as kind
 use Rattle.click_text.specs.Pieces.{white, name_byte}
 use Rattle.click_text.specs.Items.{IsItem, LongestItem, Item, item, AreItems, ended, next, bytes_of}
 use Rattle.click_text.proofs.ItemForms.{no_bytes}
 use Rattle.click_expand.specs.Parameters.{Formal, byte_of, passes, is_byte, is_name_item, name_run, formal, is_closed, formal_behind, formal_at, value_by, found_bytes, found_size, replaced}
-use Rattle.click_expand.specs.Texts.{formal_by, formal_run, begins, formal_after, formal_in, span_beside}
+use Rattle.click_expand.specs.Texts.{formal_run, begins, formal_after, formal_in}
 
 -- A test that no byte passes which begins an item of another kind.
 pub record Plain (T : ℕ → Bool) : Type 0 where
@@ -290,17 +286,3 @@ replaced-skips value (suc n) [] = refl
 replaced-skips value (suc n) (i ∷ items) =
     ap (λ z. if z then found_bytes (value_by value (formal_at (i ∷ items))) i ++ replaced value (found_size (value_by value (formal_at (i ∷ items))) - 1) items else replaced value (suc n - 1) items) (suc-eqb n)
     ∙ ap (λ m. replaced value m items) (one-less n) ∙ replaced-skips value n items
-
-module _ (text : List ℕ) (name : List ℕ) where
-  past-by : (fs : List Span) → None ≡ span_beside text fs [] name
-  past-by [] = refl
-  past-by (f ∷ fs) = refl
-
-  pub span-past : (i : ℕ) (fs ss : List Span) → length ss ≤ i → None ≡ span_beside text (drop i fs) (drop i ss) name
-  span-past i fs ss l = past-by (drop i fs) ∙ sym (ap (λ z. span_beside text (drop i fs) z name) (drop_all i ss l))
-
-  pub span-next : (i : ℕ) (fs ss : List Span) (d e : Span) → i < length fs → i < length ss → bytes_eq (drop 1 (bytes_at text (get_or fs i d))) name ≡ false →
-      span_beside text (drop i fs) (drop i ss) name ≡ span_beside text (drop (i + 1) fs) (drop (i + 1) ss) name
-  span-next i fs ss d e l m h =
-      ap (λ z. span_beside text z (drop i ss) name) (drop_more fs i d l) ∙ ap (λ z. span_beside text (get_or fs i d ∷ drop (i + 1) fs) z name) (drop_more ss i e m)
-      ∙ ap (λ z. if z then Some (get_or ss i e) else span_beside text (drop (i + 1) fs) (drop (i + 1) ss) name) h

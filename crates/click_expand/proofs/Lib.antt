@@ -13,8 +13,7 @@ pub mod Formals
 pub mod Valued
 pub mod ReadHomes
 pub mod Parting
-pub mod Unread
-pub mod Emptied
+pub mod Buffering
 pub mod Elemented
 pub mod Ordered
 pub mod Least

@@ -15,6 +15,7 @@ use Rattle.click_expand.specs.Values.{IsRead, IsValue}
 use Rattle.click_expand.specs.Spread.{Parts}
 use Rattle.click_expand.specs.declared.parameters.Parameter.{Parameter}
 use Rattle.click_expand.specs.declared.readings.Reading.{Reading}
+use Rattle.click_expand.specs.declared.readings.Value.{Value}
 use Rattle.click_expand.specs.declared.texts.Part.TheVariants as part
 use Rattle.click_expand.proofs.Formals.{formal-here, replaced-skips}
 use Rattle.click_expand.proofs.ReadHomes.{value-of}
@@ -54,7 +55,7 @@ kept-none text o h e = sym h ∙ ap (option_map (formal_of text)) e
 
 module _ (c : Config) (known : List Used) (r : Reading) (whole : List ℕ) (h : IsRead c known r whole) where
   -- a parameter with a value
-  pub part-value : (o : Option Parameter) (p : Parameter) (name : List ℕ) (found : Option Reading) (v : Reading) → option_map (formal_of r.rest.now) o ≡ formal_in r.rest.now → o ≡ Some p → name ≡ bytes_at r.rest.now p.name →
+  pub part-value : (o : Option Parameter) (p : Parameter) (name : List ℕ) (found : Option Value) (v : Value) → option_map (formal_of r.rest.now) o ≡ formal_in r.rest.now → o ≡ Some p → name ≡ bytes_at r.rest.now p.name →
       ((x : Used) → slice_get known r.within ≡ Some x → IsValue c known found (value-of c x name)) → found ≡ Some v → Parts c known r.within r.rest.now whole (part.Value p.size v)
   part-value o p name found v e f g k q =
       let x = h.0 in
@@ -67,6 +68,7 @@ module _ (c : Config) (known : List Used) (r : Reading) (whole : List ℕ) (h : 
         replaced val 0 (drop p.size i.items),
         i.replaces ∙ replaces val r.rest.now i.items (formal_of r.rest.now p) is.0 i.read fo (ap val (sym g) ∙ is.1),
         is.2,
+        is.3,
         (x, h.1, record { items = drop p.size i.items; read = s.1; replaces = refl }),
       )
 
@@ -83,7 +85,7 @@ module _ (c : Config) (known : List Used) (r : Reading) (whole : List ℕ) (h : 
   part-bytes o k n e f l = stays-by k n l (λ x g. ap (value_by (value-of c x)) (kept-none r.rest.now o e f))
 
   -- a parameter without a value
-  pub part-none : (o : Option Parameter) (p : Parameter) (name : List ℕ) (found : Option Reading) (k : ItemKind) (n : ℕ) → option_map (formal_of r.rest.now) o ≡ formal_in r.rest.now → o ≡ Some p → name ≡ bytes_at r.rest.now p.name →
+  pub part-none : (o : Option Parameter) (p : Parameter) (name : List ℕ) (found : Option Value) (k : ItemKind) (n : ℕ) → option_map (formal_of r.rest.now) o ≡ formal_in r.rest.now → o ≡ Some p → name ≡ bytes_at r.rest.now p.name →
       ((x : Used) → slice_get known r.within ≡ Some x → IsValue c known found (value-of c x name)) → found ≡ None → LongestItem r.rest.now k n → Parts c known r.within r.rest.now whole (part.Bytes n)
   part-none o p name found k n e f g q z l =
       stays-by k n l (λ x there.

@@ -1,5 +1,5 @@
 -- The flat elements by the tables: what they begin with, and which of them are refused.
-use Rattle.std.proofs.Common.{◌≡◌, ℕ, suc, zero, ◌+◌, ◌<◌, List, [], ◌∷◌, ◌++◌, map, take, length, Bool, true, false, All, Contains, Option, Some, None, Vec, refl, sym, ap, ◌∙◌, subst, arith}
+use Rattle.std.proofs.Common.{◌≡◌, ℕ, suc, zero, ◌<◌, List, [], ◌∷◌, ◌++◌, map, take, length, true, All, Contains, Some, None, Vec, refl, sym, ap, ◌∙◌, subst, arith}
 use Rattle.std.specs.Global.{Global}
 use Rattle.std.specs.List.{slice_get, slice_index_or}
 use Rattle.std.proofs.lemmas.Option.{same_Some, slice_get_within, none-some}
@@ -14,7 +14,6 @@ use Rattle.click_expand.specs.Flat.{AreDistinct, is_whole, flat_name, flat_names
 use Rattle.click_expand.specs.Found.{names_in, IsRepeated, IsBroken}
 use Rattle.click_expand.specs.Tables.{local_of}
 use Rattle.click_expand.specs.Wrongs.{first_in}
-use Rattle.click_expand.specs.Scoped.{place_of}
 use Rattle.click_expand.specs.Located.{AreAllLocals}
 use Rattle.click_expand.specs.Uses.{Used, locals_at, AreUses}
 use Rattle.click_expand.specs.Tabled.{local_head, scope_head, use_head, place_head, head_in, IsRefusedOf}
@@ -24,7 +23,7 @@ use Rattle.click_expand.specs.declared.flattening.Refused.TheVariants as refused
 use Rattle.click_expand.specs.declared.members.Local.{Local as LocalKept}
 use Rattle.click_expand.specs.declared.uses.Place.{Place}
 use Rattle.click_expand.specs.declared.uses.Use.{Use as UseKept}
-use Rattle.click_expand.proofs.Contained.{IsAt, at-place}
+use Rattle.click_expand.proofs.Contained.{at-place}
 
 pub some-at : {X : Type 0} (xs : List X) (n : ℕ) → n < length xs → (x : X) × (slice_get xs n ≡ Some x)
 some-at [] n l = absurd (omega (arith, l))

@@ -1,10 +1,11 @@
 -- What stands for a parameter in a use, and where it is read.
-use Rattle.std.proofs.Common.{◌≡◌, ℕ, zero, suc, ◌-◌, ◌<◌, ◌≤◌, List, [], ◌∷◌, length, drop, Bool, true, false, Vec, Global, Option, Some, None, refl, sym, ap, ◌∙◌, subst, arith, length-take, length-drop}
-use Rattle.std.specs.Prelude.{if◌then◌else◌}
-use Rattle.std.specs.List.{slice_get}
+use Rattle.std.proofs.Common.{◌≡◌, ℕ, zero, suc, ◌+◌, ◌-◌, ◌<◌, ◌≤◌, List, [], ◌∷◌, length, get_or, drop, Bool, true, false, cond, Vec, Global, Option, Some, None, refl, sym, ap, ◌∙◌, subst, arith, length-take, length-drop, position}
+use Rattle.std.specs.Prelude.{if◌then◌else◌, option_map, option_and_then}
+use Rattle.std.specs.List.{slice_get, position_from}
 use Rattle.std.specs.Str.{bytes_eq}
-use Rattle.std.proofs.lemmas.Option.{slice_get_within}
+use Rattle.std.proofs.lemmas.Option.{slice_get_read}
 use Rattle.std.proofs.lemmas.Bool.{eq-eqb}
+use Rattle.std.proofs.lemmas.Iterator.Adapters.{position_from-zero}
 use Rattle.click_text.specs.declared.syntax.Span.{Span}
 use Rattle.click_text.specs.declared.syntax.Statement.{Statement}
 use Rattle.click_text.specs.declared.syntax.Config.{Config}
@@ -15,14 +16,12 @@ use Rattle.click_expand.specs.Classes.{compound}
 use Rattle.click_expand.specs.Elements.{Local, string_by}
 use Rattle.click_expand.specs.Faults.{scope_locals}
 use Rattle.click_expand.specs.Parameters.{Bindings, arguments_for, argument_of, scope_value, IsReplaced}
-use Rattle.click_expand.specs.Instances.{Leaf, AreValues, no_values, next_value}
+use Rattle.click_expand.specs.Instances.{Leaf, AreValues, next_value}
 use Rattle.click_expand.specs.Scoped.{place_of}
 use Rattle.click_expand.specs.Called.{AreAllArguments}
 use Rattle.click_expand.specs.Located.{AreAllLocals}
 use Rattle.click_expand.specs.Uses.{Used, IsAround, IsUse, AreUses}
-use Rattle.click_expand.specs.Texts.{span_beside}
-use Rattle.click_expand.specs.Passing.{ArePassedTo}
-use Rattle.click_expand.specs.Values.{spans_by, spans_found, string_kept, string_found}
+use Rattle.click_expand.specs.Values.{spans_by, spans_found, string_kept, string_found, own_arguments}
 use Rattle.click_expand.specs.declared.members.Local.{Local as LocalKept}
 use Rattle.click_expand.specs.declared.uses.Place.{Place}
 use Rattle.click_expand.specs.declared.uses.Use.{Use as UseKept}
@@ -32,30 +31,56 @@ use Rattle.click_expand.proofs.Calling.{unmapped}
 pub some-same : {X : Type 0} {x y : X} → Some x ≡ Some y → x ≡ y
 some-same h = cc h
 
-pub some-within : {X : Type 0} (xs : List X) (i : ℕ) → i < length xs → (x : X) × (slice_get xs i ≡ Some x)
-some-within [] i l = absurd (omega (arith, l))
-some-within (x ∷ xs) zero l = (x, refl)
-some-within (x ∷ xs) (suc i) l = some-within xs i (omega (arith, l))
+module _ (text : List ℕ) (name : List ℕ) where
+  -- the parameter has that name
+  abbrev pub named : Span → Bool
+  named f = bytes_eq (drop 1 (bytes_at text f)) name
 
--- an argument's value beside its place
-abbrev pub Beside : Config → Bindings → List Scope → List ℕ → Option Span → Option (List ℕ) → Type 0
-Beside c bindings around text None o = o ≡ None
-Beside c bindings around text (Some s) o = (v : List ℕ) × (o ≡ Some v) × IsReplaced c bindings around (bytes_at text s) v
+  later : (i : ℕ) (fs : List Span) → position_from named (i + 1) fs ≡ option_map suc (position_from named i fs)
+  later i [] = refl
+  later i (f ∷ fs) =
+      elim (named f) as (λ b. cond b (Some (i + 1)) (position_from named (i + 1 + 1) fs) ≡ option_map suc (cond b (Some i) (position_from named (i + 1) fs))) [
+        | true ↦ let e : i + 1 ≡ suc i = omega arith in ap Some e
+        | false ↦ later (i + 1) fs
+      ]
 
-module _ (c : Config) (bindings : Bindings) (around : List Scope) (text : List ℕ) (name : List ℕ) where
-  beside-by : (t : Bool) (s : Span) (v : List ℕ) (o : Option Span) (p : Option (List ℕ)) → IsReplaced c bindings around (bytes_at text s) v → Beside c bindings around text o p →
-      Beside c bindings around text (if t then Some s else o) (if t then Some v else p)
-  beside-by true s v o p h k = (v, refl, h)
-  beside-by false s v o p h k = k
+  behind-first : (v : List ℕ) (values : List (List ℕ)) (o : Option ℕ) → option_and_then (slice_get (v ∷ values)) (option_map suc o) ≡ option_and_then (slice_get values) o
+  behind-first v values None = refl
+  behind-first v values (Some i) = refl
 
-  pub beside : (fs : List Span) (spans : List Span) (values : List (List ℕ)) → AreValues c bindings around text spans values →
-      Beside c bindings around text (span_beside c.text fs spans name) (argument_of c.text fs values name)
-  beside [] spans values h = refl
-  beside (f ∷ fs) [] [] no_values = refl
-  beside (f ∷ fs) [] (v ∷ values) h = elim h [ ]
-  beside (f ∷ fs) (s ∷ spans) [] h = elim h [ ]
-  beside (f ∷ fs) (s ∷ spans) (v ∷ values) (next_value s' ss' v' vs' h r) =
-      beside-by (bytes_eq (drop 1 (bytes_at c.text f)) name) s v (span_beside c.text fs spans name) (argument_of c.text fs values name) h (beside fs spans values r)
+  none-at : (o : Option ℕ) → None ≡ option_and_then (slice_get {X = List ℕ} []) o
+  none-at None = refl
+  none-at (Some i) = refl
+
+  argument-from : (fs : List Span) (values : List (List ℕ)) → argument_of text fs values name ≡ option_and_then (slice_get values) (position_from named 0 fs)
+  argument-from [] values = refl
+  argument-from (f ∷ fs) [] = none-at (position_from named 0 (f ∷ fs))
+  argument-from (f ∷ fs) (v ∷ values) =
+      elim (named f) as (λ b. (if b then Some v else argument_of text fs values name) ≡ option_and_then (slice_get (v ∷ values)) (cond b (Some 0) (position_from named 1 fs))) [
+        | true ↦ refl
+        | false ↦
+            argument-from fs values
+            ∙ sym (ap (option_and_then (slice_get (v ∷ values))) (later 0 fs) ∙ behind-first v values (position_from named 0 fs))
+      ]
+
+  argument-by : (fs : List Span) (values : List (List ℕ)) → argument_of text fs values name ≡ option_and_then (slice_get values) (position named fs)
+  argument-by fs values = argument-from fs values ∙ sym (ap (option_and_then (slice_get values)) (position_from-zero named fs))
+
+module _ (c : Config) (bindings : Bindings) (around : List Scope) (text : List ℕ) where
+  -- an argument's value beside its place
+  pub value-beside : (spans : List Span) (values : List (List ℕ)) (i : ℕ) (s : Span) → AreValues c bindings around text spans values → slice_get spans i ≡ Some s →
+      (v : List ℕ) × (slice_get values i ≡ Some v) × IsReplaced c bindings around (bytes_at text s) v
+  value-beside [] values i s h e = absurd (cc e)
+  value-beside (t ∷ spans) [] i s h e = elim h [ ]
+  value-beside (t ∷ spans) (v ∷ values) zero s (next_value s' ss' v' vs' h r) e = (v, refl, subst (λ z. IsReplaced c bindings around (bytes_at text z) v) (some-same e) h)
+  value-beside (t ∷ spans) (v ∷ values) (suc i) s (next_value s' ss' v' vs' h r) e = value-beside spans values i s r e
+
+  pub no-value : (spans : List Span) (values : List (List ℕ)) (i : ℕ) → AreValues c bindings around text spans values → slice_get spans i ≡ None → slice_get values i ≡ None
+  no-value [] [] i h e = refl
+  no-value [] (v ∷ values) i h e = elim h [ ]
+  no-value (t ∷ spans) [] i h e = refl
+  no-value (t ∷ spans) (v ∷ values) zero h e = absurd (cc e)
+  no-value (t ∷ spans) (v ∷ values) (suc i) (next_value s' ss' v' vs' h r) e = no-value spans values i r e
 
 -- what stands in the string of a scope's element
 pub string-is : (c : Config) (locals : List (Vec LocalKept Global)) → AreAllLocals c locals → (s : Scope) (visible : List Statement) (around : List Scope) → Stands c s visible around →
@@ -65,7 +90,7 @@ string-is c locals known s visible around st i l there =
     let k = unmapped c.text r.0.items i l (ap (λ z. slice_get z i) r.2 ∙ there) in
     ap (λ o. string_found c.text o i) r.1 ∙ ap (string_kept c.text) k.1 ∙ ap (λ (x : Local). x.text) k.2
 
-pub spans-are : (c : Config) (all : List (List (List Span))) → AreAllArguments c all → (s : Scope) (visible : List Statement) (around : List Scope) → Stands c s visible around →
+spans-are : (c : Config) (all : List (List (List Span))) → AreAllArguments c all → (s : Scope) (visible : List Statement) (around : List Scope) → Stands c s visible around →
     (i : ℕ) (l : Local) (b : ℕ) (spans : List Span) → slice_get (scope_locals c s visible) i ≡ Some l → l.meaning ≡ Some (compound b) → AreArguments l.text spans →
     spans_found (slice_get all (place_of c s)) i ≡ spans
 spans-are c all known s visible around st i l b spans there m h =
@@ -83,33 +108,40 @@ module _ (c : Config) (uses : List UseKept) (places : List Place) (known : List 
   pub use-at : (u : ℕ) (k : UseKept) (x : Used) → slice_get uses u ≡ Some k → slice_get known u ≡ Some x → IsUse c uses places known u k x
   use-at u k x h g = let r = are.each u k h in subst (λ z. IsUse c uses places known u k z) (some-same (sym r.1 ∙ g)) r.2
 
-  pub kept-at : (u : ℕ) (x : Used) → slice_get known u ≡ Some x → (k : UseKept) × (slice_get uses u ≡ Some k)
-  kept-at u x h = let w = slice_get_within known u x h in let l = are.as_many in some-within uses u (omega (arith, w, l))
-
-  pub around-at : (u : ℕ) (k : UseKept) (x : Used) (p : Place) → slice_get uses u ≡ Some k → slice_get known u ≡ Some x → k.around ≡ Some p → IsAround c known u x (Some p)
+  around-at : (u : ℕ) (k : UseKept) (x : Used) (p : Place) → slice_get uses u ≡ Some k → slice_get known u ≡ Some x → k.around ≡ Some p → IsAround c known u x (Some p)
   around-at u k x p h g e = subst (λ z. IsAround c known u x z) e (use-at u k x h g).around
 
-  -- the parameters of a use's own body
-  pub own-value : (locals : List (Vec LocalKept Global)) (spans : List Span) → AreAllLocals c locals →
-      (u : ℕ) (k j : UseKept) (x : Used) (p : Place) (name : List ℕ) → slice_get uses u ≡ Some k → slice_get known u ≡ Some x → k.around ≡ Some p → slice_get uses p.within ≡ Some j → ArePassedTo c uses u spans →
-      (o : Used) × (slice_get known p.within ≡ Some o) ×
-      Beside c o.bindings (o.scope ∷ o.around) (string_found c.text (slice_get locals j.scope) p.element)
-      (span_beside c.text (body_formals (slice_get c.bodies k.scope)) spans name) (scope_value c x.bindings x.scope name)
-  own-value locals spans hl u k j x p name h g e q ha =
-      let n = use-at u k x h g in
-      let a = around-at u k x p h g e in
+  -- the parameters of a use's own body, and its arguments where they stand
+  pub own-value : (locals : List (Vec LocalKept Global)) (all : List (List (List Span))) → AreAllLocals c locals → AreAllArguments c all →
+      (u : ℕ) (k j : UseKept) (x : Used) (p : Place) → k ≡ get_or uses u k → u < length uses → slice_get known u ≡ Some x → k.around ≡ Some p → j ≡ get_or uses p.within j → p.within < u →
+      (text name : List ℕ) (fs : List Span) (found : Option ℕ) → text ≡ c.text → fs ≡ body_formals (slice_get c.bodies k.scope) → found ≡ position (named text name) fs →
+      (o : Used) × (slice_get known p.within ≡ Some o) × (scope_value c x.bindings x.scope name ≡ option_and_then (slice_get (own_arguments x.bindings)) found)
+      × AreValues c o.bindings (o.scope ∷ o.around) (string_found text (slice_get locals (get_or uses p.within j).scope) p.element)
+      (spans_found (slice_get all (get_or uses p.within j).scope) p.element) (own_arguments x.bindings)
+  own-value locals all hl ha u k j x p kept l h e q w text name fs found et ef is =
+      let lu : p.within < length uses = omega (arith, l, w) in
+      let there : slice_get uses u ≡ Some k = slice_get_read uses (length uses) u k refl l kept in
+      let n = use-at u k x there h in
+      let a = around-at u k x p there h e in
       let o = a.1.0 in
       let i = a.1.2 in
-      let m = use-at p.within j o q a.1.1 in
-      let ks : k.scope ≡ i.body = n.scope ∙ ap (place_of c) i.scope in
-      let str : string_found c.text (slice_get locals j.scope) p.element ≡ i.local.text =
-      ap (λ z. string_found c.text (slice_get locals z) p.element) m.scope ∙ string-is c locals hl o.scope o.visible o.around m.stands p.element i.local i.there in
-      let b = beside c o.bindings (o.scope ∷ o.around) i.local.text name (body_formals (slice_get c.bodies i.body)) spans i.values (ha places known leaves are k p x o h e g a.1.1 i) in (
+      let m = use-at p.within j o (slice_get_read uses (length uses) p.within j refl lu q) a.1.1 in
+      let scope : place_of c o.scope ≡ (get_or uses p.within j).scope = sym m.scope ∙ ap (λ (z : UseKept). z.scope) q in
+      let formals : body_formals (slice_get c.bodies i.body) ≡ fs = ap (λ z. body_formals (slice_get c.bodies z)) (sym (n.scope ∙ ap (place_of c) i.scope)) ∙ sym ef in
+      let own : i.values ≡ own_arguments x.bindings = sym (ap own_arguments i.bindings) in
+      let string : i.local.text ≡ string_found text (slice_get locals (get_or uses p.within j).scope) p.element =
+      sym (string-is c locals hl o.scope o.visible o.around m.stands p.element i.local i.there) ∙ ap (λ z. string_found z (slice_get locals (place_of c o.scope)) p.element) (sym et)
+      ∙ ap (λ z. string_found text (slice_get locals z) p.element) scope in
+      let spans : i.spans ≡ spans_found (slice_get all (get_or uses p.within j).scope) p.element =
+      sym (spans-are c all ha o.scope o.visible o.around m.stands p.element i.local i.body i.spans i.there i.meaning i.arguments) ∙ ap (λ z. spans_found (slice_get all z) p.element) scope in (
         o,
         a.1.1,
-        subst (λ z. Beside c o.bindings (o.scope ∷ o.around) z (span_beside c.text (body_formals (slice_get c.bodies k.scope)) spans name) (scope_value c x.bindings x.scope name)) (sym str)
-            (subst (λ z. Beside c o.bindings (o.scope ∷ o.around) i.local.text (span_beside c.text (body_formals (slice_get c.bodies z)) spans name) (scope_value c x.bindings x.scope name)) (sym ks)
-            (subst (λ z. Beside c o.bindings (o.scope ∷ o.around) i.local.text (span_beside c.text (body_formals (slice_get c.bodies i.body)) spans name) z) (sym (scope-value-inner c o x i.body i.values name i.scope i.bindings)) b)),
+        scope-value-inner c o x i.body i.values name i.scope i.bindings ∙ argument-by c.text name (body_formals (slice_get c.bodies i.body)) i.values
+            ∙ ap (λ z. option_and_then (slice_get z) (position (named c.text name) (body_formals (slice_get c.bodies i.body)))) own
+            ∙ ap (option_and_then (slice_get (own_arguments x.bindings))) (ap (position (named c.text name)) formals ∙ ap (λ z. position (named z name) fs) (sym et) ∙ sym is),
+        subst (λ z. AreValues c o.bindings (o.scope ∷ o.around) z (spans_found (slice_get all (get_or uses p.within j).scope) p.element) (own_arguments x.bindings)) string
+            (subst (λ z. AreValues c o.bindings (o.scope ∷ o.around) i.local.text z (own_arguments x.bindings)) spans
+            (subst (λ z. AreValues c o.bindings (o.scope ∷ o.around) i.local.text i.spans z) own i.replaced)),
       )
 
 -- no string is longer than the text
@@ -127,16 +159,6 @@ kept-short text (Some l) = string-short text l.text
 pub found-short : (text : List ℕ) (o : Option (Vec LocalKept Global)) (i : ℕ) → length (string_found text o i) ≤ length text
 found-short text None i = omega arith
 found-short text (Some ls) i = kept-short text (slice_get ls.items i)
-
-pub beside-none : (c : Config) (bindings : Bindings) (around : List Scope) (text : List ℕ) (s : Option Span) (o : Option (List ℕ)) → s ≡ None → Beside c bindings around text s o → o ≡ None
-beside-none c bindings around text s o e h = subst (λ z. Beside c bindings around text z o) e h
-
-pub beside-some : (c : Config) (bindings : Bindings) (around : List Scope) (text : List ℕ) (s : Option Span) (t : Span) (o : Option (List ℕ)) → s ≡ Some t → Beside c bindings around text s o →
-    (v : List ℕ) × (o ≡ Some v) × IsReplaced c bindings around (bytes_at text t) v
-beside-some c bindings around text s t o e h = subst (λ z. Beside c bindings around text z o) e h
-
-pub beside-same : (t u : List ℕ) (fs gs ss rs : List Span) (name : List ℕ) → t ≡ u → fs ≡ gs → ss ≡ rs → span_beside t fs ss name ≡ span_beside u gs rs name
-beside-same t u fs gs ss rs name e f g = ap (λ z. span_beside z fs ss name) e ∙ ap (λ z. span_beside u z ss name) f ∙ ap (λ z. span_beside u gs z name) g
 
 pub is-none : {X : Type 0} (o : Option X) → ((x : X) → o ≡ Some x → ⊥) → o ≡ None
 is-none None h = refl

@@ -1,18 +1,15 @@
 -- From what is found once for each scope to the flat form or its fault.
-use Rattle.std.proofs.Common.{◌≡◌, ◌⊎◌, inl, inr, ℕ, ◌<◌, ◌≤◌, List, map, length, Option, Some, None, Vec, refl, sym, ap, ◌∙◌, subst, arith}
+use Rattle.std.proofs.Common.{◌≡◌, ◌⊎◌, inl, inr, ℕ, ◌<◌, ◌≤◌, List, map, length, Option, Some, None, sym, ◌∙◌, subst, arith}
 use Rattle.std.specs.Prelude.{Contains, MatchOption}
-use Rattle.std.specs.Global.{Global}
-use Rattle.click_text.specs.declared.syntax.Span.{Span}
 use Rattle.click_text.specs.declared.syntax.Config.{Config}
-use Rattle.click_expand.specs.Faults.{IsWrong, number_of, IsFirstWrong, IsSound}
-use Rattle.click_expand.specs.Wrongs.{IsMisnamed, IsMisused, IsLeast, AtMost, first_of}
+use Rattle.click_expand.specs.Faults.{IsWrong, number_of}
+use Rattle.click_expand.specs.Wrongs.{IsMisnamed, IsMisused, IsLeast, first_of}
 use Rattle.click_expand.specs.Instances.{Leaf}
-use Rattle.click_expand.specs.Flat.{most_text, most_connections, text_size, flat_element, InOrder, Joins, AreConnections, WithinLimits, Exceeds, much_text, many_connections}
-use Rattle.click_expand.specs.Tabled.{IsFirst, IsExpanded, IsExpandedOr}
+use Rattle.click_expand.specs.Flat.{most_text, most_connections, text_size, flat_element, InOrder, Joins, AreConnections, Exceeds, many_connections}
+use Rattle.click_expand.specs.Tabled.{IsFirst, IsExpanded}
 use Rattle.click_expand.specs.declared.fault.FaultKind.{FaultKind}
 use Rattle.click_expand.specs.declared.fault.FaultKind.TheVariants as kind
 use Rattle.click_expand.specs.declared.wrong.Wrong.{Wrong}
-use Rattle.click_expand.specs.declared.flat.Flat.{Flat}
 use Rattle.click_expand.specs.declared.flat.FlatElement.{FlatElement}
 use Rattle.click_expand.specs.declared.flat.Connection.{Connection}
 use Rattle.click_expand.proofs.Least.{least-first_of, least-same}

@@ -23,7 +23,7 @@ pub mod Texts
 pub mod Values
 pub mod Classed
 pub mod Spread
-pub mod Passing
+pub mod Buffered
 pub mod Misnamed
 pub mod Using
 pub mod Counted

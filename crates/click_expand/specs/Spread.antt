@@ -1,10 +1,9 @@
 -- What a text begins with, as the code reads it.
-use Rattle.std.specs.Prelude.{◌≡◌, ℕ, ◌+◌, ◌*◌, ◌<◌, ◌≤◌, List, [], ◌∷◌, ◌++◌, length, take, drop, slice_get, Some}
+use Rattle.std.specs.Prelude.{◌≡◌, ℕ, ◌<◌, ◌≤◌, List, ◌∷◌, ◌++◌, length, take, drop, slice_get, Some}
 use Rattle.click_text.specs.declared.syntax.Config.{Config}
 use Rattle.click_expand.specs.Parameters.{IsReplaced}
 use Rattle.click_expand.specs.Uses.{Used}
-use Rattle.click_expand.specs.Values.{IsRead}
-use Rattle.click_expand.specs.declared.readings.Reading.{Reading}
+use Rattle.click_expand.specs.Values.{IsRead, IsOwn}
 use Rattle.click_expand.specs.declared.texts.Part.{Part}
 use Rattle.click_expand.specs.declared.texts.Part.TheVariants as part
 
@@ -15,9 +14,10 @@ IsReadAt c known u bytes out = (x : Used) × (slice_get known u ≡ Some x) × I
 -- the whole that is read is what stands for the part, and behind it what is read of the rest
 abbrev pub Parts : Config → List Used → ℕ → List ℕ → List ℕ → Part → Type 0
 Parts c known u bytes whole (part.Bytes n) = (b : List ℕ) × (whole ≡ take n bytes ++ b) × IsReadAt c known u (drop n bytes) b
-Parts c known u bytes whole (part.Value n r) = (a : List ℕ) × (b : List ℕ) × (whole ≡ a ++ b) × IsRead c known r a × IsReadAt c known u (drop n bytes) b
+Parts c known u bytes whole (part.Value n v) =
+    (a : List ℕ) × (b : List ℕ) × (whole ≡ a ++ b) × IsRead c known v.reading a × IsOwn known v.argument a × IsReadAt c known u (drop n bytes) b
 
 -- a part is of some bytes, and a value is read in an earlier use
 abbrev pub IsShorter : List ℕ → ℕ → List ℕ → Part → Type 0
 IsShorter text u bytes (part.Bytes n) = (0 < n) × (n ≤ length bytes)
-IsShorter text u bytes (part.Value n r) = (0 < n) × (n ≤ length bytes) × (r.within < u) × (length r.rest.now ≤ length text)
+IsShorter text u bytes (part.Value n v) = (0 < n) × (n ≤ length bytes) × (v.reading.within < u) × (length v.reading.rest.now ≤ length text)

@@ -8,7 +8,7 @@ use Rattle.click_expand.specs.Located.{AreAllLocals, AreAllStrings}
 use Rattle.click_expand.specs.Called.{AreAllArguments}
 use Rattle.click_expand.specs.Joined.{AreAllJoints}
 use Rattle.click_expand.specs.Faults.{IsFirstWrong, IsSound}
-use Rattle.click_expand.specs.Instances.{Leaf, LeavesOf}
+use Rattle.click_expand.specs.Instances.{Leaf}
 use Rattle.click_expand.specs.Flat.{WithinLimits, AreConnections, Exceeds, AreDistinct, is_whole, flat_name, flat_names, flat_element, expand_fault, no_memory, IsFlatFault}
 use Rattle.click_expand.specs.declared.fault.FaultKind.TheVariants as kind
 use Rattle.click_expand.specs.declared.flat.Flat.{Flat}

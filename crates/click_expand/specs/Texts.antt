@@ -1,8 +1,6 @@
 -- Parameters of texts by their bytes, as the code finds them.
 use Rattle.std.specs.Prelude.{ℕ, ◌+◌, List, [], ◌∷◌, take, drop, Bool, false, eqb, Option, Some, None, if◌then◌else◌}
 use Rattle.std.specs.List.{prefix_len}
-use Rattle.std.specs.Str.{bytes_eq}
-use Rattle.click_text.specs.declared.syntax.Span.{Span}
 use Rattle.click_text.specs.Pieces.{name_byte}
 use Rattle.click_text.specs.Spans.{bytes_at}
 use Rattle.click_expand.specs.Parameters.{Formal}
@@ -34,9 +32,3 @@ formal_after (b ∷ text) =
 abbrev pub formal_in : List ℕ → Option Formal
 formal_in [] = None
 formal_in (b ∷ text) = if eqb 36 b then formal_after text else None
-
--- the argument's place beside the parameter of that name, whose spans begin with `$`
-abbrev pub span_beside : List ℕ → List Span → List Span → List ℕ → Option Span
-span_beside text [] spans name = None
-span_beside text (f ∷ fs) [] name = None
-span_beside text (f ∷ fs) (s ∷ spans) name = if bytes_eq (drop 1 (bytes_at text f)) name then Some s else span_beside text fs spans name

@@ -1,13 +1,15 @@
 -- The texts that stand for parameters, as the code finds them.
-use Rattle.std.specs.Prelude.{◌≡◌, ℕ, List, [], ◌∷◌, ◌++◌, slice_get, Option, Some, None, Vec}
+use Rattle.std.specs.Prelude.{◌≡◌, ℕ, List, [], ◌∷◌, slice_get, Option, Some, None, Vec}
 use Rattle.std.specs.Global.{Global}
 use Rattle.click_text.specs.declared.syntax.Span.{Span}
 use Rattle.click_text.specs.declared.syntax.Config.{Config}
 use Rattle.click_expand.specs.Elements.{string_by}
-use Rattle.click_expand.specs.Parameters.{IsReplaced}
+use Rattle.click_expand.specs.Parameters.{Bindings, IsReplaced}
 use Rattle.click_expand.specs.Uses.{Used}
 use Rattle.click_expand.specs.declared.members.Local.{Local as LocalKept}
 use Rattle.click_expand.specs.declared.readings.Reading.{Reading}
+use Rattle.click_expand.specs.declared.readings.Argument.{Argument}
+use Rattle.click_expand.specs.declared.readings.Value.{Value}
 
 -- where the arguments of an element stand: nowhere, where there is none
 abbrev pub spans_by : Option (List Span) → List Span
@@ -31,12 +33,16 @@ string_found text (Some ls) element = string_kept text (slice_get ls.items eleme
 abbrev pub IsRead : Config → List Used → Reading → List ℕ → Type 0
 IsRead c known r out = (x : Used) × (slice_get known r.within ≡ Some x) × IsReplaced c x.bindings (x.scope ∷ x.around) r.rest.now out
 
--- a parameter's value is what is read there
-abbrev pub IsValue : Config → List Used → Option Reading → Option (List ℕ) → Type 0
-IsValue c known None o = o ≡ None
-IsValue c known (Some r) o = (v : List ℕ) × (o ≡ Some v) × IsRead c known r v
+-- the arguments of the body that a use is of
+abbrev pub own_arguments : Bindings → List (List ℕ)
+own_arguments [] = []
+own_arguments (b ∷ bindings) = b.1
 
--- the texts that are still to be read, the last the next
-abbrev pub AreRead : Config → List Used → List Reading → List ℕ → Type 0
-AreRead c known [] out = out ≡ []
-AreRead c known (r ∷ rs) out = (a : List ℕ) × (b : List ℕ) × (out ≡ a ++ b) × AreRead c known rs a × IsRead c known r b
+-- the argument, with its parameters replaced, is this text
+abbrev pub IsOwn : List Used → Argument → List ℕ → Type 0
+IsOwn known a v = (x : Used) × (slice_get known a.within ≡ Some x) × (slice_get (own_arguments x.bindings) a.place ≡ Some v)
+
+-- a parameter's value is what is read there, and it is that argument
+abbrev pub IsValue : Config → List Used → Option Value → Option (List ℕ) → Type 0
+IsValue c known None o = o ≡ None
+IsValue c known (Some r) o = (v : List ℕ) × (o ≡ Some v) × IsRead c known r.reading v × IsOwn known r.argument v

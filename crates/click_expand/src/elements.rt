@@ -1,6 +1,6 @@
 //! The elements of a flat configuration.
 
-ghost use Rattle.std.specs.Prelude.{◌≡◌, ◌<◌, ◌≤◌, ◌++◌, ◌∷◌, [], ℕ, List, map, IfOk, OnOk, MatchOption};
+ghost use Rattle.std.specs.Prelude.{◌≡◌, ◌<◌, ◌≤◌, ◌++◌, ◌∷◌, [], List, map, IfOk, OnOk, MatchOption};
 ghost use Rattle.click_expand.specs.Located.{AreAllLocals};
 ghost use Rattle.click_expand.specs.Called.{AreAllArguments};
 ghost use Rattle.click_expand.specs.Nesting.{IsNested};
@@ -11,14 +11,11 @@ ghost use Rattle.click_expand.specs.Flat.{flat_element, text_size, most_text};
 use crate::flat::FlatElement;
 use crate::flat_elements::element_at;
 use crate::members::Local;
-use crate::passed::all_spans;
+use crate::text_buffer::TextBuffer;
 use crate::uses::Uses;
 use click_text::sequence::Sequence;
 use click_text::syntax::{Config, Span};
 use std::alloc::{AllocError, Global};
-
-/// How many bytes the argument texts of all flat elements may have.
-pub const MOST_TEXT: usize = 1_048_576;
 
 /// Adds an element at the end.
 fn push_flat(elements: &mut Vec<FlatElement>, element: FlatElement) -> Result<(), AllocError>
@@ -43,23 +40,21 @@ pub fn elements_of(
     ensures { IfOk result (λ r. (leaves : List Flattened) (known : List Used) → AreUses config.now uses.now.uses.items uses.now.leaves.items known leaves →
         MatchOption r (most_text < text_size leaves) (λ elements. (elements.items ≡ map flat_element leaves) × (text_size leaves ≤ most_text))) }
 {
-    let spans = all_spans(alloc, config, locals, arguments, uses.uses.as_slice())?;
-    let mut room = MOST_TEXT;
+    let mut buffer = TextBuffer::new(alloc);
     let mut elements = Vec::new(alloc);
     for place in uses.leaves.as_slice() {
         let Some(element) = element_at(
             alloc,
             config,
             locals,
-            spans.as_slice(),
+            arguments,
             uses.uses.as_slice(),
+            &mut buffer,
             *place,
-            room,
         )?
         else {
             return Ok(None);
         };
-        room -= element.text.len();
         push_flat(&mut elements, element)?;
     }
     Ok(Some(elements))

@@ -1,8 +1,9 @@
 //! A flat element by its place.
 
-ghost use Rattle.std.specs.Prelude.{◌≡◌, ◌<◌, ◌≤◌, ℕ, List, length, slice_get, Some, IfOk, MatchOption};
+ghost use Rattle.std.specs.Prelude.{◌≡◌, ◌<◌, ◌+◌, ℕ, List, length, slice_get, Some, IfOk, MatchOption};
 ghost use Rattle.click_expand.specs.Located.{AreAllLocals};
-ghost use Rattle.click_expand.specs.Passing.{ArePassed};
+ghost use Rattle.click_expand.specs.Called.{AreAllArguments};
+ghost use Rattle.click_expand.specs.Buffered.{AreKept};
 ghost use Rattle.click_expand.specs.Instances.{Leaf as Flattened};
 ghost use Rattle.click_expand.specs.Uses.{Used, AreUses};
 ghost use Rattle.click_expand.specs.Flat.{flat_element};
@@ -14,7 +15,8 @@ use crate::flat::FlatElement;
 use crate::flat_names::name_of;
 use crate::members::Local;
 use crate::readings::{Reading, string_at};
-use crate::texts::text_of;
+use crate::text_buffer::TextBuffer;
+use crate::texts::write_text;
 use crate::uses::{Place, Use};
 use click_text::sequence::Sequence;
 use click_text::syntax::{Config, Span};
@@ -41,17 +43,19 @@ pub fn element_at(
     alloc: Global,
     config: &Config,
     locals: &[Vec<Local>],
-    spans: &[Sequence<Span>],
+    arguments: &[Sequence<Sequence<Span>>],
     uses: &[Use],
+    buffer: &mut TextBuffer,
     place: Place,
-    room: usize,
 ) -> Result<Option<FlatElement>, AllocError>
     requires locals { AreAllLocals config.now locals.now }
-    requires spans { ArePassed config.now uses.now spans.now }
-    requires all { length spans.now ≡ length uses.now }
+    requires arguments { AreAllArguments config.now arguments.now }
     requires within { place.within < length uses.now }
-    ensures { IfOk result (λ r. (places : List Placed) (known : List Used) (leaves : List Flattened) (n : ℕ) (leaf : Flattened) → AreUses config.now uses.now places known leaves →
-        slice_get places n ≡ Some place → slice_get leaves n ≡ Some leaf → MatchOption r (room < length leaf.text) (λ e. (e ≡ flat_element leaf) × (length leaf.text ≤ room))) }
+    requires kept { AreKept config.now uses.now buffer.old }
+    ensures kept { IfOk result (λ _. AreKept config.now uses.now buffer.new) }
+    ensures made { IfOk result (λ r. (places : List Placed) (known : List Used) (leaves : List Flattened) (n : ℕ) (leaf : Flattened) → AreUses config.now uses.now places known leaves →
+        slice_get places n ≡ Some place → slice_get leaves n ≡ Some leaf →
+        MatchOption r (buffer.old.room < length leaf.text) (λ e. (e ≡ flat_element leaf) × (buffer.new.room + length leaf.text ≡ buffer.old.room))) }
 {
     let text = config.text.as_slice();
     let one = &uses[place.within];
@@ -61,9 +65,11 @@ pub fn element_at(
         within: place.within,
         rest: string_at(text, locals, one.scope, place.element),
     };
-    let Some(replaced) = text_of(alloc, config, locals, spans, uses, first, room)? else {
+    let start = buffer.text.len();
+    if !write_text(alloc, config, locals, arguments, uses, buffer, first)? {
         return Ok(None);
-    };
+    }
+    let replaced = Vec::from_slice(alloc, buffer.behind(start))?;
     Ok(Some(FlatElement {
         name: Sequence::of(name),
         class: Sequence::of(class),

@@ -1,10 +1,11 @@
 //! Parameters in configuration strings.
 
-ghost use Rattle.std.specs.Prelude.{◌≡◌, ◌<◌, ◌≤◌, ◌+◌, length, drop, option_map};
+ghost use Rattle.std.specs.Prelude.{◌≡◌, ◌<◌, ◌≤◌, ◌+◌, length, drop, option_map, position};
 ghost use Rattle.std.specs.List.{prefix_len};
 ghost use Rattle.std.specs.Str.{bytes_eq};
 ghost use Rattle.click_text.specs.Pieces.{name_byte};
-ghost use Rattle.click_expand.specs.Texts.{formal_of, formal_run, formal_after, formal_in, span_beside};
+ghost use Rattle.click_text.specs.Spans.{bytes_at};
+ghost use Rattle.click_expand.specs.Texts.{formal_of, formal_run, formal_after, formal_in};
 
 use click_text::syntax::Span;
 
@@ -80,16 +81,13 @@ fn is_named(word: &[u8], name: &[u8]) -> bool
     }
 }
 
-/// The argument beside the parameter of that name, where there is one.
-pub fn argument_in(text: &[u8], formals: &[Span], arguments: &[Span], name: &[u8]) -> Option<Span>
-    ensures { result ≡ span_beside text.now formals.now arguments.now name.now }
+/// The place of the parameter of that name among these, the first of them that has it.
+pub fn formal_place(text: &[u8], formals: &[Span], name: &[u8]) -> Option<usize>
+    ensures { result ≡ position (λ f. bytes_eq (drop 1 (bytes_at text.now f)) name.now) formals.now }
 {
-    for (i, formal) in formals.iter().enumerate() {
-        if i >= arguments.len() {
-            return None;
-        }
+    for (place, formal) in formals.iter().enumerate() {
         if is_named(formal.of(text), name) {
-            return Some(arguments[i]);
+            return Some(place);
         }
     }
     None

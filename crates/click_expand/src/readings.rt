@@ -1,9 +1,8 @@
 //! What stands for a parameter in a use of a scope.
 
 ghost use Rattle.std.specs.Prelude.{◌≡◌, ℕ, ◌<◌, ◌≤◌, List, length, slice_get, ◌∷◌, Some, IfSome};
-ghost use Rattle.click_text.specs.Spans.{bytes_at};
 ghost use Rattle.click_expand.specs.Scopes.{body_formals};
-ghost use Rattle.click_expand.specs.Passing.{ArePassed};
+ghost use Rattle.click_expand.specs.Called.{AreAllArguments};
 ghost use Rattle.click_expand.specs.Located.{AreAllLocals};
 ghost use Rattle.click_expand.specs.Parameters.{scope_value, value_in};
 ghost use Rattle.click_expand.specs.Instances.{Leaf as Flattened};
@@ -13,7 +12,7 @@ ghost use Rattle.click_expand.specs.declared.uses.Place.{Place as Placed};
 
 use crate::called::string_inside;
 use crate::members::Local;
-use crate::parameters::argument_in;
+use crate::parameters::formal_place;
 use crate::uses::Use;
 use click_text::sequence::Sequence;
 use click_text::syntax::{Body, Config, Span};
@@ -23,6 +22,20 @@ use click_text::syntax::{Body, Config, Span};
 pub struct Reading<'a> {
     pub within: usize,
     pub rest: &'a [u8],
+}
+
+/// An argument with which a body is used: the use, and the place among its arguments.
+#[derive(Clone, Copy, Debug, PartialEq, Eq, Hash)]
+pub struct Argument {
+    pub within: usize,
+    pub place: usize,
+}
+
+/// What stands for a parameter: an argument, and its text as it is to be read.
+#[derive(Clone, Copy)]
+pub struct Value<'a> {
+    pub argument: Argument,
+    pub reading: Reading<'a>,
 }
 
 /// The parameters of a scope: the whole text has none.
@@ -70,42 +83,40 @@ pub fn string_at<'a>(
 fn own_value<'a>(
     config: &'a Config,
     locals: &[Vec<Local>],
-    spans: &[Sequence<Span>],
+    arguments: &[Sequence<Sequence<Span>>],
     uses: &[Use],
     at: usize,
     name: &[u8],
-) -> Option<Reading<'a>>
+) -> Option<Value<'a>>
     requires locals { AreAllLocals config.now locals.now }
-    requires spans { ArePassed config.now uses.now spans.now }
-    ensures value { (places : List Placed) (known : List Used) (leaves : List Flattened) (x : Used) → AreUses config.now uses.now places known leaves → slice_get known at ≡ Some x → at < length spans.now →
+    requires arguments { AreAllArguments config.now arguments.now }
+    ensures value { (places : List Placed) (known : List Used) (leaves : List Flattened) (x : Used) → AreUses config.now uses.now places known leaves → slice_get known at ≡ Some x →
         IsValue config.now known result (scope_value config.now x.bindings x.scope name.now) }
-    ensures before { IfSome result (λ r. r.within < at) }
-    ensures short { IfSome result (λ r. length r.rest.now ≤ length config.now.text) }
+    ensures before { IfSome result (λ v. v.reading.within < at) }
+    ensures short { IfSome result (λ v. length v.reading.rest.now ≤ length config.now.text) }
 {
     let text = config.text.as_slice();
     if at >= uses.len() {
         return None;
     }
-    if at >= spans.len() {
-        return None;
-    }
     let one = &uses[at];
-    let Some(place) = one.around else {
+    let Some(outer) = one.around else {
         return None;
     };
-    if place.within >= at {
+    if outer.within >= at {
         return None;
     }
-    let outer = &uses[place.within];
+    let scope = uses[outer.within].scope;
     let formals = formals_at(config.bodies.as_slice(), one.scope);
-    let passed = spans[at].as_slice();
-    let Some(span) = argument_in(text, formals, passed, name) else {
-        return None;
-    };
-    let string = string_at(text, locals, outer.scope, place.element);
-    Some(Reading {
-        within: place.within,
-        rest: span.of(string),
+    let place = formal_place(text, formals, name)?;
+    let span = spans_at(arguments, scope, outer.element).get(place)?;
+    let string = string_at(text, locals, scope, outer.element);
+    Some(Value {
+        argument: Argument { within: at, place },
+        reading: Reading {
+            within: outer.within,
+            rest: span.of(string),
+        },
     })
 }
 
@@ -113,21 +124,21 @@ fn own_value<'a>(
 pub fn value_at<'a>(
     config: &'a Config,
     locals: &[Vec<Local>],
-    spans: &[Sequence<Span>],
+    arguments: &[Sequence<Sequence<Span>>],
     uses: &[Use],
     from: usize,
     name: &[u8],
-) -> Option<Reading<'a>>
+) -> Option<Value<'a>>
     requires locals { AreAllLocals config.now locals.now }
-    requires spans { ArePassed config.now uses.now spans.now }
-    ensures value { (places : List Placed) (known : List Used) (leaves : List Flattened) (x : Used) → AreUses config.now uses.now places known leaves → slice_get known from ≡ Some x → from < length spans.now →
+    requires arguments { AreAllArguments config.now arguments.now }
+    ensures value { (places : List Placed) (known : List Used) (leaves : List Flattened) (x : Used) → AreUses config.now uses.now places known leaves → slice_get known from ≡ Some x →
         IsValue config.now known result (value_in config.now x.bindings (x.scope ∷ x.around) name.now) }
-    ensures before { IfSome result (λ r. r.within < from) }
-    ensures short { IfSome result (λ r. length r.rest.now ≤ length config.now.text) }
+    ensures before { IfSome result (λ v. v.reading.within < from) }
+    ensures short { IfSome result (λ v. length v.reading.rest.now ≤ length config.now.text) }
 {
     let mut at = from;
     'homes: loop {
-        if let Some(found) = own_value(config, locals, spans, uses, at, name) {
+        if let Some(found) = own_value(config, locals, arguments, uses, at, name) {
             return Some(found);
         }
         if at >= uses.len() {

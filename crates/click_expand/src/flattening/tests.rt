@@ -84,3 +84,39 @@ fn doubled_nothing(rt: HostRuntime) -> Result<(), AllocError> {
     }
     Ok(())
 }
+
+/// The argument text of the second element.
+fn second_text(alloc: Global, text: &[u8]) -> Option<Vec<u8>> {
+    let flat = flattened(alloc, text)?;
+    let element = flat.elements.as_slice().get(1)?;
+    Vec::from_slice(alloc, element.text.as_slice()).ok()
+}
+
+/// Each argument's text is written once and copied where it is read again: in the same text, and in that of a later element.
+#[test]
+fn values_read_again(rt: HostRuntime) {
+    let text =
+        b"elementclass A { $a, $b | Idle($a) -> Strip($b$a$b$a) -> Discard } elementclass B { $c | A($c$c, 3) } B(12)";
+    let found = second_text(rt.alloc(), text.as_slice());
+    assert!(rt; matches!(&found, Some(one) if one.as_slice() == b"3121231212".as_slice()));
+    let text =
+        b"elementclass A { $a | Idle(\"$a\"$a) -> Strip(4$a) -> Discard($a) } elementclass B { $a | A(0$a) } B(\"$a\")";
+    let found = second_text(rt.alloc(), text.as_slice());
+    assert!(rt; matches!(&found, Some(one) if one.as_slice() == b"40\"$a\"".as_slice()));
+}
+
+/// A value is passed on through sixty compounds without a change.
+#[test]
+fn value_passed_on(rt: HostRuntime) -> Result<(), AllocError> {
+    let mut text = Vec::new(rt.alloc());
+    text.extend_from_slice(b"elementclass P0 { $x | Idle -> Strip($x$x) -> Discard }\n")?;
+    for inner in 0..60usize {
+        let level = inner.wrapping_add(1);
+        let class = format!(in rt.alloc(); "elementclass P{level} {{ $x | P{inner}($x) }}\n")?;
+        text.extend_from_slice(class.as_bytes())?;
+    }
+    text.extend_from_slice(b"P60(12)")?;
+    let found = second_text(rt.alloc(), text.as_slice());
+    assert!(rt; matches!(&found, Some(one) if one.as_slice() == b"1212".as_slice()));
+    Ok(())
+}

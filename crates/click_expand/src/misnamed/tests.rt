@@ -23,7 +23,7 @@ fn wrong(kind: FaultKind, start: usize, end: usize) -> Option<Wrong> {
 
 #[test]
 fn wrong_names(rt: HostRuntime) {
-    let rows: [(&[u8], Option<Wrong>); 13] = [
+    let rows: [(&[u8], Option<Wrong>); 7] = [
         (
             b"Idle -> Discard; elementclass C { $a, $b | input -> Queue($a) -> output; } Idle -> C(1, 2) -> Discard;",
             None,
@@ -41,6 +41,15 @@ fn wrong_names(rt: HostRuntime) {
             b"Queue@2 :: Idle; Queue;",
             wrong(FaultKind::DeclaredTwice, 17, 22),
         ),
+    ];
+    for (text, want) in &rows {
+        assert_eq!(rt; found_in(rt.alloc(), *text), Ok(*want));
+    }
+}
+
+#[test]
+fn wrong_names_in_bodies(rt: HostRuntime) {
+    let rows: [(&[u8], Option<Wrong>); 6] = [
         (
             b"elementclass C { $a, $a | input -> output; }",
             wrong(FaultKind::DeclaredTwice, 21, 23),

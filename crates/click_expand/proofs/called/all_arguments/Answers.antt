@@ -1,7 +1,5 @@
-use Rattle.std.proofs.Common.{arith, refl, ap, sym, subst, ◌∙◌, map}
+use Rattle.std.proofs.Common.{arith, refl}
 use Rattle.std.proofs.lemmas.Option.{slice_get_read}
-use Rattle.click_expand.specs.Called.{AreArgumentsOf}
-use Rattle.click_expand.specs.Tables.{local_of}
 use Rattle.click_expand.proofs.Calling.{paired-more, arguments-all, AreCalledIn, called-as}
 use Rattle.click_expand.proofs.called.all_arguments.Goals as goal
 

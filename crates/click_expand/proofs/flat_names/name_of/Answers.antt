@@ -1,6 +1,5 @@
-use Rattle.std.proofs.Common.{◌≡◌, ◌++◌, [], length, sym, ap, ◌∙◌, arith}
+use Rattle.std.proofs.Common.{◌≡◌, ◌++◌, length, ap, ◌∙◌, arith}
 use Rattle.std.proofs.lemmas.List.{nil_from_length, length_push}
-use Rattle.click_expand.specs.Ways.{name_in}
 use Rattle.click_expand.proofs.FlatNaming.{writing-first, writing-next, written}
 use Rattle.click_expand.proofs.flat_names.name_of.Goals as goal
 

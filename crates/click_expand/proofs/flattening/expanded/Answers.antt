@@ -1,4 +1,4 @@
-use Rattle.std.proofs.Common.{sym, subst, ◌∙◌}
+use Rattle.std.proofs.Common.{sym, subst}
 use Rattle.click_expand.specs.Located.{AreAllLocals}
 use Rattle.click_expand.specs.Flat.{much_text}
 use Rattle.click_expand.proofs.Ways.{match-none, match-some, more-connections, joined-up}

@@ -1,4 +1,4 @@
-use Rattle.std.proofs.Common.{sym, ap, ◌∙◌, ◌++◌}
+use Rattle.std.proofs.Common.{ap, ◌∙◌, ◌++◌}
 use Rattle.click_expand.specs.FlatText.{name_in, name_at}
 use Rattle.click_expand.proofs.Ways.{match-none, match-some}
 use Rattle.click_expand.proofs.Tokens.{repeated-in, broken-in, nothing-in}

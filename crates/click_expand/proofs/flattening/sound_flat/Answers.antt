@@ -1,5 +1,4 @@
-use Rattle.std.proofs.Common.{inl, inr, sym, subst, ap, ◌∙◌, ◌≡◌, map}
-use Rattle.click_expand.specs.Flat.{flat_element}
+use Rattle.std.proofs.Common.{inl, inr, sym, subst, ◌∙◌}
 use Rattle.click_expand.specs.Located.{AreAllLocals}
 use Rattle.click_expand.specs.Tabled.{IsExpanded, IsExpandedOr, IsRefusedOf}
 use Rattle.click_expand.proofs.Answering.{too-many-elements, too-many-paths, counted, too-many, answered, refused-by}

@@ -1,56 +1,76 @@
-use Rattle.std.proofs.Common.{arith, sym, ◌∙◌, ◌≡◌, ◌<◌, ap, refl, Some, None, subst, length, ◌∷◌}
+use Rattle.std.proofs.Common.{arith, sym, ◌∙◌, ◌<◌, ap, Some, subst, length, get_or, ◌∷◌}
+use Rattle.std.specs.Prelude.{option_and_then}
+use Rattle.std.specs.List.{slice_get}
+use Rattle.std.proofs.lemmas.Option.{slice_get_past, slice_get-get_or}
 use Rattle.click_text.specs.Spans.{bytes_at}
 use Rattle.click_expand.specs.Scopes.{body_formals}
 use Rattle.click_expand.specs.Parameters.{scope_value, IsReplaced}
-use Rattle.click_expand.specs.Values.{string_found}
-use Rattle.std.specs.List.{slice_get}
-use Rattle.std.proofs.lemmas.Option.{slice_get_read}
-use Rattle.click_expand.proofs.Valued.{own-value, beside-none, beside-some, beside-same, bytes-short, found-short, is-none}
+use Rattle.click_expand.specs.Values.{own_arguments, IsValue}
+use Rattle.click_expand.proofs.Valued.{own-value, value-beside, no-value, bytes-short, found-short}
 use Rattle.click_expand.proofs.readings.own_value.Goals as goal
 
-pub returns-in_default-argument_in-clause-value : goal.returns-in_default-argument_in-clause-value
-returns-in_default-argument_in-clause-value c places known leaves x are there b =
-    let C = c.args.config.now in let us = c.args.uses.now in
-    let one = c.index-uses-at.result in let p = c.in-Some.place in let outer = c.index-uses-place.result in
-    let f1 = c.if-at-uses.false in let f2 = c.if-place-at.false in
+pub returns-in_err-place-clause-value : goal.returns-in_err-place-clause-value
+returns-in_err-place-clause-value c places known leaves x are there =
+    let C = c.args.config.now in
+    let us = c.args.uses.now in
+    let one = c.index-uses-at.result in
+    let p = c.in-Some.outer in
+    let f1 = c.if-at-uses.false in
+    let f2 = c.if-outer-at.false in
     let l1 : c.args.at < length us = omega (arith, f1) in
-    let l2 : p.within < length us = omega (arith, f2, l1) in
-    let e1 : slice_get us c.args.at ≡ Some one = slice_get_read us _ c.args.at one refl l1 c.index-uses-at.is in
-    let e3 : slice_get us p.within ≡ Some outer = slice_get_read us _ p.within outer refl l2 c.index-uses-place.is in
-    let e4 : c.argument_in.result ≡ None = is-none c.argument_in.result c.in_default-argument_in.not-Some in
-    let ss = c.index-spans-at.result in
-    let e5 : slice_get c.args.spans.now c.args.at ≡ Some ss = slice_get_read c.args.spans.now _ c.args.at ss refl b c.index-spans-at.is in
-    let r = own-value C us places known leaves are c.args.locals.now ss c.requires.locals c.args.at one outer x p c.args.name.now e1 there c.in-Some.is e3 (c.requires.spans c.args.at ss e5) in
-    let o = r.0 in
-    let f = sym (c.argument_in.ensures ∙ beside-same c.as_slice-text.result.now C.text _ (body_formals (slice_get C.bodies one.scope)) _ ss c.args.name.now c.as_slice-text.ensures
-    (c.formals_at-formals.ensures ∙ ap (λ z. body_formals (slice_get z one.scope)) c.as_slice.ensures) c.as_slice-passed.ensures) in
-    beside-none C o.bindings (o.scope ∷ o.around) (string_found C.text (slice_get c.args.locals.now outer.scope) p.element) _ (scope_value C x.bindings x.scope c.args.name.now) (f ∙ e4) r.2
+    let l2 : p.within < c.args.at = omega (arith, f2) in
+    let formals = c.formals_at-formals.ensures ∙ ap (λ z. body_formals (slice_get z one.scope)) c.as_slice.ensures in
+    let r = own-value C us places known leaves are c.args.locals.now c.args.arguments.now c.requires.locals c.requires.arguments c.args.at one c.index-uses-outer.result x p
+    c.index-uses-at.is l1 there c.in-Some.is c.index-uses-outer.is l2 c.as_slice-text.result.now c.args.name.now c.formals_at-formals.result.now c.formal_place.result c.as_slice-text.ensures formals c.formal_place.ensures in
+    subst (λ z. IsValue C known z (scope_value C x.bindings x.scope c.args.name.now)) (sym c.from_residual.ensures) (r.2 ∙ ap (option_and_then (slice_get (own_arguments x.bindings))) c.in_err-place.was)
+
+pub returns-in_err-span-clause-value : goal.returns-in_err-span-clause-value
+returns-in_err-span-clause-value c places known leaves x are there =
+    let C = c.args.config.now in
+    let us = c.args.uses.now in
+    let one = c.index-uses-at.result in
+    let p = c.in-Some.outer in
+    let f1 = c.if-at-uses.false in
+    let f2 = c.if-outer-at.false in
+    let l1 : c.args.at < length us = omega (arith, f1) in
+    let l2 : p.within < c.args.at = omega (arith, f2) in
+    let formals = c.formals_at-formals.ensures ∙ ap (λ z. body_formals (slice_get z one.scope)) c.as_slice.ensures in
+    let r = own-value C us places known leaves are c.args.locals.now c.args.arguments.now c.requires.locals c.requires.arguments c.args.at one c.index-uses-outer.result x p
+    c.index-uses-at.is l1 there c.in-Some.is c.index-uses-outer.is l2 c.as_slice-text.result.now c.args.name.now c.formals_at-formals.result.now c.formal_place.result c.as_slice-text.ensures formals c.formal_place.ensures in
+    let i = c.in_ok-place.place in
+    let past = ap (λ z. slice_get z i) (sym c.spans_at.ensures) ∙ slice_get_past c.spans_at.result.now i c.in_err-span.ensures.lookup.3 in
+    subst (λ z. IsValue C known z (scope_value C x.bindings x.scope c.args.name.now)) (sym c.from_residual-in_err-span.ensures)
+    (r.2 ∙ ap (option_and_then (slice_get (own_arguments x.bindings))) c.in_ok-place.was ∙ no-value C r.0.bindings (r.0.scope ∷ r.0.around) _ _ (own_arguments x.bindings) i r.3 past)
 
 pub returns-clause-value : goal.returns-clause-value
-returns-clause-value c places known leaves x are there b =
-    let C = c.args.config.now in let us = c.args.uses.now in
-    let one = c.index-uses-at.result in let p = c.in-Some.place in let outer = c.index-uses-place.result in
-    let f1 = c.if-at-uses.false in let f2 = c.if-place-at.false in
+returns-clause-value c places known leaves x are there =
+    let C = c.args.config.now in
+    let us = c.args.uses.now in
+    let one = c.index-uses-at.result in
+    let p = c.in-Some.outer in
+    let f1 = c.if-at-uses.false in
+    let f2 = c.if-outer-at.false in
     let l1 : c.args.at < length us = omega (arith, f1) in
-    let l2 : p.within < length us = omega (arith, f2, l1) in
-    let e1 : slice_get us c.args.at ≡ Some one = slice_get_read us _ c.args.at one refl l1 c.index-uses-at.is in
-    let e3 : slice_get us p.within ≡ Some outer = slice_get_read us _ p.within outer refl l2 c.index-uses-place.is in
-    let ss = c.index-spans-at.result in
-    let e5 : slice_get c.args.spans.now c.args.at ≡ Some ss = slice_get_read c.args.spans.now _ c.args.at ss refl b c.index-spans-at.is in
-    let r = own-value C us places known leaves are c.args.locals.now ss c.requires.locals c.args.at one outer x p c.args.name.now e1 there c.in-Some.is e3 (c.requires.spans c.args.at ss e5) in
+    let l2 : p.within < c.args.at = omega (arith, f2) in
+    let formals = c.formals_at-formals.ensures ∙ ap (λ z. body_formals (slice_get z one.scope)) c.as_slice.ensures in
+    let r = own-value C us places known leaves are c.args.locals.now c.args.arguments.now c.requires.locals c.requires.arguments c.args.at one c.index-uses-outer.result x p
+    c.index-uses-at.is l1 there c.in-Some.is c.index-uses-outer.is l2 c.as_slice-text.result.now c.args.name.now c.formals_at-formals.result.now c.formal_place.result c.as_slice-text.ensures formals c.formal_place.ensures in
     let o = r.0 in
-    let f = sym (c.argument_in.ensures ∙ beside-same c.as_slice-text.result.now C.text _ (body_formals (slice_get C.bodies one.scope)) _ ss c.args.name.now c.as_slice-text.ensures
-    (c.formals_at-formals.ensures ∙ ap (λ z. body_formals (slice_get z one.scope)) c.as_slice.ensures) c.as_slice-passed.ensures) in
-    let str = string_found C.text (slice_get c.args.locals.now outer.scope) p.element in
-    let span = c.in-Some-argument_in.span in
-    let q = beside-some C o.bindings (o.scope ∷ o.around) str _ span (scope_value C x.bindings x.scope c.args.name.now) (f ∙ c.in-Some-argument_in.is) r.2 in
-    let s = sym (c.of.ensures ∙ ap (λ z. bytes_at z span) (c.string_at-string.ensures ∙ ap (λ z. string_found z (slice_get c.args.locals.now outer.scope) p.element) c.as_slice-text.ensures)) in
-    (q.0, q.1, (o, r.1, subst (λ z. IsReplaced C o.bindings (o.scope ∷ o.around) z q.0) s q.2))
+    let i = c.in_ok-place.place in
+    let span = c.in_ok-span.span.now in
+    let at = ap (λ z. slice_get z i) (sym c.spans_at.ensures) ∙ slice_get-get_or c.spans_at.result.now i span c.in_ok-span.ensures.lookup.3.0 ∙ ap Some (sym c.in_ok-span.ensures.lookup.1) in
+    let q = value-beside C o.bindings (o.scope ∷ o.around) _ _ (own_arguments x.bindings) i span r.3 at in (
+      q.0,
+      r.2 ∙ ap (option_and_then (slice_get (own_arguments x.bindings))) c.in_ok-place.was ∙ q.1,
+      (o, r.1, subst (λ z. IsReplaced C o.bindings (o.scope ∷ o.around) z q.0) (sym (c.of.ensures ∙ ap (λ z. bytes_at z span) c.string_at-string.ensures)) q.2),
+      (x, there, q.1),
+    )
 
 pub returns-clause-short : goal.returns-clause-short
 returns-clause-short c =
-    let outer = c.index-uses-place.result in let p = c.in-Some.place in let span = c.in-Some-argument_in.span in
-    let str = string_found c.as_slice-text.result.now (slice_get c.args.locals.now outer.scope) p.element in
-    let e = ap length (c.of.ensures ∙ ap (λ z. bytes_at z span) c.string_at-string.ensures) in
+    let text = c.as_slice-text.result.now in
+    let scope = (get_or c.args.uses.now c.in-Some.outer.within c.index-uses-outer.result).scope in
+    let e = ap length c.of.ensures in
+    let f = ap length c.string_at-string.ensures in
     let t = ap length c.as_slice-text.ensures in
-    omega (arith, e, t, bytes-short str span, found-short c.as_slice-text.result.now (slice_get c.args.locals.now outer.scope) p.element)
+    omega (arith, e, f, t, bytes-short c.string_at-string.result.now c.in_ok-span.span.now, found-short text (slice_get c.args.locals.now scope) c.in-Some.outer.element)
