@@ -14,6 +14,7 @@ pub mod Valued
 pub mod ReadHomes
 pub mod Parting
 pub mod Buffering
+pub mod OwnElements
 pub mod Elemented
 pub mod Ordered
 pub mod Least
@@ -65,3 +66,4 @@ pub mod FlatNaming
 pub mod FoundShortcuts
 pub mod StandingIn
 pub mod Shortening
+pub mod WrittenConnections

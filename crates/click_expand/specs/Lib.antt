@@ -24,6 +24,7 @@ pub mod Values
 pub mod Classed
 pub mod Spread
 pub mod Buffered
+pub mod OneScope
 pub mod Misnamed
 pub mod Using
 pub mod Counted

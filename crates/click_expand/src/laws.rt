@@ -1,11 +1,16 @@
 //! What holds of flat forms.
 
-ghost use Rattle.std.specs.Prelude.{◌≡◌, ℕ, List};
+ghost use Rattle.std.specs.Prelude.{◌≡◌, ◌<◌, ℕ, List, [], map, length, slice_get, Some, Contains};
 ghost use Rattle.click_text.specs.declared.syntax.Config.{Config};
 ghost use Rattle.click_text.specs.Spelling.{Spells};
 ghost use Rattle.click_expand.specs.declared.fault.ExpandFault.{ExpandFault};
+ghost use Rattle.click_expand.specs.declared.flat.Connection.{Connection};
 ghost use Rattle.click_expand.specs.declared.flat.Flat.{Flat};
-ghost use Rattle.click_expand.specs.Flat.{IsFlat, IsFlatFault};
+ghost use Rattle.click_expand.specs.declared.flat.FlatElement.{FlatElement};
+ghost use Rattle.click_expand.specs.Scopes.{whole};
+ghost use Rattle.click_expand.specs.Faults.{scope_locals};
+ghost use Rattle.click_expand.specs.Flat.{Before, IsFlat, IsFlatFault};
+ghost use Rattle.click_expand.specs.OneScope.{HasNoCompounds, IsWritten, own_element};
 ghost use Rattle.click_expand.specs.FlatText.{text_of};
 
 /// The text of a configuration's flat form spells a configuration, whose flat form it is too. `parse` reads it where it isn't too large.
@@ -18,4 +23,30 @@ pub fn flat_once()
     ensures flat { (text : List ℕ) (config : Config) (flat other : Flat) → Spells text config → IsFlat config flat → IsFlat config other → flat ≡ other }
     ensures fault { (text : List ℕ) (config : Config) (fault other : ExpandFault) → Spells text config → IsFlatFault config fault → IsFlatFault config other → fault ≡ other }
     ensures either { (text : List ℕ) (config : Config) (flat : Flat) (fault : ExpandFault) → Spells text config → IsFlat config flat → IsFlatFault config fault → ⊥ }
+{}
+
+/// No two elements of a flat form have the same name.
+pub fn names_are_distinct()
+    ensures { (config : Config) (flat : Flat) (i j : ℕ) (e f : FlatElement) → IsFlat config flat →
+        slice_get flat.elements i ≡ Some e → slice_get flat.elements j ≡ Some f → e.name ≡ f.name → i ≡ j }
+{}
+
+/// The connections of a flat form stand in order, each once: by from-element, from-port, to-element, to-port.
+pub fn connections_are_ordered()
+    ensures { (config : Config) (flat : Flat) (i j : ℕ) (k l : Connection) → IsFlat config flat →
+        slice_get flat.connections i ≡ Some k → slice_get flat.connections j ≡ Some l → i < j → Before k l }
+{}
+
+/// Each connection of a flat form joins two of its elements.
+pub fn ends_are_elements()
+    ensures { (config : Config) (flat : Flat) (k : Connection) → IsFlat config flat →
+        Contains flat.connections k → (k.from < length flat.elements) × (k.to < length flat.elements) }
+{}
+
+/// Without compounds the flat elements are those that the text declares, each with its own name, class and text, and the connections are just those
+/// that are written.
+pub fn flat_without_compounds()
+    ensures elements { (config : Config) (flat : Flat) → HasNoCompounds config → IsFlat config flat → flat.elements ≡ map own_element (scope_locals config whole []) }
+    ensures written { (config : Config) (flat : Flat) (k : Connection) → HasNoCompounds config → IsFlat config flat → Contains flat.connections k → IsWritten config k }
+    ensures all { (config : Config) (flat : Flat) (k : Connection) → HasNoCompounds config → IsFlat config flat → IsWritten config k → Contains flat.connections k }
 {}
