@@ -33,7 +33,7 @@ abbrev pub IsStep : Config → List Used → Step → List ℕ → List ℕ → 
 IsStep c known (step.Read r) before after = (p : List ℕ) × (after ≡ before ++ p) × IsRead c known r p
 IsStep c known (step.Keep a start) before after = (after ≡ before) × (start ≤ length before) × IsOwn known a (drop start before)
 
--- these steps, the last the first, lead from what is written to the whole text
+-- These steps lead from what is written to the whole text. The last of the list is done first.
 abbrev pub AreSteps : Config → List Used → List Step → List ℕ → List ℕ → Type 0
 AreSteps c known [] before whole = whole ≡ before
 AreSteps c known (s ∷ above) before whole = (between : List ℕ) × AreSteps c known above before between × IsStep c known s between whole

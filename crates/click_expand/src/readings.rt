@@ -1,6 +1,6 @@
 //! What stands for a parameter in a use of a scope.
 
-ghost use Rattle.std.specs.Prelude.{◌≡◌, ℕ, ◌<◌, ◌≤◌, List, length, slice_get, ◌∷◌, Some, IfSome};
+ghost use Rattle.std.specs.Prelude.{◌≡◌, ◌<◌, ◌≤◌, List, length, slice_get, ◌∷◌, Some, IfSome};
 ghost use Rattle.click_expand.specs.Scopes.{body_formals};
 ghost use Rattle.click_expand.specs.Called.{AreAllArguments};
 ghost use Rattle.click_expand.specs.Located.{AreAllLocals};

@@ -1,6 +1,6 @@
 //! What is written of the texts of elements, and the arguments that stand in it.
 
-ghost use Rattle.std.specs.Prelude.{◌≡◌, ℕ, ◌<◌, ◌≤◌, ◌+◌, ◌++◌, [], length, drop, true, false, Some, IfOk, OnOk, if◌then◌else◌};
+ghost use Rattle.std.specs.Prelude.{◌≡◌, ◌<◌, ◌≤◌, ◌+◌, ◌++◌, [], length, drop, true, false, Some, IfOk, OnOk, if◌then◌else◌};
 ghost use Rattle.std.specs.Map.{lookup};
 ghost use Rattle.click_text.specs.Spans.{bytes_at};
 ghost use Rattle.click_expand.specs.declared.readings.Argument.{Argument as Given};

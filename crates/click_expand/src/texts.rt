@@ -1,6 +1,6 @@
 //! Texts with their parameters replaced.
 
-ghost use Rattle.std.specs.Prelude.{◌≡◌, ℕ, ◌<◌, ◌≤◌, ◌+◌, ◌++◌, ◌∷◌, [], List, length, take, drop, slice_get, Some, true, false, IfOk, OnOk};
+ghost use Rattle.std.specs.Prelude.{◌≡◌, ℕ, ◌<◌, ◌≤◌, ◌+◌, ◌++◌, ◌∷◌, [], List, length, true, false, IfOk, OnOk};
 ghost use Rattle.click_expand.specs.Called.{AreAllArguments};
 ghost use Rattle.click_expand.specs.Located.{AreAllLocals};
 ghost use Rattle.click_expand.specs.Instances.{Leaf as Flattened};

@@ -91,13 +91,9 @@ fn span(start: usize, end: usize) -> Span {
     Span { start, end }
 }
 
-#[test]
-fn every_kind_of_statement(rt: HostRuntime) -> Result<(), Fail> {
-    let text =
-        b"elementclass P { $n, $m | input -> Queue($n) -> output; } x, y :: P(1, 2); z :: { input -> output }(3); elementclass Q P; require(click); ;;";
-    let config = parse(rt.alloc(), text)?;
-    assert_eq!(rt; config.statements.len(), 5);
-    let wanted = [
+/// The statements of the text below.
+fn outlines() -> [Outline; 5] {
+    [
         Outline {
             kind: DEFINITION,
             name: Some(span(13, 14)),
@@ -133,8 +129,16 @@ fn every_kind_of_statement(rt: HostRuntime) -> Result<(), Fail> {
             text: Some(span(129, 136)),
             parts: 0,
         },
-    ];
-    for (i, outline) in wanted.iter().enumerate() {
+    ]
+}
+
+#[test]
+fn every_kind_of_statement(rt: HostRuntime) -> Result<(), Fail> {
+    let text =
+        b"elementclass P { $n, $m | input -> Queue($n) -> output; } x, y :: P(1, 2); z :: { input -> output }(3); elementclass Q P; require(click); ;;";
+    let config = parse(rt.alloc(), text)?;
+    assert_eq!(rt; config.statements.len(), 5);
+    for (i, outline) in outlines().iter().enumerate() {
         assert_eq!(rt; statement_at(&config, i), Some(*outline), "statement {i}");
     }
     Ok(())
