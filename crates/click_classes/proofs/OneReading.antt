@@ -4,7 +4,7 @@ use Rattle.std.specs.List.{AllZip}
 use Rattle.click_text.specs.declared.syntax.Span.{Span}
 use Rattle.click_text.specs.Arguments.{AreArguments, cut}
 use Rattle.click_text.specs.Words.{AreWords, words_of}
-use Rattle.click_text.specs.Unquote.{StandsFor, plain}
+use Rattle.click_text.specs.Unquote.{StandsFor, plain_bytes}
 use Rattle.click_text.proofs.ItemReading.{items_once}
 
 pub one_arguments : (text : List ℕ) (spans others : List Span) → AreArguments text spans → AreArguments text others → spans ≡ others
@@ -14,7 +14,7 @@ pub one_words : (text : List ℕ) (words others : List (List ℕ)) → AreWords 
 one_words text words others a b = a.cuts ∙ ap words_of (items_once a.read b.read) ∙ sym b.cuts
 
 pub one_plain : (text : List ℕ) (bytes others : Option (List ℕ)) → StandsFor text bytes → StandsFor text others → bytes ≡ others
-one_plain text bytes others a b = a.plain_is ∙ ap plain (items_once a.read b.read) ∙ sym b.plain_is
+one_plain text bytes others a b = a.plain_is ∙ ap plain_bytes (items_once a.read b.read) ∙ sym b.plain_is
 
 pub one_words_each : (args : List (List ℕ)) (all others : List (List (List ℕ))) → AllZip AreWords args all → AllZip AreWords args others → all ≡ others
 one_words_each [] [] [] a b = refl

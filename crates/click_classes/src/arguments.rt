@@ -6,9 +6,9 @@ ghost use Rattle.click_text.specs.Spans.{bytes_at};
 
 use crate::fault::ArgFault;
 use crate::values::number::number_in;
-use click_text::argument_words::words;
 use click_text::sequence::Sequence;
 use click_text::syntax::Span;
+use click_text::words;
 use std::alloc::Global;
 use std::marker::Model;
 

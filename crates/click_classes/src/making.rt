@@ -29,7 +29,7 @@ use crate::classes::switches::{
 use crate::classes::tees::{make_pull_tee, make_tee};
 use crate::fault::ArgFault;
 use crate::state::State;
-use click_text::arguments::arguments;
+use click_text::arguments;
 use std::alloc::Global;
 
 /// The first state of an element of the class, or the first fault of its arguments.

@@ -10,7 +10,7 @@ ghost use Rattle.click_expand.specs.Located.{AreAllLocals};
 
 use crate::classes::ClassOf;
 use crate::members::Local;
-use click_text::arguments::arguments;
+use click_text::arguments;
 use click_text::sequence::Sequence;
 use click_text::syntax::{Config, Span};
 use std::alloc::{AllocError, Global};

@@ -17,7 +17,7 @@ use crate::parameters::parameter_at;
 use crate::readings::{Argument, Reading, Value, value_at};
 use crate::text_buffer::TextBuffer;
 use crate::uses::Use;
-use click_text::items::first_item;
+use click_text::first_item;
 use click_text::sequence::Sequence;
 use click_text::syntax::{Config, Span};
 use std::alloc::{AllocError, Global};

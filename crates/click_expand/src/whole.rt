@@ -8,7 +8,7 @@ ghost use Rattle.click_expand.specs.Found.{IsRepeated, IsBroken};
 
 use crate::flat::FlatElement;
 use crate::names::Names;
-use click_text::strings::string_len;
+use click_text::string_len;
 use std::alloc::{AllocError, Global};
 
 /// The place of the first element whose name an earlier one has.

@@ -8,7 +8,7 @@ use Rattle.std.proofs.lemmas.Bool.Decides.{nat_tests}
 use Rattle.std.proofs.lemmas.List.{take-append-drop}
 use Rattle.click_text.specs.declared.lexer.Piece.{Piece}
 use Rattle.click_text.specs.declared.lexer.Piece.TheVariants as piece
-use Rattle.click_text.specs.Marks.{mark_of}
+use Rattle.click_text.specs.kept.SingleBytePieces.{mark_of}
 use Rattle.click_text.specs.Pieces.{white, digit, word_byte, is_word, IsPiece, NoPiece}
 
 -- `Word` for each kind that word bytes spell

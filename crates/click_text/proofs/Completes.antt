@@ -13,12 +13,12 @@ use Rattle.click_text.specs.declared.syntax.Element.{Element}
 use Rattle.click_text.specs.declared.syntax.Link.{Link}
 use Rattle.click_text.specs.declared.syntax.Statement.{Statement}
 use Rattle.click_text.specs.declared.syntax.Body.{Body}
-use Rattle.click_text.specs.Grammar.{port, element, link, chain, declaration, body, Tree, IsPort, no_port, bracketed, IsString, no_string, string, IsEnd, semicolon, before_close, at_end, IsFormals, last_formal, more_formals, IsHeader, no_header, header, IsNames, last_name, more_names, IsBody, braces, IsClass, by_name, by_body, IsHead, word, declared, compound, IsElement, an_element, IsLinks, no_links, more_links, IsStatement, chained, declarations, definition, synonym, requirement, IsStatements, no_more, empty, stated}
-use Rattle.click_text.specs.Machine.{Place, top, inside, Use, as_element, as_class, as_definition, Target, of_head, of_names, Context, start, linked, Side, out, into, State, between, statement_wanted, first_read, name_wanted, name_read, listed_read, define, define_named, required, ending, body_opened, formal_wanted, formal_read, element_wanted, word_read, class_wanted, head_read, after, port_wanted, number_wanted, close_wanted, arrow_wanted, a_definition, a_synonym, a_requirement, grown, classified, used, ported, begun, classed, closed, arrowed, past_port, joined, numbered, bracketed_off, beyond, beyond_grown, headed, worded, firsted, named, names_on, over, listed, defined, define_on, opening, required_on, unfolded, formal_next, formal_on, step, ended, ended_grown, finish}
-use Rattle.click_text.specs.Machine as machine
+use Rattle.click_text.specs.Grammar.{written_port, element, link, chain, declaration, body, Tree, IsPort, no_port, bracketed, IsString, no_string, string, IsEnd, semicolon, before_close, at_end, IsFormals, last_formal, more_formals, IsHeader, no_header, header, IsNames, last_name, more_names, IsBody, braces, IsClass, by_name, by_body, IsHead, word, declared, compound, IsElement, an_element, IsLinks, no_links, more_links, IsStatement, chained, declarations, definition, synonym, requirement, IsStatements, no_more, empty, stated}
+use Rattle.click_text.specs.kept.ParserStates.{Place, top, inside, Use, as_element, as_class, as_definition, Target, of_head, of_names, Context, start, linked, Side, out, into, State, between, statement_wanted, first_read, name_wanted, name_read, listed_read, define, define_named, required, ending, body_opened, formal_wanted, formal_read, element_wanted, word_read, class_wanted, head_read, after, port_wanted, number_wanted, close_wanted, arrow_wanted, a_definition, a_synonym, a_requirement, element_read, classified, body_read, ported, begun, classed, closed, arrowed, past_port, port_begun, port_numbered, bracketed_off, beyond, beyond_element, headed, worded, firsted, named, names_on, statement_over, class_listed, defined, define_on, opening, required_on, unfolded, formal_next, formal_on, step, tree_at_end, tree_at_element, finish}
+use Rattle.click_text.specs.kept.ParserStates as machine
 use Rattle.click_text.proofs.Takes.{begun_by, classed_by, arrowed_by, joined_by, numbered_by, bracketed_by, beyond_by, headed_by, worded_by, firsted_by, named_by, names_by, over_by, listed_by, defined_by, define_on_by, opening_by, stated_by, required_by, unfolded_by, formal_by, formal_on_by}
 
--- what stands behind names: their class, or further ones
+-- what stands after names: their class, or further ones
 pub data Names : List Token → List Span → List Token → Type 0 where
   names_end : {d : Span} {ts : List Token} → Names (token.DoubleColon d ∷ ts) [] ts
   names_more : {c s : Span} {ts rest : List Token} {ns : List Span} → Names ts ns rest → Names (token.Comma c ∷ token.Word s ∷ ts) (s ∷ ns) rest
@@ -27,7 +27,7 @@ names_are : {ts rest : List Token} {ns : List Span} → Names ts ns rest → (c 
 names_are names_end c s = last_name
 names_are (names_more {c = d} {s = r} k) c s = more_names (names_are k d r)
 
--- what stands behind a parameter: the bar, or further ones
+-- what stands after a parameter: the bar, or further ones
 pub data Formals : List Token → List Span → List Token → Type 0 where
   formals_end : {r : Span} {ts : List Token} → Formals (token.Bar r ∷ ts) [] ts
   formals_more : {c : Span} {ts rest : List Token} {fs : List Span} → IsFormals ts fs rest → Formals (token.Comma c ∷ ts) fs rest
@@ -92,7 +92,7 @@ Classed g bs ts t = (c : Class) × (rest : List Token) × (bs' : List Body) × I
 abbrev pub Ending : Place → List Body → List Statement → Statement → List Token → Tree → Type 0
 Ending p bs ss st ts t = (rest : List Token) × IsEnd ts rest × Between (Ends p) bs (ss ++ st ∷ []) rest t
 
--- the names' class comes, behind further names or none
+-- the names' class comes, after further names or none
 abbrev pub Named : Place → List Body → List Statement → List Span → List Token → Tree → Type 0
 Named p bs ss ns ts t = (more : List Span) × (ts1 : List Token) × Names ts more ts1 × Classed (of_names (ns ++ more) p ss) bs ts1 t
 
@@ -138,7 +138,7 @@ Completes (port_wanted bs p ss f ls side) ts t = (q : Option Port) × (rest : Li
 Completes (number_wanted bs p ss f ls side a) ts t =
     (q : Option Port) × (rest : List Token) × IsPort (token.OpenBracket a ∷ ts) q rest × Ported p bs ss f ls side q rest t
 Completes (close_wanted bs p ss f ls side a n) ts t =
-    (b : Span) × (rest : List Token) × (ts ≡ token.CloseBracket b ∷ rest) × Ported p bs ss f ls side (Some (port n a b)) rest t
+    (b : Span) × (rest : List Token) × (ts ≡ token.CloseBracket b ∷ rest) × Ported p bs ss f ls side (Some (written_port n a b)) rest t
 Completes (arrow_wanted bs p ss f ls q) ts t = Arrowed p bs ss f ls q ts t
 
 -- what comes after a token completes a text with it before
@@ -146,7 +146,7 @@ abbrev pub Leads : Option State → List Token → Tree → Type 0
 Leads None ts t = ⊥
 Leads (Some s) ts t = Completes s ts t
 
-from_grown : (bs : List Body) (cx : Context) (e : Element) (ts : List Token) (t : Tree) → Completes (grown bs cx e) ts t → Grown cx bs e ts t
+from_grown : (bs : List Body) (cx : Context) (e : Element) (ts : List Token) (t : Tree) → Completes (element_read bs cx e) ts t → Grown cx bs e ts t
 from_grown bs (start p ss) e ts t h = h
 from_grown bs (linked p ss f ls from to) e ts t h = h
 
@@ -154,7 +154,7 @@ from_classified : (bs : List Body) (g : Target) (c : Class) (ts : List Token) (t
 from_classified bs (of_head s cx) c ts t h = h
 from_classified bs (of_names ns p ss) c ts t h = h
 
-from_used : (bs : List Body) (u : Use) (n : ℕ) (ts : List Token) (t : Tree) → Completes (used bs u n) ts t → Used u bs n ts t
+from_used : (bs : List Body) (u : Use) (n : ℕ) (ts : List Token) (t : Tree) → Completes (body_read bs u n) ts t → Used u bs n ts t
 from_used bs (as_element cx) n ts t h = h
 from_used bs (as_class g) n ts t h = from_classified bs g _ ts t h
 from_used bs (as_definition s p ss) n ts t h = h
@@ -243,7 +243,7 @@ closed_completes bs (inside a fs u) ss b ts t l =
 stated_empty : (bs : List Body) (p : Place) (ss : List Statement) (s : Span) (ts : List Token) (t : Tree) → Completes (between bs p ss) ts t → Completes (between bs p ss) (token.Semicolon s ∷ ts) t
 stated_empty bs p ss s ts t (more, rest, bs', r, k) = (more, rest, bs', empty r, k)
 
-stated_completes : (bs : List Body) (p : Place) (ss : List Statement) (tok : Token) (ts : List Token) (t : Tree) → Leads (machine.stated bs p ss tok) ts t → Completes (between bs p ss) (tok ∷ ts) t
+stated_completes : (bs : List Body) (p : Place) (ss : List Statement) (tok : Token) (ts : List Token) (t : Tree) → Leads (machine.statement_next bs p ss tok) ts t → Completes (between bs p ss) (tok ∷ ts) t
 stated_completes bs p ss tok ts t l = elim (stated_by bs p ss tok) [
   | inl w ↦ rw (w.1) (stated_empty bs p ss w.0 ts t (rw (w.1) at l))
   | inr (inl w) ↦ rw (w.1) (closed_completes bs p ss w.0 ts t (rw (w.1) at l))
@@ -297,7 +297,7 @@ over_semicolon bs p ss st s ts t k = (ts, semicolon, k)
 over_close : (bs : List Body) (p : Place) (ss : List Statement) (st : Statement) (b : Span) (ts : List Token) (t : Tree) → Completes (between bs p (ss ++ st ∷ [])) (token.Close b ∷ ts) t → Ending p bs ss st (token.Close b ∷ ts) t
 over_close bs p ss st b ts t k = (token.Close b ∷ ts, before_close, k)
 
-over_completes : (bs : List Body) (p : Place) (ss : List Statement) (st : Statement) (tok : Token) (ts : List Token) (t : Tree) → Leads (over bs p ss st tok) ts t → Ending p bs ss st (tok ∷ ts) t
+over_completes : (bs : List Body) (p : Place) (ss : List Statement) (st : Statement) (tok : Token) (ts : List Token) (t : Tree) → Leads (statement_over bs p ss st tok) ts t → Ending p bs ss st (tok ∷ ts) t
 over_completes bs p ss st tok ts t l = elim (over_by bs p ss st tok) [
   | inl w ↦ rw (w.1) (over_semicolon bs p ss st w.0 ts t (rw (w.1) at l))
   | inr (inl w) ↦ rw (w.1) (over_close bs p ss st w.0 ts t (closed_completes bs p _ w.0 ts t (rw (w.1) at l)))
@@ -307,7 +307,7 @@ over_completes bs p ss st tok ts t l = elim (over_by bs p ss st tok) [
 listed_ends : (bs : List Body) (p : Place) (ss : List Statement) (ns : List Span) (c : Class) (text : Option Span) (ts ts1 : List Token) (t : Tree) → IsString ts text ts1 → Ending p bs ss (declaration ns c text) ts1 t → Listed (Ends p) bs ss ns c ts t
 listed_ends bs p ss ns c text ts ts1 t q (rest, end, k) = (text, ts1, rest, q, end, k)
 
-listed_completes : (bs : List Body) (p : Place) (ss : List Statement) (ns : List Span) (c : Class) (tok : Token) (ts : List Token) (t : Tree) → Leads (listed bs p ss ns c tok) ts t → Listed (Ends p) bs ss ns c (tok ∷ ts) t
+listed_completes : (bs : List Body) (p : Place) (ss : List Statement) (ns : List Span) (c : Class) (tok : Token) (ts : List Token) (t : Tree) → Leads (class_listed bs p ss ns c tok) ts t → Listed (Ends p) bs ss ns c (tok ∷ ts) t
 listed_completes bs p ss ns c tok ts t l = elim (listed_by bs p ss ns c tok) [
   | inl w ↦ rw (w.1) (listed_ends bs p ss ns c (Some w.0) _ ts t string (rw (w.1) at l))
   | inr e ↦ listed_ends bs p ss ns c None _ _ t no_string (over_completes bs p ss _ tok ts t (rw e at l))
@@ -344,16 +344,16 @@ past_port_completes : (bs : List Body) (p : Place) (ss : List Statement) (f : El
 past_port_completes bs p ss f ls out q tok ts t l = arrowed_completes bs p ss f ls q tok ts t l
 past_port_completes bs p ss f ls (into from) q tok ts t l = begun_completes bs (linked p ss f ls from q) tok ts t l
 
-joined_completes : (bs : List Body) (p : Place) (ss : List Statement) (f : Element) (ls : List Link) (side : Side) (tok : Token) (ts : List Token) (t : Tree) → Leads (joined bs p ss f ls side tok) ts t → Completes (port_wanted bs p ss f ls side) (tok ∷ ts) t
+joined_completes : (bs : List Body) (p : Place) (ss : List Statement) (f : Element) (ls : List Link) (side : Side) (tok : Token) (ts : List Token) (t : Tree) → Leads (port_begun bs p ss f ls side tok) ts t → Completes (port_wanted bs p ss f ls side) (tok ∷ ts) t
 joined_completes bs p ss f ls side tok ts t l = elim (joined_by bs p ss f ls side tok) [
   | inl w ↦ rw (w.1) (rw (w.1) at l)
   | inr e ↦ (None, tok ∷ ts, no_port, past_port_completes bs p ss f ls side None tok ts t (rw e at l))
 ]
 
 numbered_into : (bs : List Body) (p : Place) (ss : List Statement) (f : Element) (ls : List Link) (side : Side) (a : Span) (n : ℕ) (s : Span) (ts : List Token) (t : Tree) → Completes (close_wanted bs p ss f ls side a n) ts t → Completes (number_wanted bs p ss f ls side a) (token.Number (Some n) s ∷ ts) t
-numbered_into bs p ss f ls side a n s ts t (b, rest, e, g) = (Some (port n a b), rest, rw e bracketed, g)
+numbered_into bs p ss f ls side a n s ts t (b, rest, e, g) = (Some (written_port n a b), rest, rw e bracketed, g)
 
-numbered_completes : (bs : List Body) (p : Place) (ss : List Statement) (f : Element) (ls : List Link) (side : Side) (a : Span) (tok : Token) (ts : List Token) (t : Tree) → Leads (numbered bs p ss f ls side a tok) ts t → Completes (number_wanted bs p ss f ls side a) (tok ∷ ts) t
+numbered_completes : (bs : List Body) (p : Place) (ss : List Statement) (f : Element) (ls : List Link) (side : Side) (a : Span) (tok : Token) (ts : List Token) (t : Tree) → Leads (port_numbered bs p ss f ls side a tok) ts t → Completes (number_wanted bs p ss f ls side a) (tok ∷ ts) t
 numbered_completes bs p ss f ls side a tok ts t l = elim (numbered_by bs p ss f ls side a tok) [
   | inl w ↦ rw (w.2) (numbered_into bs p ss f ls side a w.0 w.1 ts t (rw (w.2) at l))
   | inr e ↦ absurd (rw e at l)
@@ -365,7 +365,7 @@ bracketed_completes bs p ss f ls side a n tok ts t l = elim (bracketed_by bs p s
   | inr e ↦ absurd (rw e at l)
 ]
 
--- behind an element comes an arrow
+-- after an element comes an arrow
 joined_after : (bs : List Body) (p : Place) (ss : List Statement) (f : Element) (ls : List Link) (ts : List Token) (t : Tree) → Completes (port_wanted bs p ss f ls out) ts t → After (Ends p) bs ss f ls ts t
 joined_after bs p ss f ls ts t (from, ts0, k, (s, ts1, ts2, to, q, m, (e, rest, bs', r, (more, ts3, rest2, bs1, rs, end, g)))) =
     (link from to e ∷ more, ts3, rest2, bs1, more_links (rw q at k) m r rs, end, rw append_assoc at g)
@@ -383,7 +383,7 @@ beyond_completes bs p ss f ls tok ts t l = elim (beyond_by bs p ss f ls tok) [
   | inr (inr e) ↦ joined_after bs p ss f ls _ t (joined_completes bs p ss f ls out tok ts t (rw e at l))
 ]
 
-grown_completes : (bs : List Body) (cx : Context) (e : Element) (tok : Token) (ts : List Token) (t : Tree) → Leads (beyond_grown bs cx e tok) ts t → Grown cx bs e (tok ∷ ts) t
+grown_completes : (bs : List Body) (cx : Context) (e : Element) (tok : Token) (ts : List Token) (t : Tree) → Leads (beyond_element bs cx e tok) ts t → Grown cx bs e (tok ∷ ts) t
 grown_completes bs (start p ss) e tok ts t l = beyond_completes bs p ss e [] tok ts t l
 grown_completes bs (linked p ss f ls from to) e tok ts t l = beyond_completes bs p ss f (ls ++ link from to e ∷ []) tok ts t l
 
@@ -440,21 +440,21 @@ step_completes (arrow_wanted bs p ss f ls q) tok ts t l = arrowed_completes bs p
 
 -- the end of the tokens
 
-ended_completes : (bs : List Body) (p : Place) (ss : List Statement) (t : Tree) → ended bs p ss ≡ Some t → Completes (between bs p ss) [] t
+ended_completes : (bs : List Body) (p : Place) (ss : List Statement) (t : Tree) → tree_at_end bs p ss ≡ Some t → Completes (between bs p ss) [] t
 ended_completes bs top ss t e = ([], [], bs, no_more, rw append-nil (refl, cc))
 ended_completes bs (inside a fs u) ss t e = cc
 
-after_ends : (bs : List Body) (p : Place) (ss : List Statement) (f : Element) (ls : List Link) (t : Tree) → ended bs p (ss ++ chain f ls ∷ []) ≡ Some t → After (Ends p) bs ss f ls [] t
+after_ends : (bs : List Body) (p : Place) (ss : List Statement) (f : Element) (ls : List Link) (t : Tree) → tree_at_end bs p (ss ++ chain f ls ∷ []) ≡ Some t → After (Ends p) bs ss f ls [] t
 after_ends bs p ss f ls t e = ([], [], [], bs, no_links, at_end, rw append-nil (ended_completes bs p _ t e))
 
-grown_ends : (bs : List Body) (cx : Context) (e : Element) (t : Tree) → ended_grown bs cx e ≡ Some t → Grown cx bs e [] t
+grown_ends : (bs : List Body) (cx : Context) (e : Element) (t : Tree) → tree_at_element bs cx e ≡ Some t → Grown cx bs e [] t
 grown_ends bs (start p ss) e t q = after_ends bs p ss e [] t q
 grown_ends bs (linked p ss f ls from to) e t q = after_ends bs p ss f (ls ++ link from to e ∷ []) t q
 
-headed_ends : (bs : List Body) (cx : Context) (h : Head) (t : Tree) → ended_grown bs cx (element h None) ≡ Some t → Headed (Grown cx) bs h [] t
+headed_ends : (bs : List Body) (cx : Context) (h : Head) (t : Tree) → tree_at_element bs cx (element h None) ≡ Some t → Headed (Grown cx) bs h [] t
 headed_ends bs cx h t q = (None, [], no_string, grown_ends bs cx _ t q)
 
-word_ends : (bs : List Body) (cx : Context) (s : Span) (t : Tree) → ended_grown bs cx (element (head.Word s) None) ≡ Some t → Completes (word_read bs cx s) [] t
+word_ends : (bs : List Body) (cx : Context) (s : Span) (t : Tree) → tree_at_element bs cx (element (head.Word s) None) ≡ Some t → Completes (word_read bs cx s) [] t
 word_ends bs cx s t q = (head.Word s, [], bs, word, headed_ends bs cx _ t q)
 
 pub finish_completes : (s : State) (t : Tree) → finish s ≡ Some t → Completes s [] t

@@ -6,7 +6,7 @@ use Rattle.click_text.specs.declared.syntax.Ending.TheVariants as ending
 use Rattle.click_text.specs.declared.syntax.TextFault.{TextFault}
 use Rattle.click_text.specs.declared.syntax.Config.{Config}
 use Rattle.click_text.specs.Pieces.{Reads}
-use Rattle.click_text.specs.Machine.{Outcome, Accepted, Refused, Deep, outcome}
+use Rattle.click_text.specs.kept.ParserStates.{Outcome, Accepted, Refused, Deep, outcome}
 use Rattle.click_text.specs.Spelling.{Spells, IsTextFault}
 use Rattle.click_text.proofs.Equal.{initial}
 use Rattle.click_text.proofs.Outcomes.{accepted_text, accepted_stuck, refused_token, refused_end, deep_token, deep_none}

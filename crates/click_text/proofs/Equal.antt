@@ -3,7 +3,7 @@ use Rattle.std.proofs.Common.{◌≡◌, List, [], ◌∷◌, ◌++◌, Option, 
 use Rattle.std.proofs.lemmas.List.{append-nil}
 use Rattle.click_text.specs.declared.syntax.Token.{Token}
 use Rattle.click_text.specs.Grammar.{Tree, IsText, BeginsText}
-use Rattle.click_text.specs.Machine.{top, State, between, step, finish, bind, run, advance}
+use Rattle.click_text.specs.kept.ParserStates.{top, State, between, step, finish, bind, run, advance}
 use Rattle.click_text.proofs.Runs.{runs_to}
 use Rattle.click_text.proofs.Completes.{Completes, Leads, step_completes, finish_completes}
 use Rattle.click_text.proofs.Live.{live}

@@ -10,7 +10,7 @@ use Rattle.click_text.specs.declared.syntax.Token.{Token}
 use Rattle.click_text.specs.declared.syntax.Ending.{Ending}
 use Rattle.click_text.specs.declared.syntax.Ending.TheVariants as ending
 use Rattle.click_text.specs.Strings.{closes}
-use Rattle.click_text.specs.Pieces.{white, digit, name_byte, is_word, ends_comment, IsWhole, IsPiece, Longest, token_of, span, piece_fault, Reads, ends, passes, takes, stuck}
+use Rattle.click_text.specs.Pieces.{white, digit, name_byte, is_word, ends_comment, IsRun, IsPiece, Longest, token_of, span, piece_fault, Reads, ends, passes, takes, stuck}
 use Rattle.click_text.proofs.Beginnings.{begins_as}
 
 abbrev Decided : Type 0 → Type 0
@@ -32,20 +32,20 @@ true_decided : (b : Bool) → Decided (b ≡ true)
 true_decided true = inl refl
 true_decided false = inr (λ e. cc)
 
-whole_decided : (p : List ℕ) (b : Bool) → Decided (IsWhole p b)
+whole_decided : (p : List ℕ) (b : Bool) → Decided (IsRun p b)
 whole_decided [] b = inr (λ h. omega (arith, h.0))
 whole_decided (x ∷ p) true = inl (omega arith, refl)
 whole_decided (x ∷ p) false = inr (λ h. let e = h.1 in cc)
 
--- what stands behind a fixed beginning
-behind : (q : List ℕ) (Q : List ℕ → Type 0) → ((r : List ℕ) → Decided (Q r)) → (p : List ℕ) → Decided ((r : List ℕ) × (p ≡ q ++ r) × Q r)
-behind [] Q f p = elim (f p) [
+-- what stands after a fixed beginning
+after_beginning : (q : List ℕ) (Q : List ℕ → Type 0) → ((r : List ℕ) → Decided (Q r)) → (p : List ℕ) → Decided ((r : List ℕ) × (p ≡ q ++ r) × Q r)
+after_beginning [] Q f p = elim (f p) [
   | inl h ↦ inl (p, refl, h)
   | inr n ↦ inr (λ h. n (subst Q (sym h.1) h.2))
 ]
-behind (a ∷ q) Q f [] = inr (λ h. let e = h.1 in cc)
-behind (a ∷ q) Q f (b ∷ p) = elim (cases_eq b a) [
-  | inl e ↦ elim (behind q Q f p) [
+after_beginning (a ∷ q) Q f [] = inr (λ h. let e = h.1 in cc)
+after_beginning (a ∷ q) Q f (b ∷ p) = elim (cases_eq b a) [
+  | inl e ↦ elim (after_beginning q Q f p) [
     | inl h ↦ inl (h.0, rw (e, h.1) refl, h.2)
     | inr n ↦ inr (λ h. let e = h.1 in n (h.0, cc, h.2))
   ]
@@ -77,14 +77,14 @@ word_decided p = elim (true_decided (is_word p)) [
 
 decided : (k : Piece) (p : List ℕ) → Decided (IsPiece k p)
 decided piece.Blank p = blank_decided p
-decided piece.LineComment p = behind (47 ∷ 47 ∷ []) (λ r. list_all (λ b. if eqb b 10 then false else true) r ≡ true) (λ r. true_decided (list_all (λ b. if eqb b 10 then false else true) r)) p
-decided piece.BlockComment p = behind (47 ∷ 42 ∷ []) (λ r. ends_comment r ≡ true) (λ r. true_decided (ends_comment r)) p
+decided piece.LineComment p = after_beginning (47 ∷ 47 ∷ []) (λ r. list_all (λ b. if eqb b 10 then false else true) r ≡ true) (λ r. true_decided (list_all (λ b. if eqb b 10 then false else true) r)) p
+decided piece.BlockComment p = after_beginning (47 ∷ 42 ∷ []) (λ r. ends_comment r ≡ true) (λ r. true_decided (ends_comment r)) p
 decided piece.Word p = word_decided p
 decided piece.Number p = whole_decided p (list_all digit p)
 decided piece.Elementclass p = list_decided p (codes "elementclass")
 decided piece.Require p = list_decided p (codes "require")
-decided piece.Formal p = behind (36 ∷ []) (λ r. IsWhole r (list_all name_byte r)) (λ r. whole_decided r (list_all name_byte r)) p
-decided piece.String p = behind (40 ∷ []) (λ r. closes mode.Plain 1 r ≡ true) (λ r. true_decided (closes mode.Plain 1 r)) p
+decided piece.Formal p = after_beginning (36 ∷ []) (λ r. IsRun r (list_all name_byte r)) (λ r. whole_decided r (list_all name_byte r)) p
+decided piece.String p = after_beginning (40 ∷ []) (λ r. closes mode.Plain 1 r ≡ true) (λ r. true_decided (closes mode.Plain 1 r)) p
 decided piece.DoubleColon p = list_decided p (codes "::")
 decided piece.Arrow p = list_decided p (codes "->")
 decided piece.Semicolon p = list_decided p (codes ";")

@@ -10,9 +10,10 @@ use Rattle.click_text.specs.declared.strings.Mode.{Mode}
 use Rattle.click_text.specs.declared.strings.Mode.TheVariants as mode
 use Rattle.click_text.specs.Strings.{mode_after}
 use Rattle.click_text.specs.Pieces.{white, IsPiece, Longest, NoPiece}
-use Rattle.click_text.specs.Items.{is_plain, leaves, IsItem, LongestItem, NoLongItem}
+use Rattle.click_text.specs.Items.{is_plain, leaves, IsItem, LongestItem}
+use Rattle.click_text.specs.kept.LongItems.{NoLongItem}
 use Rattle.click_text.proofs.Beginnings.{family, begins, begins_as, alone}
-use Rattle.click_text.proofs.Words.{front_splits}
+use Rattle.click_text.proofs.WordForms.{front_splits}
 use Rattle.click_text.proofs.Longest.{as_one, as_two}
 use Rattle.click_text.proofs.Reading.{equal_by}
 

@@ -37,13 +37,13 @@ pub size-append : (p q : List Item) → size (p ++ q) ≡ size p + size q
 size-append p q = rw bytes_of-append (length-append (bytes_of p) (bytes_of q))
 
 -- The items up to a place are known.
-pub record Behind (text : List ℕ) (at : ℕ) (done : List Item) : Type 0 where
+pub record IsDone (text : List ℕ) (at : ℕ) (done : List Item) : Type 0 where
   pub within : at ≤ length text
   pub long : size done ≡ at
   pub goes_on : (items : List Item) → AreItems (drop at text) items → AreItems text (done ++ items)
 
-pub none_behind : (text : List ℕ) → Behind text 0 []
-none_behind text = record { within = omega arith; long = refl; goes_on = λ items r. r }
+pub none_done : (text : List ℕ) → IsDone text 0 []
+none_done text = record { within = omega arith; long = refl; goes_on = λ items r. r }
 
 -- the bytes of an item that begins what is left of a text
 abbrev pub bytes_at : List ℕ → ℕ → ℕ → List ℕ
@@ -52,8 +52,8 @@ bytes_at text at n = take n (take (length text - at) (drop at text))
 pub bytes_long : (text : List ℕ) (at : ℕ) (k : ItemKind) (n : ℕ) → LongestItem (take (length text - at) (drop at text)) k n → length (bytes_at text at n) ≡ n
 bytes_long text at k n l = let w = l.within in omega (arith, length-take n (take (length text - at) (drop at text)))
 
-pub behind_more : (text : List ℕ) (at : ℕ) (done : List Item) (k : ItemKind) (n : ℕ) → LongestItem (take (length text - at) (drop at text)) k n → Behind text at done → Behind text (at + n) (done ++ item k (bytes_at text at n) ∷ [])
-behind_more text at done k n l b =
+pub done_more : (text : List ℕ) (at : ℕ) (done : List Item) (k : ItemKind) (n : ℕ) → LongestItem (take (length text - at) (drop at text)) k n → IsDone text at done → IsDone text (at + n) (done ++ item k (bytes_at text at n) ∷ [])
+done_more text at done k n l b =
     let g : LongestItem (drop at text) k n = rw take_rest at l in
     let w = g.within in
     let i = item k (take n (drop at text)) in
@@ -64,5 +64,5 @@ behind_more text at done k n l b =
       goes_on = λ items r. rw append_assoc (b.goes_on (i ∷ items) (next (drop at text) k n items g (rw drop-drop r)));
     })
 
-pub behind_all : (text : List ℕ) (at : ℕ) (done : List Item) → length text ≤ at → Behind text at done → AreItems text done
-behind_all text at done h b = rw append-nil at (b.goes_on [] (rw (drop_all at text h) ended))
+pub done_all : (text : List ℕ) (at : ℕ) (done : List Item) → length text ≤ at → IsDone text at done → AreItems text done
+done_all text at done h b = rw append-nil at (b.goes_on [] (rw (drop_all at text h) ended))

@@ -10,8 +10,8 @@ use Rattle.click_text.specs.declared.items.ItemKind.TheVariants as kind
 use Rattle.click_text.specs.declared.lexer.Piece.{Piece}
 use Rattle.click_text.specs.declared.lexer.Piece.TheVariants as piece
 use Rattle.click_text.specs.Pieces.{span, Longest, IsPiece, Reads, ends, passes, IsBlank}
-use Rattle.click_text.specs.Items.{Item, item, IsItem, LongestItem, AreItems, ended, next, bytes_of, size, is_blank, depth_behind, parted}
-use Rattle.click_text.specs.Arguments.{is_comma, all_blank, front, without_back, argument, arguments_from, cut, AreArguments, InOrder, AreJoined, last, more, IsTextOf}
+use Rattle.click_text.specs.Items.{Item, item, IsItem, LongestItem, AreItems, ended, next, bytes_of, size, is_blank_item, parentheses_after, parted}
+use Rattle.click_text.specs.Arguments.{is_comma, all_blank, front, without_back, argument_span, arguments_from, cut, AreArguments, SpansInOrder, AreJoined, last, more, IsTextOf}
 use Rattle.click_text.proofs.Beginnings.{family, begins, begins_as, kind_from}
 use Rattle.click_text.proofs.ItemReading.{items_are_text, bytes_of-append, size-append}
 use Rattle.click_text.proofs.Cutting.{all_put, all_put-put, nothing_put, comma_form}
@@ -88,17 +88,17 @@ blank_reads at (next text kind.Hexadecimal n items l r) h = cc
 blank_reads at (next text (kind.Byte b) n items l r) h = cc
 
 -- the parts of the items of an argument
-abbrev behind_front : List Item → List Item
-behind_front [] = []
-behind_front (i ∷ p) = if is_blank i then behind_front p else i ∷ p
+abbrev after_front : List Item → List Item
+after_front [] = []
+after_front (i ∷ p) = if is_blank_item i then after_front p else i ∷ p
 
 abbrev back : List Item → List Item
 back [] = []
 back (i ∷ p) = if all_blank (i ∷ p) then i ∷ p else back p
 
-front_splits : (p : List Item) → front p ++ behind_front p ≡ p
+front_splits : (p : List Item) → front p ++ after_front p ≡ p
 front_splits [] = refl
-front_splits (i ∷ p) = elim (cases_Bool (is_blank i)) [
+front_splits (i ∷ p) = elim (cases_Bool (is_blank_item i)) [
   | inl e ↦ rw (e, front_splits p) refl
   | inr e ↦ rw e refl
 ]
@@ -112,7 +112,7 @@ back_splits (i ∷ p) = elim (cases_Bool (all_blank (i ∷ p))) [
 
 front_blank : (p : List Item) → all_blank (front p) ≡ true
 front_blank [] = refl
-front_blank (i ∷ p) = elim (cases_Bool (is_blank i)) [
+front_blank (i ∷ p) = elim (cases_Bool (is_blank_item i)) [
   | inl e ↦ rw (e, front_blank p, e) refl
   | inr e ↦ rw e refl
 ]
@@ -126,7 +126,7 @@ back_blank (i ∷ p) = elim (cases_Bool (all_blank (i ∷ p))) [
 
 front_of_most : (p : List Item) → all_blank p ≡ false → front (without_back p) ≡ front p
 front_of_most [] h = cc
-front_of_most (i ∷ p) h = elim (cases_Bool (is_blank i)) [
+front_of_most (i ∷ p) h = elim (cases_Bool (is_blank_item i)) [
   | inl e ↦ let g : all_blank p ≡ false = rw e at h in rw (h, e, front_of_most p g) refl
   | inr e ↦ rw (h, e) refl
 ]
@@ -138,7 +138,7 @@ record Part (at : ℕ) (p : List Item) : Type 0 where
   blank_before : IsBlank before
   blank_after : IsBlank after
   bytes_are : bytes_of p ≡ before ++ (inside ++ after)
-  stands : argument at p ≡ span (at + length before) (at + length before + length inside)
+  stands : argument_span at p ≡ span (at + length before) (at + length before + length inside)
 
 part : (at : ℕ) (p : List Item) → Own p → Part at p
 part at p r = elim (cases_Bool (all_blank p)) [
@@ -153,7 +153,7 @@ part at p r = elim (cases_Bool (all_blank p)) [
   }
   | inr e ↦
       let m = without_back p in
-      let i = behind_front m in
+      let i = after_front m in
       let f : m ≡ front p ++ i = sym (front_splits m) ∙ ap (λ q. q ++ i) (front_of_most p e) in
       let g : p ≡ front p ++ (i ++ back p) = sym (back_splits p) ∙ ap (λ q. q ++ back p) f ∙ append_assoc (front p) i (back p) in
       let s : Own (front p ++ (i ++ back p)) = subst Own g r in
@@ -170,10 +170,10 @@ part at p r = elim (cases_Bool (all_blank p)) [
       }
 ]
 
-joined_last : (at : ℕ) (p : List Item) → Own p → AreJoined at (bytes_of p) (argument at p ∷ [])
+joined_last : (at : ℕ) (p : List Item) → Own p → AreJoined at (bytes_of p) (argument_span at p ∷ [])
 joined_last at p r = let h = part at p r in rw (h.stands, h.bytes_are) (last at h.before h.inside h.after h.blank_before h.blank_after)
 
-joined_more : (at : ℕ) (p : List Item) (rest : List ℕ) (spans : List Span) → Own p → AreJoined (at + size p + 1) rest spans → AreJoined at (bytes_of p ++ 44 ∷ rest) (argument at p ∷ spans)
+joined_more : (at : ℕ) (p : List Item) (rest : List ℕ) (spans : List Span) → Own p → AreJoined (at + size p + 1) rest spans → AreJoined at (bytes_of p ++ 44 ∷ rest) (argument_span at p ∷ spans)
 joined_more at p rest spans r s =
     let h = part at p r in
     let z : at + size p ≡ at + length h.before + length h.inside + length h.after = omega (arith, ap length h.bytes_are, length-append h.before (h.inside ++ h.after), length-append h.inside h.after) in
@@ -199,7 +199,7 @@ joined_all (i ∷ items) p at depth r = elim (cases_Bool (eqb depth 0 && is_comm
   | inr e ↦
       let a = append_assoc p (i ∷ []) items in
       let s : Own ((p ++ i ∷ []) ++ items) = rw a r in
-      let h = joined_all items (p ++ i ∷ []) at (depth_behind i.kind depth) s in
+      let h = joined_all items (p ++ i ∷ []) at (parentheses_after i.kind depth) s in
       rw (e, all_put-put) (rw a at h)
 ]
 
@@ -214,12 +214,12 @@ text_of {text = text} {items = items} r = elim (cases_Bool (all_blank items)) [
       rw e (inr g)
 ]
 
-sooner : (from later : ℕ) (spans : List Span) (to : ℕ) → from ≤ later → InOrder later spans to → InOrder from spans to
+sooner : (from later : ℕ) (spans : List Span) (to : ℕ) → from ≤ later → SpansInOrder later spans to → SpansInOrder from spans to
 sooner from later [] to h o = tt
 sooner from later (s ∷ spans) to h (a, b, c, d) = (omega arith, b, c, d)
 
 -- what is joined stands in order
-joined_in_order : {at : ℕ} {text : List ℕ} {spans : List Span} (to : ℕ) → AreJoined at text spans → at + length text ≤ to → InOrder at spans to
+joined_in_order : {at : ℕ} {text : List ℕ} {spans : List Span} (to : ℕ) → AreJoined at text spans → at + length text ≤ to → SpansInOrder at spans to
 joined_in_order to (last at b i a p q) h =
     (omega arith, omega arith, omega (arith, length-append b (i ++ a), length-append i a), tt)
 joined_in_order to (more at b i a rest spans p q r) h =
@@ -227,12 +227,12 @@ joined_in_order to (more at b i a rest spans p q r) h =
     let g = joined_in_order to r (omega (arith, n, length-append b (i ++ a), length-append i a)) in
     (omega arith, omega arith, omega (arith, n, length-append b (i ++ a), length-append i a), sooner _ _ spans to (omega arith) g)
 
-text_in_order : (text : List ℕ) (spans : List Span) → IsTextOf text spans → InOrder 0 spans (length text)
+text_in_order : (text : List ℕ) (spans : List Span) → IsTextOf text spans → SpansInOrder 0 spans (length text)
 text_in_order text spans (inl (b, e)) = rw e tt
 text_in_order text spans (inr j) = joined_in_order (length text) j (omega arith)
 
 pub arguments_join : (text : List ℕ) (spans : List Span) → AreArguments text spans → IsTextOf text spans
 arguments_join text spans a = rw a.cuts (text_of a.read)
 
-pub arguments_order : (text : List ℕ) (spans : List Span) → AreArguments text spans → InOrder 0 spans (length text)
+pub arguments_order : (text : List ℕ) (spans : List Span) → AreArguments text spans → SpansInOrder 0 spans (length text)
 arguments_order text spans a = text_in_order text spans (arguments_join text spans a)

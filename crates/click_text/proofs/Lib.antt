@@ -21,4 +21,4 @@ pub mod Steps
 pub mod StringTexts
 pub mod Takes
 pub mod WordCutting
-pub mod Words
+pub mod WordForms

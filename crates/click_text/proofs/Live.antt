@@ -13,8 +13,8 @@ use Rattle.click_text.specs.declared.syntax.Element.{Element}
 use Rattle.click_text.specs.declared.syntax.Link.{Link}
 use Rattle.click_text.specs.declared.syntax.Statement.{Statement}
 use Rattle.click_text.specs.declared.syntax.Body.{Body}
-use Rattle.click_text.specs.Grammar.{port, element, link, chain, declaration, body, Tree, no_port, bracketed, no_string, semicolon, last_formal, no_header, by_name, word, an_element, no_links, chained, synonym, no_more}
-use Rattle.click_text.specs.Machine.{Place, top, inside, Use, as_element, as_class, as_definition, Target, of_head, of_names, Context, start, linked, Side, out, into, State, between, statement_wanted, first_read, name_wanted, name_read, listed_read, define, define_named, required, ending, body_opened, formal_wanted, formal_read, element_wanted, word_read, class_wanted, head_read, after, port_wanted, number_wanted, close_wanted, arrow_wanted, a_definition, a_synonym, a_requirement}
+use Rattle.click_text.specs.Grammar.{written_port, element, link, chain, declaration, body, Tree, no_port, bracketed, no_string, semicolon, last_formal, no_header, by_name, word, an_element, no_links, chained, synonym, no_more}
+use Rattle.click_text.specs.kept.ParserStates.{Place, top, inside, Use, as_element, as_class, as_definition, Target, of_head, of_names, Context, start, linked, Side, out, into, State, between, statement_wanted, first_read, name_wanted, name_read, listed_read, define, define_named, required, ending, body_opened, formal_wanted, formal_read, element_wanted, word_read, class_wanted, head_read, after, port_wanted, number_wanted, close_wanted, arrow_wanted, a_definition, a_synonym, a_requirement}
 use Rattle.click_text.proofs.Completes.{names_end, formals_end, Then, Between, After, Listed, Headed, Ends, Used, Classified, Grown, Stated, Named, Wanted, Ported, Completes}
 
 abbrev somewhere : Span
@@ -116,9 +116,9 @@ live (head_read bs cx h) = bare_live cx bs h
 live (after bs p ss f ls) = after_live (Ends p) bs ss f ls (ends_live p bs _)
 live (port_wanted bs p ss f ls side) = let g = ported_live p bs ss f ls side None in (g.0, g.1, (None, g.0, no_port, g.2))
 live (number_wanted bs p ss f ls side a) =
-    let g = ported_live p bs ss f ls side (Some (port 0 a a)) in
-    (token.Number (Some 0) a ∷ token.CloseBracket a ∷ g.0, g.1, (Some (port 0 a a), g.0, bracketed, g.2))
+    let g = ported_live p bs ss f ls side (Some (written_port 0 a a)) in
+    (token.Number (Some 0) a ∷ token.CloseBracket a ∷ g.0, g.1, (Some (written_port 0 a a), g.0, bracketed, g.2))
 live (close_wanted bs p ss f ls side a n) =
-    let g = ported_live p bs ss f ls side (Some (port n a a)) in
+    let g = ported_live p bs ss f ls side (Some (written_port n a a)) in
     (token.CloseBracket a ∷ g.0, g.1, (a, g.0, refl, g.2))
 live (arrow_wanted bs p ss f ls q) = ported_live p bs ss f ls out q

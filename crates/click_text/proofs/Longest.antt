@@ -8,10 +8,10 @@ use Rattle.click_text.specs.declared.lexer.Piece.{Piece}
 use Rattle.click_text.specs.declared.lexer.Piece.TheVariants as piece
 use Rattle.click_text.specs.declared.strings.Mode.TheVariants as mode
 use Rattle.click_text.specs.Strings.{closes}
-use Rattle.click_text.specs.Marks.{mark_of}
+use Rattle.click_text.specs.kept.SingleBytePieces.{mark_of}
 use Rattle.click_text.specs.Pieces.{white, name_byte, word_byte, is_word, ends_comment, IsPiece, Longest, NoPiece}
 use Rattle.click_text.proofs.Beginnings.{family, begins, begins_as, word_form, no_piece, kind_from}
-use Rattle.click_text.proofs.Words.{front_splits, run_ends}
+use Rattle.click_text.proofs.WordForms.{front_splits, run_ends}
 use Rattle.click_text.proofs.Closing.{closes_once, ends_once}
 
 pub or_not : {T : Type 0} (found : Option T) (P : Type 0) → P → IfNone found P
@@ -269,7 +269,7 @@ no_colons text e f = no_piece text (rw (e, ne_eqb (get_or text 1 0) 58 f) refl)
 pub no_arrow : (text : List ℕ) → get_or text 0 0 ≡ 45 → get_or text 1 0 ≢ 62 → NoPiece text
 no_arrow text e f = no_piece text (rw (e, ne_eqb (get_or text 1 0) 62 f) refl)
 
--- nothing stands behind the end
+-- nothing stands after the end
 pub past_end : (text : List ℕ) (x : ℕ) → length text ≤ 1 → 0 < x → get_or text 1 0 ≢ x
 past_end text x l z e = let d = get_or_past text 1 0 l in omega arith
 

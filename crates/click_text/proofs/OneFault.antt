@@ -7,23 +7,24 @@ use Rattle.click_text.specs.declared.syntax.FaultKind.TheVariants as kind
 use Rattle.click_text.specs.declared.syntax.TextFault.{TextFault}
 use Rattle.click_text.specs.declared.syntax.Ending.{Ending}
 use Rattle.click_text.specs.declared.syntax.Ending.TheVariants as ending
-use Rattle.click_text.specs.Grammar.{Tree, IsText, BeginsText, NestsWithin, Brace, Opens, Closes, Neither, brace, HasRoom, depth_behind}
-use Rattle.click_text.specs.Faults.{IsFaultAmong, unexpected, too_deep, unfinished, no_piece, fault_at, span_of, end_fault}
-use Rattle.click_text.specs.Machine.{State, step, finish, bind, run, advance, open_behind, open_after, Outcome, Accepted, Refused, Deep, accepted, outcome}
+use Rattle.click_text.specs.Grammar.{Tree, IsText, BeginsText, NestsWithin, Brace, Opens, Closes, Neither, brace, HasRoom, braces_after}
+use Rattle.click_text.specs.Faults.{IsFaultAmong, unexpected, too_deep, unfinished, no_piece, spanned_fault, span_of}
+use Rattle.click_text.specs.kept.EndFault.{end_fault}
+use Rattle.click_text.specs.kept.ParserStates.{State, step, finish, bind, run, advance, open_after_brace, open_after, Outcome, Accepted, Refused, Deep, accepted, outcome}
 use Rattle.click_text.proofs.Runs.{runs_to}
 use Rattle.click_text.proofs.Equal.{initial, begins_text, ends_text, begins_none}
 
--- how many braces are open behind these tokens
+-- how many braces are open after these tokens
 depth_past : ℕ → List Token → ℕ
 depth_past n [] = n
-depth_past n (x ∷ front) = depth_past (depth_behind (brace x) n) front
+depth_past n (x ∷ front) = depth_past (braces_after (brace x) n) front
 
-room_behind : (b : Brace) (n : ℕ) → HasRoom b n → open_behind b n ≡ Some (depth_behind b n)
-room_behind Opens n h = grind (arith, nat_tests)
-room_behind Closes n h = refl
-room_behind Neither n h = refl
+room_after : (b : Brace) (n : ℕ) → HasRoom b n → open_after_brace b n ≡ Some (braces_after b n)
+room_after Opens n h = grind (arith, nat_tests)
+room_after Closes n h = refl
+room_after Neither n h = refl
 
-room_taken : (b : Brace) (n m : ℕ) → open_behind b n ≡ Some m → HasRoom b n
+room_taken : (b : Brace) (n m : ℕ) → open_after_brace b n ≡ Some m → HasRoom b n
 room_taken Opens n m e = grind (arith, nat_tests)
 room_taken Closes n m e = tt
 room_taken Neither n m e = tt
@@ -31,7 +32,7 @@ room_taken Neither n m e = tt
 nests_append : (front rest : List Token) (n : ℕ) → NestsWithin n front → NestsWithin (depth_past n front) rest → NestsWithin n (front ++ rest)
 unfolding depth_past
 nests_append [] rest n h k = k
-nests_append (x ∷ front) rest n h k = (h.0, nests_append front rest (depth_behind (brace x) n) h.1 k)
+nests_append (x ∷ front) rest n h k = (h.0, nests_append front rest (braces_after (brace x) n) h.1 k)
 
 -- a state that is there takes the first of these tokens
 taken_first : (o : Option State) (front : List Token) (s' : State) → bind o (λ s. advance s front) ≡ Some s' → (r : State) × (o ≡ Some r) × (advance r front ≡ Some s')
@@ -45,13 +46,13 @@ advance_append (x ∷ front) more s s' e =
     let r = taken_first (step s x) front s' e in
     rw (r.1) (advance_append front more r.0 s' r.2)
 
--- the outcome goes by what stands behind tokens that are taken
+-- the outcome goes by what stands after tokens that are taken
 outcome_append : (front more : List Token) (n : ℕ) (s s' : State) → advance s front ≡ Some s' → NestsWithin n front → outcome n s (front ++ more) ≡ outcome (depth_past n front) s' more
 unfolding advance outcome depth_past
 outcome_append [] more n s s' e h = let q : s ≡ s' = cc in rw q refl
 outcome_append (x ∷ front) more n s s' e h =
     let r = taken_first (step s x) front s' e in
-    rw (r.1, room_behind (brace x) n h.0) (outcome_append front more (depth_behind (brace x) n) r.0 s' r.2 h.1)
+    rw (r.1, room_after (brace x) n h.0) (outcome_append front more (braces_after (brace x) n) r.0 s' r.2 h.1)
 
 -- what is run to a tree is taken
 run_first : (o : Option State) (front more : List Token) (t : Tree) → ((r : State) → run r (front ++ more) ≡ Some t → (s' : State) × (advance r front ≡ Some s')) → bind o (λ s. run s (front ++ more)) ≡ Some t → (s' : State) × (bind o (λ s. advance s front) ≡ Some s')
@@ -73,9 +74,9 @@ begins_less front tok (more, t, r) = (tok ∷ more, t, rw append_assoc at r)
 abbrev fault_of : ℕ → Ending → Outcome → TextFault
 fault_of n e (Accepted t) = end_fault n e
 fault_of n e (Refused []) = end_fault n e
-fault_of n e (Refused (tok ∷ more)) = fault_at kind.Unexpected (span_of tok)
+fault_of n e (Refused (tok ∷ more)) = spanned_fault kind.Unexpected (span_of tok)
 fault_of n e (Deep []) = end_fault n e
-fault_of n e (Deep (tok ∷ more)) = fault_at kind.TooDeep (span_of tok)
+fault_of n e (Deep (tok ∷ more)) = spanned_fault kind.TooDeep (span_of tok)
 
 -- a token that continues no text is refused
 not_taken : (front : List Token) (tok : Token) (s : State) → advance initial front ≡ Some s → (BeginsText (front ++ tok ∷ []) → ⊥) → (o : Option State) → step s tok ≡ o → step s tok ≡ None

@@ -7,9 +7,10 @@ use Rattle.click_text.specs.declared.syntax.Token.{Token}
 use Rattle.click_text.specs.declared.syntax.FaultKind.TheVariants as kind
 use Rattle.click_text.specs.declared.syntax.Ending.{Ending}
 use Rattle.click_text.specs.declared.syntax.Ending.TheVariants as ending
-use Rattle.click_text.specs.Grammar.{Tree, IsText, BeginsText, NestsWithin, most_open, Brace, Opens, Closes, Neither, brace, HasRoom, depth_behind}
-use Rattle.click_text.specs.Faults.{IsFaultAmong, unexpected, too_deep, unfinished, no_piece, fault, fault_at, span_of, end_fault}
-use Rattle.click_text.specs.Machine.{State, step, finish, run, advance, open_behind, open_after, Outcome, Accepted, Refused, Deep, or_refused, or_deep, accepted, outcome}
+use Rattle.click_text.specs.Grammar.{Tree, IsText, BeginsText, NestsWithin, most_open, Brace, Opens, Closes, Neither, brace, HasRoom, braces_after}
+use Rattle.click_text.specs.Faults.{IsFaultAmong, unexpected, too_deep, unfinished, no_piece, fault, spanned_fault, span_of}
+use Rattle.click_text.specs.kept.EndFault.{end_fault}
+use Rattle.click_text.specs.kept.ParserStates.{State, step, finish, run, advance, open_after_brace, open_after, Outcome, Accepted, Refused, Deep, or_refused, or_deep, accepted, outcome}
 use Rattle.click_text.proofs.Runs.{runs_to}
 use Rattle.click_text.proofs.Equal.{initial, begins_text, ends_text, begins_none, ends_none, run_append}
 
@@ -32,12 +33,12 @@ no_room true n e = cc
 no_room false n e = refl
 
 -- a brace that isn't one too many
-has_room : (b : Brace) (n m : ℕ) → open_behind b n ≡ Some m → HasRoom b n × (depth_behind b n ≡ m)
+has_room : (b : Brace) (n m : ℕ) → open_after_brace b n ≡ Some m → HasRoom b n × (braces_after b n ≡ m)
 has_room Opens n m e = let r = room (nat_lt n most_open) n m e in (ltb-true n most_open r.0, r.1)
 has_room Closes n m e = (tt, cc)
 has_room Neither n m e = (tt, cc)
 
-has_none : (b : Brace) (n : ℕ) → open_behind b n ≡ None → HasRoom b n → ⊥
+has_none : (b : Brace) (n : ℕ) → open_after_brace b n ≡ None → HasRoom b n → ⊥
 has_none Opens n e h = let r : nat_lt n most_open ≡ false = no_room (nat_lt n most_open) n e in grind (arith, nat_tests)
 has_none Closes n e h = cc
 has_none Neither n e h = cc
@@ -53,7 +54,7 @@ nests_none n x e h = has_none (brace x) n e h.0
 
 nests_front : (front more : List Token) (n : ℕ) → NestsWithin n (front ++ more) → NestsWithin n front
 nests_front [] more n h = tt
-nests_front (x ∷ front) more n h = (h.0, nests_front front more (depth_behind (brace x) n) h.1)
+nests_front (x ∷ front) more n h = (h.0, nests_front front more (braces_after (brace x) n) h.1)
 
 -- one token before
 before : (n m : ℕ) (s s' : State) (x : Token) (ts : List Token) (o : Outcome) → step s x ≡ Some s' → open_after n x ≡ Some m → EndsAs m s' ts o → EndsAs n s (x ∷ ts) o
@@ -87,11 +88,11 @@ accepted_by ts t (s, a, f, h) = (ends_text ts s t a f, h)
 pub accepted_text : (ts : List Token) (t : Tree) → outcome 0 initial ts ≡ Accepted t → IsText ts t × NestsWithin 0 ts
 accepted_text ts t e = accepted_by ts t (rw e at (ends_as ts 0 initial))
 
-refused_by : (n : ℕ) (ts rest : List Token) (tok : Token) (end : Ending) → EndsAs 0 initial ts (Refused (tok ∷ rest)) → IsFaultAmong n ts end (fault_at kind.Unexpected (span_of tok))
+refused_by : (n : ℕ) (ts rest : List Token) (tok : Token) (end : Ending) → EndsAs 0 initial ts (Refused (tok ∷ rest)) → IsFaultAmong n ts end (spanned_fault kind.Unexpected (span_of tok))
 refused_by n ts rest tok end (front, s, w, a, h, k) =
     rw w (unexpected n front rest tok end (begins_text front s a) h (begins_none front tok s a k))
 
-pub refused_token : (n : ℕ) (ts rest : List Token) (tok : Token) (end : Ending) → outcome 0 initial ts ≡ Refused (tok ∷ rest) → IsFaultAmong n ts end (fault_at kind.Unexpected (span_of tok))
+pub refused_token : (n : ℕ) (ts rest : List Token) (tok : Token) (end : Ending) → outcome 0 initial ts ≡ Refused (tok ∷ rest) → IsFaultAmong n ts end (spanned_fault kind.Unexpected (span_of tok))
 refused_token n ts rest tok end e = refused_by n ts rest tok end (rw e at (ends_as ts 0 initial))
 
 refused_end_by : (n : ℕ) (ts : List Token) → EndsAs 0 initial ts (Refused []) → BeginsText ts × NestsWithin 0 ts × ((t : Tree) → IsText ts t → ⊥)
@@ -108,13 +109,13 @@ refused_stuck n ts f e = let r = refused_end_by n ts (rw e at (ends_as ts 0 init
 pub accepted_stuck : (n : ℕ) (ts : List Token) (t : Tree) (f : _) → outcome 0 initial ts ≡ Accepted t → IsFaultAmong n ts (ending.Stuck f) f
 accepted_stuck n ts t f e = let r = accepted_text ts t e in no_piece n ts f ([], t, rw append-nil r.0) r.1
 
-deep_by : (n : ℕ) (ts rest : List Token) (tok : Token) (end : Ending) → EndsAs 0 initial ts (Deep (tok ∷ rest)) → IsFaultAmong n ts end (fault_at kind.TooDeep (span_of tok))
+deep_by : (n : ℕ) (ts rest : List Token) (tok : Token) (end : Ending) → EndsAs 0 initial ts (Deep (tok ∷ rest)) → IsFaultAmong n ts end (spanned_fault kind.TooDeep (span_of tok))
 deep_by n ts rest tok end (front, more, x, s, z, w, a, h, k) =
     let q : x ≡ tok = cc in
-    let v : IsFaultAmong n (front ++ x ∷ more) end (fault_at kind.TooDeep (span_of x)) = too_deep n front more x end (begins_text (front ++ x ∷ []) s a) h k in
+    let v : IsFaultAmong n (front ++ x ∷ more) end (spanned_fault kind.TooDeep (span_of x)) = too_deep n front more x end (begins_text (front ++ x ∷ []) s a) h k in
     rw w (rw q (rw q at v))
 
-pub deep_token : (n : ℕ) (ts rest : List Token) (tok : Token) (end : Ending) → outcome 0 initial ts ≡ Deep (tok ∷ rest) → IsFaultAmong n ts end (fault_at kind.TooDeep (span_of tok))
+pub deep_token : (n : ℕ) (ts rest : List Token) (tok : Token) (end : Ending) → outcome 0 initial ts ≡ Deep (tok ∷ rest) → IsFaultAmong n ts end (spanned_fault kind.TooDeep (span_of tok))
 deep_token n ts rest tok end e = deep_by n ts rest tok end (rw e at (ends_as ts 0 initial))
 
 only_by : (ts : List Token) (t : Tree) (o : Outcome) → EndsAs 0 initial ts o → IsText ts t → NestsWithin 0 ts → o ≡ Accepted t

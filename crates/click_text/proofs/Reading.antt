@@ -1,13 +1,11 @@
 -- The pieces of a text are determined by it.
-use Rattle.std.proofs.Common.{◌≡◌, ◌≢◌, ℕ, zero, suc, ◌+◌, ◌-◌, ◌<◌, List, [], ◌∷◌, length, take, drop, None, refl, sym, ◌∙◌, arith, inl, inr, ◌⊎◌}
+use Rattle.std.proofs.Common.{◌≡◌, ◌≢◌, ℕ, zero, suc, ◌+◌, ◌-◌, ◌<◌, List, [], ◌∷◌, length, take, drop, refl, sym, ◌∙◌, arith, inl, inr, ◌⊎◌}
 use Rattle.std.proofs.lemmas.List.{take_rest}
-use Rattle.std.proofs.lemmas.Bool.{cases_Bool}
 use Rattle.click_text.specs.declared.lexer.Piece.{Piece}
 use Rattle.click_text.specs.declared.lexer.Piece.TheVariants as piece
 use Rattle.click_text.specs.declared.syntax.Token.{Token}
 use Rattle.click_text.specs.declared.syntax.Ending.{Ending}
-use Rattle.click_text.specs.declared.syntax.Ending.TheVariants as ending
-use Rattle.click_text.specs.Pieces.{IsPiece, Longest, NoPiece, token_of, span, piece_fault, begins_comment, begins_string, Reads, ends, passes, takes, stuck}
+use Rattle.click_text.specs.Pieces.{IsPiece, Longest, NoPiece, token_of, span, Reads, ends, passes, takes, stuck}
 use Rattle.click_text.proofs.Beginnings.{family, begins_as, alone}
 
 pub none_tail : (text : List ℕ) (at : ℕ) → NoPiece (take (length text - at) (drop at text)) → NoPiece (drop at text)
@@ -97,35 +95,3 @@ reads_once (stuck at text h z) (ends _) = absurd (omega arith)
 reads_once (stuck at text h z) (passes _ _ us f k n l q r) = absurd (z k n l.within l.form)
 reads_once (stuck at text h z) (takes _ _ us f k n tok l q r) = absurd (z k n l.within l.form)
 reads_once (stuck at text h z) (stuck _ _ h' z') = (refl, refl)
-
--- a reading goes on behind a piece with no token
-pub reads_behind : {at : ℕ} {text : List ℕ} {ts : List Token} {e : Ending} (k : Piece) (n : ℕ) → Longest text k n → token_of k (take n text) (span at (at + n)) ≡ None → Reads at text ts e → Reads (at + n) (drop n text) ts e
-reads_behind k n l q (ends at) = absurd (no_empty k n l.form)
-reads_behind k n l q (passes at text ts e j m l' q' r) =
-    let a : n ≡ m = same_len text k j n m l l' in rw a r
-reads_behind k n l q (takes at text ts e j m tok l' q' r) =
-    let a = same_token text at k j n m l l' in cc
-reads_behind k n l q (stuck at text h z) = absurd (z k n l.within l.form)
-
--- no token is left out
-pub takes_some : {at : ℕ} {text : List ℕ} {e : Ending} (k : Piece) (n : ℕ) (ts : List Token) → Longest text k n → (token_of k (take n text) (span at (at + n)) ≡ None → ⊥) → ts ≡ [] → Reads at text ts e → ⊥
-takes_some k n ts l q p (ends at) = no_empty k n l.form
-takes_some k n ts l q p (passes at text us e j m l' q' r) = q (same_token text at k j n m l l' ∙ q')
-takes_some k n ts l q p (takes at text us e j m tok l' q' r) = cc
-takes_some k n ts l q p (stuck at text h z) = z k n l.within l.form
-
-fault_ends : (at : ℕ) (text : List ℕ) → piece_fault at text ≡ ending.Whole → ⊥
-fault_ends at text h = elim (cases_Bool (begins_comment text)) [
-  | inl e ↦ let g = rw e at h in cc
-  | inr e ↦ elim (cases_Bool (begins_string text)) [
-    | inl f ↦ let g = rw (e, f) at h in cc
-    | inr f ↦ let g = rw (e, f) at h in cc
-  ]
-]
-
--- where no piece begins, the text is not read to its end
-pub not_whole : {at : ℕ} {text : List ℕ} {ts : List Token} (e : Ending) → 0 < length text → NoPiece text → e ≡ ending.Whole → Reads at text ts e → ⊥
-not_whole e h z p (ends at) = omega arith
-not_whole e h z p (passes at text ts _ k n l q r) = z k n l.within l.form
-not_whole e h z p (takes at text ts _ k n tok l q r) = z k n l.within l.form
-not_whole e h z p (stuck at text _ _) = fault_ends at text p

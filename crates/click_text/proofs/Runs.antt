@@ -13,7 +13,7 @@ use Rattle.click_text.specs.declared.syntax.Link.{Link}
 use Rattle.click_text.specs.declared.syntax.Statement.{Statement}
 use Rattle.click_text.specs.declared.syntax.Body.{Body}
 use Rattle.click_text.specs.Grammar.{element, link, chain, declaration, Tree, IsPort, no_port, bracketed, IsString, no_string, string, IsEnd, semicolon, before_close, at_end, IsFormals, last_formal, more_formals, IsHeader, no_header, header, IsNames, last_name, more_names, IsBody, braces, IsClass, by_name, by_body, IsHead, word, declared, compound, IsElement, an_element, IsLinks, no_links, more_links, IsStatement, chained, declarations, definition, synonym, requirement, IsStatements, no_more, empty, stated, IsText}
-use Rattle.click_text.specs.Machine.{Place, top, inside, Use, as_element, as_class, as_definition, Target, of_head, of_names, Context, start, linked, Side, out, into, State, between, statement_wanted, first_read, name_read, listed_read, define_named, required, ending, body_opened, formal_wanted, element_wanted, word_read, class_wanted, head_read, after, port_wanted, grown, classified, used, ported, past_port, beyond_grown, a_synonym, a_requirement, step, ended_grown, finish, run}
+use Rattle.click_text.specs.kept.ParserStates.{Place, top, inside, Use, as_element, as_class, as_definition, Target, of_head, of_names, Context, start, linked, Side, out, into, State, between, statement_wanted, first_read, name_read, listed_read, define_named, required, ending, body_opened, formal_wanted, element_wanted, word_read, class_wanted, head_read, after, port_wanted, element_read, classified, body_read, ported, past_port, beyond_element, a_synonym, a_requirement, step, tree_at_element, finish, run}
 use Rattle.click_text.proofs.Takes.{headed_by, worded_by, firsted_by, listed_by, required_by, unfolded_by}
 
 -- no such token comes
@@ -46,7 +46,7 @@ end_follows semicolon = λ s r e. cc
 end_follows before_close = λ s r e. cc
 end_follows at_end = λ s r e. cc
 
--- what stands behind an element is no class, no string and no comma
+-- what stands after an element is no class, no string and no comma
 follows : {ts ts' rest : List Token} {bs bs' : List Body} {ls : List Link} → IsLinks ts bs ls ts' bs' → IsEnd ts' rest → NoClass ts × NoString ts × NoComma ts
 follows no_links semicolon = (λ d r e. cc, λ s r e. cc, λ s r e. cc)
 follows no_links before_close = (λ d r e. cc, λ s r e. cc, λ s r e. cc)
@@ -54,7 +54,7 @@ follows no_links at_end = (λ d r e. cc, λ s r e. cc, λ s r e. cc)
 follows (more_links no_port q r rs) e = (λ d r e. cc, λ s r e. cc, λ s r e. cc)
 follows (more_links bracketed q r rs) e = (λ d r e. cc, λ s r e. cc, λ s r e. cc)
 
--- what stands behind a head is no class
+-- what stands after a head is no class
 headed_follows : {ts rest : List Token} {text : Option Span} → IsString ts text rest → NoClass rest → NoClass ts
 headed_follows no_string h = h
 headed_follows string h = λ d r e. cc
@@ -95,11 +95,11 @@ unfolding run
 first_runs [] bs p ss s h = refl
 first_runs (tok ∷ ts) bs p ss s h = elim (firsted_by bs p ss s tok) [ inl w ↦ absurd (h w.0 ts (rw (w.1) refl)) | inr e ↦ rw e refl ]
 
-pub step_grown : (bs : List Body) (cx : Context) (e : Element) (tok : Token) → step (grown bs cx e) tok ≡ beyond_grown bs cx e tok
+pub step_grown : (bs : List Body) (cx : Context) (e : Element) (tok : Token) → step (element_read bs cx e) tok ≡ beyond_element bs cx e tok
 step_grown bs (start p ss) e tok = refl
 step_grown bs (linked p ss f ls from to) e tok = refl
 
-pub finish_grown : (bs : List Body) (cx : Context) (e : Element) → finish (grown bs cx e) ≡ ended_grown bs cx e
+pub finish_grown : (bs : List Body) (cx : Context) (e : Element) → finish (element_read bs cx e) ≡ tree_at_element bs cx e
 finish_grown bs (start p ss) e = refl
 finish_grown bs (linked p ss f ls from to) e = refl
 
@@ -113,12 +113,12 @@ finish_ported bs p ss f ls out q = refl
 finish_ported bs p ss f ls (into from) q = refl
 
 -- a head with no string
-bare_runs : (ts : List Token) (bs : List Body) (cx : Context) (h : Head) → NoString ts → run (head_read bs cx h) ts ≡ run (grown bs cx (element h None)) ts
+bare_runs : (ts : List Token) (bs : List Body) (cx : Context) (h : Head) → NoString ts → run (head_read bs cx h) ts ≡ run (element_read bs cx (element h None)) ts
 unfolding run
 bare_runs [] bs cx h k = sym (finish_grown bs cx (element h None))
 bare_runs (tok ∷ ts) bs cx h k = elim (headed_by bs cx h tok) [ inl w ↦ absurd (k w.0 ts (rw (w.1) refl)) | inr e ↦ rw (e, step_grown) refl ]
 
-string_runs : {ts rest : List Token} {text : Option Span} → IsString ts text rest → NoString rest → (bs : List Body) (cx : Context) (h : Head) → run (head_read bs cx h) ts ≡ run (grown bs cx (element h text)) rest
+string_runs : {ts rest : List Token} {text : Option Span} → IsString ts text rest → NoString rest → (bs : List Body) (cx : Context) (h : Head) → run (head_read bs cx h) ts ≡ run (element_read bs cx (element h text)) rest
 unfolding run
 string_runs (no_string {ts = ts}) k bs cx h = bare_runs ts bs cx h k
 string_runs string k bs cx h = refl
@@ -195,13 +195,13 @@ statement_begins (definition b) p ss = refl
 statement_begins (synonym end) p ss = refl
 statement_begins (requirement q) p ss = refl
 
--- an arrow behind an element, with the port before it
+-- an arrow after an element, with the port before it
 arrow_runs : {ts ts' : List Token} {s : Span} {q : Option Port} → IsPort ts q (token.Arrow s ∷ ts') → (bs : List Body) (p : Place) (ss : List Statement) (f : Element) (ls : List Link) → run (after bs p ss f ls) ts ≡ run (port_wanted bs p ss f ls (into q)) ts'
 unfolding run
 arrow_runs no_port bs p ss f ls = refl
 arrow_runs bracketed bs p ss f ls = refl
 
--- the port behind an arrow
+-- the port after an arrow
 into_runs : {ts ts' rest : List Token} {bs bs' : List Body} {q : Option Port} {e : Element} → IsPort ts q ts' → IsElement ts' bs e rest bs' → (p : Place) (ss : List Statement) (f : Element) (ls : List Link) (from : Option Port) → run (port_wanted bs p ss f ls (into from)) ts ≡ run (element_wanted bs (linked p ss f ls from q)) ts'
 unfolding run
 into_runs no_port (an_element word k) p ss f ls from = refl
@@ -220,7 +220,7 @@ close_follows b rest = (λ s r e. cc, λ s r e. cc)
 mutual
   unfolding run
 
-  body_runs : {ts rest : List Token} {bs bs' : List Body} {n : ℕ} → IsBody ts bs n rest bs' → (s : State) (u : Use) → ((a : Span) → step s (token.Open a) ≡ Some (body_opened bs a u)) → run s ts ≡ run (used bs' u n) rest
+  body_runs : {ts rest : List Token} {bs bs' : List Body} {n : ℕ} → IsBody ts bs n rest bs' → (s : State) (u : Use) → ((a : Span) → step s (token.Open a) ≡ Some (body_opened bs a u)) → run s ts ≡ run (body_read bs' u n) rest
   body_runs (braces {a = a} {b = b} {ts = ts} {rest = rest} {bs = bs} {fs = fs} h r) s u k =
       brace_runs s a ts (body_opened bs a u) (k a)
       ∙ header_runs h (statements_first r (close_follows b rest)).1 bs a u
@@ -235,7 +235,7 @@ mutual
   head_runs (declared {s = s} r) k cx = class_runs r (of_head s cx)
   head_runs (compound {bs = bs} r) k cx = body_runs r (element_wanted bs cx) (as_element cx) (λ a. refl)
 
-  element_runs : {ts rest : List Token} {bs bs' : List Body} {e : Element} → IsElement ts bs e rest bs' → NoClass rest → NoString rest → (cx : Context) → run (element_wanted bs cx) ts ≡ run (grown bs' cx e) rest
+  element_runs : {ts rest : List Token} {bs bs' : List Body} {e : Element} → IsElement ts bs e rest bs' → NoClass rest → NoString rest → (cx : Context) → run (element_wanted bs cx) ts ≡ run (element_read bs' cx e) rest
   element_runs (an_element {bs' = bs'} {h = h} r q) k m cx = head_runs r (headed_follows q k) cx ∙ string_runs q m bs' cx h
 
   chain_runs : {ts ts' rest : List Token} {bs bs' : List Body} {more : List Link} → IsLinks ts bs more ts' bs' → IsEnd ts' rest → (p : Place) (ss : List Statement) (f : Element) (ls : List Link) → run (after bs p ss f ls) ts ≡ run (between bs' p (ss ++ chain f (ls ++ more) ∷ [])) rest

@@ -9,7 +9,7 @@ use Rattle.click_text.specs.declared.syntax.Body.{Body}
 use Rattle.click_text.specs.declared.tokens.Stop.{Stop}
 use Rattle.click_text.specs.declared.tokens.Stop.TheVariants as stop
 use Rattle.click_text.specs.Grammar.{body}
-use Rattle.click_text.specs.Machine.{Place, inside, Use, start, State, between, statement_wanted, first_read, name_read, element_wanted, word_read, used, step, finish, open_after, Outcome, Refused, Deep, outcome, accepted, Stops, Lists}
+use Rattle.click_text.specs.kept.ParserStates.{Place, inside, Use, start, State, between, statement_wanted, first_read, name_read, element_wanted, word_read, body_read, step, finish, open_after, Outcome, Refused, Deep, outcome, accepted, Stops, Lists}
 use Rattle.click_text.proofs.Takes.{IsElementclass, IsRequire, firsted_by, opening_by}
 
 -- a token that is taken
@@ -57,7 +57,7 @@ unfolding outcome
 opened n s s' a ts rest e p h = let q : open_after n (token.Open a) ≡ Some (n + 1) = grind (arith, nat_tests) in rw (e, p, q) refl
 
 -- the brace that closes a body
-pub closed_at : (n : ℕ) (bs : List Body) (a b : Span) (fs : List Span) (u : Use) (ss : List Statement) (ts rest : List Token) → ts ≡ token.Close b ∷ rest → outcome (n + 1) (between bs (inside a fs u) ss) ts ≡ outcome n (used (bs ++ body a b fs ss ∷ []) u (length bs)) rest
+pub closed_at : (n : ℕ) (bs : List Body) (a b : Span) (fs : List Span) (u : Use) (ss : List Statement) (ts rest : List Token) → ts ≡ token.Close b ∷ rest → outcome (n + 1) (between bs (inside a fs u) ss) ts ≡ outcome n (body_read (bs ++ body a b fs ss ∷ []) u (length bs)) rest
 unfolding outcome
 closed_at n bs a b fs u ss ts rest e = let q : n + 1 - 1 ≡ n = omega arith in rw (e, q) refl
 
@@ -66,7 +66,7 @@ pub lists : (n : ℕ) (bs : List Body) (p : Place) (ss : List Statement) (s : Sp
 unfolding outcome
 lists n bs p ss s ts (c, rest, e) = rw e refl
 
--- a first word with no comma behind it
+-- a first word with no comma after it
 first_alone : (n : ℕ) (bs : List Body) (p : Place) (ss : List Statement) (s : Span) (ts : List Token) → (Lists (token.Word s ∷ ts) s → ⊥) → outcome n (first_read bs p ss s) ts ≡ outcome n (word_read bs (start p ss) s) ts
 unfolding outcome
 first_alone n bs p ss s [] h = refl

@@ -9,7 +9,7 @@ use Rattle.click_text.specs.declared.strings.Mode.TheVariants as mode
 use Rattle.click_text.specs.declared.lexer.Piece.TheVariants as piece
 use Rattle.click_text.specs.declared.items.ItemKind.{ItemKind}
 use Rattle.click_text.specs.declared.items.ItemKind.TheVariants as kind
-use Rattle.click_text.specs.Strings.{mode_after, plain_after, is_outside, depth_after, is_last, closes}
+use Rattle.click_text.specs.Strings.{mode_after, plain_after, is_outside, depth_after, closes_outermost, closes}
 use Rattle.click_text.specs.Pieces.{white, ends_comment, IsPiece}
 use Rattle.click_text.specs.Items.{is_plain, leaves, IsItem, LongestItem, Item, AreItems, ended, next, bytes_of}
 use Rattle.click_text.specs.StringText.{IsStringText, begins_with, opens, leaves_open}
@@ -17,7 +17,7 @@ use Rattle.click_text.proofs.Longest.{in_line}
 use Rattle.click_text.proofs.ItemForms.{Never}
 use Rattle.click_text.proofs.ItemReading.{items_are_text, items_once}
 
--- the mode behind some bytes
+-- the mode after some bytes
 abbrev modes : Mode → List ℕ → Mode
 modes m [] = m
 modes m (b ∷ p) = modes (mode_after m b) p
@@ -29,11 +29,11 @@ modes-append m (b ∷ p) q = modes-append (mode_after m b) p q
 -- a string is closed outside quotes and comments
 closed_outside : (m : Mode) (d : ℕ) (p : List ℕ) → closes m d (p ++ 41 ∷ []) ≡ true → is_outside (modes m p) ≡ true
 closed_outside m d [] h = let x = and_parts (is_outside m && true) (eqb d 1) h in (and_parts (is_outside m) true x.0).0
-closed_outside m d (b ∷ []) h = elim (cases_Bool (is_last m d b)) [
+closed_outside m d (b ∷ []) h = elim (cases_Bool (closes_outermost m d b)) [
   | inl e ↦ let g = rw e at h in absurd (false≢true g)
   | inr e ↦ let g : closes (mode_after m b) (depth_after m d b) (41 ∷ []) ≡ true = rw e at h in closed_outside (mode_after m b) (depth_after m d b) [] g
 ]
-closed_outside m d (b ∷ c ∷ p) h = elim (cases_Bool (is_last m d b)) [
+closed_outside m d (b ∷ c ∷ p) h = elim (cases_Bool (closes_outermost m d b)) [
   | inl e ↦ let g = rw e at h in absurd (false≢true g)
   | inr e ↦ let g : closes (mode_after m b) (depth_after m d b) (c ∷ p ++ 41 ∷ []) ≡ true = rw e at h in closed_outside (mode_after m b) (depth_after m d b) (c ∷ p) g
 ]
@@ -50,7 +50,7 @@ plain_is mode.Line h = cc
 plain_is mode.Block h = cc
 plain_is mode.Star h = cc
 
--- behind what leads out of a quote nothing is open
+-- after what leads out of a quote nothing is open
 left_plain : (m : Mode) (r : List ℕ) → leaves m r ≡ true → modes m r ≡ mode.Plain
 left_plain m [] h = absurd (false≢true h)
 left_plain m (b ∷ []) h = plain_is (mode_after m b) h
@@ -59,7 +59,7 @@ left_plain m (b ∷ c ∷ r) h = elim (cases_Bool (is_plain (mode_after m b))) [
   | inr e ↦ let g : leaves (mode_after m b) (c ∷ r) ≡ true = rw e at h in left_plain (mode_after m b) (c ∷ r) g
 ]
 
--- behind the end of a comment, too
+-- after the end of a comment, too
 star_or_block : (c : ℕ) → eqb c 47 ≡ false → mode_after mode.Star c ≡ mode_after mode.Block c
 star_or_block c h = rw h refl
 
@@ -181,7 +181,7 @@ white_plain b h = elim (cases_Bool (eqb b 34)) [
   ]
 ]
 
--- what holds behind an item: the text ends, or it is closed from there on
+-- what holds after an item: the text ends, or it is closed from there on
 abbrev Goes : List ℕ → Type 0
 Goes rest = (rest ≡ []) ⊎ (is_outside (modes mode.Plain rest) ≡ true)
 

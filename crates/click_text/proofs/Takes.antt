@@ -12,7 +12,7 @@ use Rattle.click_text.specs.declared.syntax.Link.{Link}
 use Rattle.click_text.specs.declared.syntax.Statement.{Statement}
 use Rattle.click_text.specs.declared.syntax.Body.{Body}
 use Rattle.click_text.specs.Grammar.{element, declaration}
-use Rattle.click_text.specs.Machine.{Place, inside, Use, Target, Context, start, Side, out, a_requirement, begun, classed, arrowed, past_port, joined, numbered, bracketed_off, beyond, beyond_grown, headed, worded, firsted, named, names_on, over, listed, defined, define_on, opening, stated, required_on, unfolded, formal_next, formal_on}
+use Rattle.click_text.specs.kept.ParserStates.{Place, inside, Use, Target, Context, start, Side, out, a_requirement, begun, classed, arrowed, past_port, port_begun, port_numbered, bracketed_off, beyond, beyond_element, headed, worded, firsted, named, names_on, statement_over, class_listed, defined, define_on, opening, statement_next, required_on, unfolded, formal_next, formal_on}
 
 abbrev pub IsWord : Token → Type 0
 IsWord tok = (s : Span) × (tok ≡ token.Word s)
@@ -125,7 +125,7 @@ arrowed_by bs p ss f ls q (token.Elementclass x) = inr refl
 arrowed_by bs p ss f ls q (token.Require x) = inr refl
 
 -- a port begins with a bracket
-pub joined_by : (bs : List Body) (p : Place) (ss : List Statement) (f : Element) (ls : List Link) (side : Side) (tok : Token) → IsOpenBracket tok ⊎ (joined bs p ss f ls side tok ≡ past_port bs p ss f ls side None tok)
+pub joined_by : (bs : List Body) (p : Place) (ss : List Statement) (f : Element) (ls : List Link) (side : Side) (tok : Token) → IsOpenBracket tok ⊎ (port_begun bs p ss f ls side tok ≡ past_port bs p ss f ls side None tok)
 joined_by bs p ss f ls side (token.Word x) = inr refl
 joined_by bs p ss f ls side (token.Number m x) = inr refl
 joined_by bs p ss f ls side (token.Formal x) = inr refl
@@ -143,7 +143,7 @@ joined_by bs p ss f ls side (token.Elementclass x) = inr refl
 joined_by bs p ss f ls side (token.Require x) = inr refl
 
 -- a port's number
-pub numbered_by : (bs : List Body) (p : Place) (ss : List Statement) (f : Element) (ls : List Link) (side : Side) (b : Span) (tok : Token) → IsNumber tok ⊎ (numbered bs p ss f ls side b tok ≡ None)
+pub numbered_by : (bs : List Body) (p : Place) (ss : List Statement) (f : Element) (ls : List Link) (side : Side) (b : Span) (tok : Token) → IsNumber tok ⊎ (port_numbered bs p ss f ls side b tok ≡ None)
 numbered_by bs p ss f ls side b (token.Word x) = inr refl
 numbered_by bs p ss f ls side b (token.Number (Some m) s) = inl (m, s, refl)
 numbered_by bs p ss f ls side b (token.Number None s) = inr refl
@@ -179,8 +179,8 @@ bracketed_by bs p ss f ls side b n (token.Bar x) = inr refl
 bracketed_by bs p ss f ls side b n (token.Elementclass x) = inr refl
 bracketed_by bs p ss f ls side b n (token.Require x) = inr refl
 
--- behind an element its chain ends, or an arrow comes
-pub beyond_by : (bs : List Body) (p : Place) (ss : List Statement) (f : Element) (ls : List Link) (tok : Token) → IsSemicolon tok ⊎ IsClose tok ⊎ (beyond bs p ss f ls tok ≡ joined bs p ss f ls out tok)
+-- after an element its chain ends, or an arrow comes
+pub beyond_by : (bs : List Body) (p : Place) (ss : List Statement) (f : Element) (ls : List Link) (tok : Token) → IsSemicolon tok ⊎ IsClose tok ⊎ (beyond bs p ss f ls tok ≡ port_begun bs p ss f ls out tok)
 beyond_by bs p ss f ls (token.Word x) = inr (inr refl)
 beyond_by bs p ss f ls (token.Number m x) = inr (inr refl)
 beyond_by bs p ss f ls (token.Formal x) = inr (inr refl)
@@ -197,8 +197,8 @@ beyond_by bs p ss f ls (token.Bar x) = inr (inr refl)
 beyond_by bs p ss f ls (token.Elementclass x) = inr (inr refl)
 beyond_by bs p ss f ls (token.Require x) = inr (inr refl)
 
--- behind a head a string, or what stands behind an element
-pub headed_by : (bs : List Body) (cx : Context) (h : Head) (tok : Token) → IsString tok ⊎ (headed bs cx h tok ≡ beyond_grown bs cx (element h None) tok)
+-- after a head a string, or what stands after an element
+pub headed_by : (bs : List Body) (cx : Context) (h : Head) (tok : Token) → IsString tok ⊎ (headed bs cx h tok ≡ beyond_element bs cx (element h None) tok)
 headed_by bs cx h (token.Word x) = inr refl
 headed_by bs cx h (token.Number m x) = inr refl
 headed_by bs cx h (token.Formal x) = inr refl
@@ -215,7 +215,7 @@ headed_by bs cx h (token.Bar x) = inr refl
 headed_by bs cx h (token.Elementclass x) = inr refl
 headed_by bs cx h (token.Require x) = inr refl
 
--- behind a word its class, or what stands behind a head
+-- after a word its class, or what stands after a head
 pub worded_by : (bs : List Body) (cx : Context) (s : Span) (tok : Token) → IsDoubleColon tok ⊎ (worded bs cx s tok ≡ headed bs cx (head.Word s) tok)
 worded_by bs cx s (token.Word x) = inr refl
 worded_by bs cx s (token.Number m x) = inr refl
@@ -233,7 +233,7 @@ worded_by bs cx s (token.Bar x) = inr refl
 worded_by bs cx s (token.Elementclass x) = inr refl
 worded_by bs cx s (token.Require x) = inr refl
 
--- behind a statement's first word a further name, or what stands behind a word
+-- after a statement's first word a further name, or what stands after a word
 pub firsted_by : (bs : List Body) (p : Place) (ss : List Statement) (s : Span) (tok : Token) → IsComma tok ⊎ (firsted bs p ss s tok ≡ worded bs (start p ss) s tok)
 firsted_by bs p ss s (token.Word x) = inr refl
 firsted_by bs p ss s (token.Number m x) = inr refl
@@ -269,7 +269,7 @@ named_by bs p ss ns (token.Bar x) = inr refl
 named_by bs p ss ns (token.Elementclass x) = inr refl
 named_by bs p ss ns (token.Require x) = inr refl
 
--- behind names a comma, or their class
+-- after names a comma, or their class
 pub names_by : (bs : List Body) (p : Place) (ss : List Statement) (ns : List Span) (tok : Token) → IsComma tok ⊎ IsDoubleColon tok ⊎ (names_on bs p ss ns tok ≡ None)
 names_by bs p ss ns (token.Word x) = inr (inr refl)
 names_by bs p ss ns (token.Number m x) = inr (inr refl)
@@ -288,7 +288,7 @@ names_by bs p ss ns (token.Elementclass x) = inr (inr refl)
 names_by bs p ss ns (token.Require x) = inr (inr refl)
 
 -- the end of a statement
-pub over_by : (bs : List Body) (p : Place) (ss : List Statement) (st : Statement) (tok : Token) → IsSemicolon tok ⊎ IsClose tok ⊎ (over bs p ss st tok ≡ None)
+pub over_by : (bs : List Body) (p : Place) (ss : List Statement) (st : Statement) (tok : Token) → IsSemicolon tok ⊎ IsClose tok ⊎ (statement_over bs p ss st tok ≡ None)
 over_by bs p ss st (token.Word x) = inr (inr refl)
 over_by bs p ss st (token.Number m x) = inr (inr refl)
 over_by bs p ss st (token.Formal x) = inr (inr refl)
@@ -305,8 +305,8 @@ over_by bs p ss st (token.Bar x) = inr (inr refl)
 over_by bs p ss st (token.Elementclass x) = inr (inr refl)
 over_by bs p ss st (token.Require x) = inr (inr refl)
 
--- behind the class of names a string, or the end
-pub listed_by : (bs : List Body) (p : Place) (ss : List Statement) (ns : List Span) (c : Class) (tok : Token) → IsString tok ⊎ (listed bs p ss ns c tok ≡ over bs p ss (declaration ns c None) tok)
+-- after the class of names a string, or the end
+pub listed_by : (bs : List Body) (p : Place) (ss : List Statement) (ns : List Span) (c : Class) (tok : Token) → IsString tok ⊎ (class_listed bs p ss ns c tok ≡ statement_over bs p ss (declaration ns c None) tok)
 listed_by bs p ss ns c (token.Word x) = inr refl
 listed_by bs p ss ns c (token.Number m x) = inr refl
 listed_by bs p ss ns c (token.Formal x) = inr refl
@@ -378,7 +378,7 @@ opening_by bs p ss (token.Elementclass x) = inr (inl (x, refl))
 opening_by bs p ss (token.Require x) = inr (inr (inl (x, refl)))
 
 -- a statement is empty, or begins
-pub stated_by : (bs : List Body) (p : Place) (ss : List Statement) (tok : Token) → IsSemicolon tok ⊎ IsClose tok ⊎ (stated bs p ss tok ≡ opening bs p ss tok)
+pub stated_by : (bs : List Body) (p : Place) (ss : List Statement) (tok : Token) → IsSemicolon tok ⊎ IsClose tok ⊎ (statement_next bs p ss tok ≡ opening bs p ss tok)
 stated_by bs p ss (token.Word x) = inr (inr refl)
 stated_by bs p ss (token.Number m x) = inr (inr refl)
 stated_by bs p ss (token.Formal x) = inr (inr refl)
@@ -395,8 +395,8 @@ stated_by bs p ss (token.Bar x) = inr (inr refl)
 stated_by bs p ss (token.Elementclass x) = inr (inr refl)
 stated_by bs p ss (token.Require x) = inr (inr refl)
 
--- behind `require` its string, or further statements
-pub required_by : (bs : List Body) (p : Place) (ss : List Statement) (tok : Token) → IsString tok ⊎ (required_on bs p ss tok ≡ stated bs p (ss ++ a_requirement None ∷ []) tok)
+-- after `require` its string, or further statements
+pub required_by : (bs : List Body) (p : Place) (ss : List Statement) (tok : Token) → IsString tok ⊎ (required_on bs p ss tok ≡ statement_next bs p (ss ++ a_requirement None ∷ []) tok)
 required_by bs p ss (token.Word x) = inr refl
 required_by bs p ss (token.Number m x) = inr refl
 required_by bs p ss (token.Formal x) = inr refl
@@ -413,8 +413,8 @@ required_by bs p ss (token.Bar x) = inr refl
 required_by bs p ss (token.Elementclass x) = inr refl
 required_by bs p ss (token.Require x) = inr refl
 
--- behind an open brace a parameter, or statements
-pub unfolded_by : (bs : List Body) (a : Span) (u : Use) (tok : Token) → IsFormal tok ⊎ (unfolded bs a u tok ≡ stated bs (inside a [] u) [] tok)
+-- after an open brace a parameter, or statements
+pub unfolded_by : (bs : List Body) (a : Span) (u : Use) (tok : Token) → IsFormal tok ⊎ (unfolded bs a u tok ≡ statement_next bs (inside a [] u) [] tok)
 unfolded_by bs a u (token.Word x) = inr refl
 unfolded_by bs a u (token.Number m x) = inr refl
 unfolded_by bs a u (token.Formal x) = inl (x, refl)
@@ -449,7 +449,7 @@ formal_by bs a u fs (token.Bar x) = inr refl
 formal_by bs a u fs (token.Elementclass x) = inr refl
 formal_by bs a u fs (token.Require x) = inr refl
 
--- behind a parameter a comma, or the bar
+-- after a parameter a comma, or the bar
 pub formal_on_by : (bs : List Body) (a : Span) (u : Use) (fs : List Span) (tok : Token) → IsComma tok ⊎ IsBar tok ⊎ (formal_on bs a u fs tok ≡ None)
 formal_on_by bs a u fs (token.Word x) = inr (inr refl)
 formal_on_by bs a u fs (token.Number m x) = inr (inr refl)

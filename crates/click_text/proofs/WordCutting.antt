@@ -5,17 +5,17 @@ use Rattle.std.proofs.lemmas.Bool.{cases_Bool}
 use Rattle.std.proofs.lemmas.List.{append-nil}
 use Rattle.click_text.specs.declared.items.ItemKind.{ItemKind}
 use Rattle.click_text.specs.declared.items.ItemKind.TheVariants as kind
-use Rattle.click_text.specs.Items.{Item, item, LongestItem, bytes_of, blank_kind, depth_behind, parted}
+use Rattle.click_text.specs.Items.{Item, item, LongestItem, bytes_of, blank_kind, parentheses_after, parted}
 use Rattle.click_text.specs.Words.{spaced_as, spaced, is_space, word_before, words_among, words_of, AreWords}
-use Rattle.click_text.proofs.ItemReading.{Behind, behind_more, behind_all, none_behind, bytes_at, bytes_of-append, item_some}
+use Rattle.click_text.proofs.ItemReading.{IsDone, done_more, done_all, none_done, bytes_at, bytes_of-append, item_some}
 use Rattle.click_text.proofs.Cutting.{all_put, all_put-put, nothing_put, depth_rises}
 
--- what comes of the items left, behind the bytes of a word
+-- what comes of the items left, after the bytes of a word
 abbrev pub rest_of : ℕ → List ℕ → List Item → List (List ℕ)
 rest_of depth word [] = word_before word []
 rest_of depth word (i ∷ items) =
     if eqb depth 0 && is_space i.kind then word_before word (rest_of depth [] items)
-    else rest_of (depth_behind i.kind depth) (word ++ i.bytes) items
+    else rest_of (parentheses_after i.kind depth) (word ++ i.bytes) items
 
 bytes_more : (p : List Item) (i : Item) → bytes_of (p ++ i ∷ []) ≡ bytes_of p ++ i.bytes
 bytes_more p i = rw (bytes_of-append, append-nil) refl
@@ -27,7 +27,7 @@ rest_is (i ∷ items) p depth = elim (cases_Bool (eqb depth 0 && is_space i.kind
       let h = rest_is items [] depth in
       let g : rest_of depth [] items ≡ words_among (parted is_space depth items) = rw nothing_put at h in
       rw (e, append-nil, g) refl
-  | inr e ↦ rw (e, all_put-put, ← rest_is items (p ++ i ∷ []) (depth_behind i.kind depth), bytes_more p i) refl
+  | inr e ↦ rw (e, all_put-put, ← rest_is items (p ++ i ∷ []) (parentheses_after i.kind depth), bytes_more p i) refl
 ]
 
 words_are : (items : List Item) → words_of items ≡ rest_of 0 [] (spaced items)
@@ -40,12 +40,12 @@ spaced-append (i ∷ p) q = rw (spaced-append p q) refl
 -- What the code keeps: `words` are the words that ended before the place, `word` is the next as far as it was read.
 pub record WordCutting (text : List ℕ) (at : ℕ) (depth : ℕ) (words : List (List ℕ)) (word : List ℕ) : Type 0 where
   pub done : List Item
-  pub behind : Behind text at done
+  pub is_done : IsDone text at done
   pub shallow : depth ≤ at
   pub goes_on : (items : List Item) → rest_of 0 [] (spaced (done ++ items)) ≡ words ++ rest_of depth word (spaced items)
 
 pub words_none : (text : List ℕ) → WordCutting text 0 0 [] []
-words_none text = record { done = []; behind = none_behind text; shallow = omega arith; goes_on = λ items. refl }
+words_none text = record { done = []; is_done = none_done text; shallow = omega arith; goes_on = λ items. refl }
 
 -- white space and comments are white space, where comments are spaces
 spaced_kind : (k : ItemKind) (p : List ℕ) → is_space (spaced_as k p).kind ≡ blank_kind k
@@ -56,7 +56,7 @@ spaced_kind kind.Single p = refl
 spaced_kind kind.Hexadecimal p = refl
 spaced_kind (kind.Byte b) p = refl
 
-spaced_depth : (k : ItemKind) (p : List ℕ) (depth : ℕ) → depth_behind (spaced_as k p).kind depth ≡ depth_behind k depth
+spaced_depth : (k : ItemKind) (p : List ℕ) (depth : ℕ) → parentheses_after (spaced_as k p).kind depth ≡ parentheses_after k depth
 spaced_depth kind.White p depth = refl
 spaced_depth kind.Comment p depth = refl
 spaced_depth kind.Double p depth = refl
@@ -75,7 +75,7 @@ words_end text at depth words word k n l z h c =
     let i = item k (bytes_at text at n) in
     record {
       done = c.done ++ i ∷ [];
-      behind = behind_more text at c.done k n l c.behind;
+      is_done = done_more text at c.done k n l c.is_done;
       shallow = omega arith;
       goes_on = λ items.
           let g = c.goes_on (i ∷ items) in
@@ -85,22 +85,22 @@ words_end text at depth words word k n l z h c =
 
 -- another item
 pub words_more : (text : List ℕ) (at depth : ℕ) (words : List (List ℕ)) (word : List ℕ) (k : ItemKind) (n : ℕ) → LongestItem (take (length text - at) (drop at text)) k n → (eqb depth 0 && blank_kind k) ≡ false →
-    WordCutting text at depth words word → WordCutting text (at + n) (depth_behind k depth) words (word ++ (spaced_as k (bytes_at text at n)).bytes)
+    WordCutting text at depth words word → WordCutting text (at + n) (parentheses_after k depth) words (word ++ (spaced_as k (bytes_at text at n)).bytes)
 words_more text at depth words word k n l h c =
     let i = item k (bytes_at text at n) in
     record {
       done = c.done ++ i ∷ [];
-      behind = behind_more text at c.done k n l c.behind;
+      is_done = done_more text at c.done k n l c.is_done;
       shallow = omega (arith, depth_rises k depth, item_some _ k n l, c.shallow);
       goes_on = λ items.
           let g = c.goes_on (i ∷ items) in
-          let s : rest_of depth word (spaced (i ∷ items)) ≡ rest_of (depth_behind k depth) (word ++ (spaced_as k i.bytes).bytes) (spaced items) = rw (spaced_kind k i.bytes, h, spaced_depth k i.bytes depth) refl in
+          let s : rest_of depth word (spaced (i ∷ items)) ≡ rest_of (parentheses_after k depth) (word ++ (spaced_as k i.bytes).bytes) (spaced items) = rw (spaced_kind k i.bytes, h, spaced_depth k i.bytes depth) refl in
           rw (append_assoc c.done (i ∷ []) items, g, s) refl;
     }
 
 pub words_all : (text : List ℕ) (at depth : ℕ) (words : List (List ℕ)) (word : List ℕ) → length text ≤ at → WordCutting text at depth words word → AreWords text (words ++ word_before word [])
 words_all text at depth words word h c = record {
   items = c.done;
-  read = behind_all text at c.done h c.behind;
+  read = done_all text at c.done h c.is_done;
   cuts = let g = c.goes_on [] in let i : rest_of 0 [] (spaced c.done) ≡ words ++ word_before word [] = rw append-nil at g in sym (words_are c.done ∙ i);
 }

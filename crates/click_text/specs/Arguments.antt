@@ -5,35 +5,35 @@ use Rattle.click_text.specs.declared.syntax.Span.{Span}
 use Rattle.click_text.specs.declared.items.ItemKind.{ItemKind}
 use Rattle.click_text.specs.declared.items.ItemKind.TheVariants as kind
 use Rattle.click_text.specs.Pieces.{span, IsBlank}
-use Rattle.click_text.specs.Items.{Item, AreItems, size, is_blank, parted}
+use Rattle.click_text.specs.Items.{Item, AreItems, size, is_blank_item, parted}
 
 abbrev pub is_comma : ItemKind → Bool
 is_comma (kind.Byte b) = eqb b 44
 is_comma _ = false
 
 abbrev pub all_blank : List Item → Bool
-all_blank items = list_all is_blank items
+all_blank items = list_all is_blank_item items
 
 -- the white space and comments that items begin with
 abbrev pub front : List Item → List Item
 front [] = []
-front (i ∷ items) = if is_blank i then i ∷ front items else []
+front (i ∷ items) = if is_blank_item i then i ∷ front items else []
 
 -- items without the white space and comments that they end with
 abbrev pub without_back : List Item → List Item
 without_back [] = []
 without_back (i ∷ items) = if all_blank (i ∷ items) then [] else i ∷ without_back items
 
--- where the argument of these items stands, which begin at that place: behind them, where it is empty
-abbrev pub argument : ℕ → List Item → Span
-argument at items =
+-- where the argument of these items stands, which begin at that place: after them, where it is empty
+abbrev pub argument_span : ℕ → List Item → Span
+argument_span at items =
     if all_blank items then span (at + size items) (at + size items)
     else span (at + size (front items)) (at + size (without_back items))
 
 -- where the arguments of these lists stand, with a comma between two of them
 abbrev pub arguments_from : ℕ → List (List Item) → List Span
 arguments_from at [] = []
-arguments_from at (p ∷ ps) = argument at p ∷ arguments_from (at + size p + 1) ps
+arguments_from at (p ∷ ps) = argument_span at p ∷ arguments_from (at + size p + 1) ps
 
 -- the arguments of a text with these items: what stands between the commas outside parentheses
 abbrev pub cut : List Item → List Span
@@ -48,11 +48,11 @@ pub record AreArguments (text : List ℕ) (spans : List Span) : Type 0 where
 -- Laws.
 
 -- spans that stand in order and apart between two places
-abbrev pub InOrder : ℕ → List Span → ℕ → Type 0
-InOrder from [] to = Unit {0}
-InOrder from (s ∷ spans) to = (from ≤ s.start) × (s.start ≤ s.end) × (s.end ≤ to) × InOrder (s.end + 1) spans to
+abbrev pub SpansInOrder : ℕ → List Span → ℕ → Type 0
+SpansInOrder from [] to = Unit {0}
+SpansInOrder from (s ∷ spans) to = (from ≤ s.start) × (s.start ≤ s.end) × (s.end ≤ to) × SpansInOrder (s.end + 1) spans to
 
--- Bytes that stand from a place on are what stands at these spans, with white space and comments before and behind each, and a comma between two of them.
+-- Bytes that stand from a place on are what stands at these spans, with white space and comments before and after each, and a comma between two of them.
 pub data AreJoined : ℕ → List ℕ → List Span → Type 0 where
   last : (at : ℕ) (before inside after : List ℕ) → IsBlank before → IsBlank after →
       AreJoined at (before ++ (inside ++ after)) (span (at + length before) (at + length before + length inside) ∷ [])

@@ -13,8 +13,8 @@ use Rattle.click_text.specs.Grammar.{IsText, BeginsText, NestsWithin}
 abbrev pub fault : FaultKind → ℕ → ℕ → TextFault
 fault k a b = record { kind = k; span = record { start = a; end = b } }
 
-abbrev pub fault_at : FaultKind → Span → TextFault
-fault_at k s = record { kind = k; span = s }
+abbrev pub spanned_fault : FaultKind → Span → TextFault
+spanned_fault k s = record { kind = k; span = s }
 
 -- where a token stands
 abbrev pub span_of : Token → Span
@@ -38,25 +38,20 @@ span_of (token.Require s) = s
 pub data IsFaultAmong : ℕ → List Token → Ending → TextFault → Type 0 where
   -- a token that, with those before it, begins no text of the grammar
   unexpected : (n : ℕ) (front more : List Token) (tok : Token) (e : Ending) → BeginsText front → NestsWithin 0 front →
-      (BeginsText (front ++ tok ∷ []) → ⊥) → IsFaultAmong n (front ++ tok ∷ more) e (fault_at kind.Unexpected (span_of tok))
+      (BeginsText (front ++ tok ∷ []) → ⊥) → IsFaultAmong n (front ++ tok ∷ more) e (spanned_fault kind.Unexpected (span_of tok))
   -- the 33rd open brace
   too_deep : (n : ℕ) (front more : List Token) (tok : Token) (e : Ending) → BeginsText (front ++ tok ∷ []) → NestsWithin 0 front →
-      (NestsWithin 0 (front ++ tok ∷ []) → ⊥) → IsFaultAmong n (front ++ tok ∷ more) e (fault_at kind.TooDeep (span_of tok))
+      (NestsWithin 0 (front ++ tok ∷ []) → ⊥) → IsFaultAmong n (front ++ tok ∷ more) e (spanned_fault kind.TooDeep (span_of tok))
   -- the end, where the tokens are no text
   unfinished : (n : ℕ) (ts : List Token) → BeginsText ts → NestsWithin 0 ts →
       ((t : _) → IsText ts t → ⊥) → IsFaultAmong n ts ending.Whole (fault kind.Unexpected n n)
   -- the place where no piece begins
   no_piece : (n : ℕ) (ts : List Token) (f : TextFault) → BeginsText ts → NestsWithin 0 ts → IsFaultAmong n ts (ending.Stuck f) f
 
--- the fault of want of memory, which stands nowhere
+-- the fault where memory runs out, which stands nowhere
 abbrev pub no_memory : TextFault
 no_memory = fault kind.NoMemory 0 0
 
 -- memory aside
 abbrev pub IsMemoryOr : TextFault → Type 0 → Type 0
 IsMemoryOr f P = (f ≡ no_memory) ⊎ P
-
--- the fault of the end
-abbrev pub end_fault : ℕ → Ending → TextFault
-end_fault n ending.Whole = fault kind.Unexpected n n
-end_fault n (ending.Stuck f) = f

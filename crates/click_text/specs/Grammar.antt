@@ -21,8 +21,8 @@ use Rattle.click_text.specs.declared.syntax.Config.{Config}
 abbrev pub from_to : Span → Span → Span
 from_to a b = record { start = a.start; end = b.end }
 
-abbrev pub port : ℕ → Span → Span → Port
-port n a b = record { number = n; span = from_to a b }
+abbrev pub written_port : ℕ → Span → Span → Port
+written_port n a b = record { number = n; span = from_to a b }
 
 abbrev pub element : Head → Option Span → Element
 element h text = record { head = h; text = text }
@@ -43,7 +43,7 @@ body a b fs ss = record { span = from_to a b; formals = fs; statements = ss }
 pub data IsPort : List Token → Option Port → List Token → Type 0 where
   no_port : {ts : List Token} → IsPort ts None ts
   bracketed : {a b s : Span} {n : ℕ} {ts : List Token} →
-      IsPort (token.OpenBracket a ∷ token.Number (Some n) s ∷ token.CloseBracket b ∷ ts) (Some (port n a b)) ts
+      IsPort (token.OpenBracket a ∷ token.Number (Some n) s ∷ token.CloseBracket b ∷ ts) (Some (written_port n a b)) ts
 
 -- a configuration string, or none
 pub data IsString : List Token → Option Span → List Token → Type 0 where
@@ -56,7 +56,7 @@ pub data IsEnd : List Token → List Token → Type 0 where
   before_close : {s : Span} {ts : List Token} → IsEnd (token.Close s ∷ ts) (token.Close s ∷ ts)
   at_end : IsEnd [] []
 
--- further parameters, each behind a comma, up to the bar
+-- further parameters, each after a comma, up to the bar
 pub data IsFormals : List Token → List Span → List Token → Type 0 where
   last_formal : {s r : Span} {ts : List Token} → IsFormals (token.Formal s ∷ token.Bar r ∷ ts) (s ∷ []) ts
   more_formals : {s c : Span} {ts rest : List Token} {fs : List Span} →
@@ -67,7 +67,7 @@ pub data IsHeader : List Token → List Span → List Token → Type 0 where
   no_header : {ts : List Token} → IsHeader ts [] ts
   header : {ts rest : List Token} {fs : List Span} → IsFormals ts fs rest → IsHeader ts fs rest
 
--- further names of a declaration, each behind a comma, up to `::`
+-- further names of a declaration, each after a comma, up to `::`
 pub data IsNames : List Token → List Span → List Token → Type 0 where
   last_name : {s c d : Span} {ts : List Token} → IsNames (token.Comma c ∷ token.Word s ∷ token.DoubleColon d ∷ ts) (s ∷ []) ts
   more_names : {s c : Span} {ts rest : List Token} {ns : List Span} →
@@ -109,12 +109,12 @@ mutual
     declarations : {s : Span} {ts ts1 ts2 ts3 rest : List Token} {bs bs' : List Body} {ns : List Span} {c : Class} {text : Option Span} →
         IsNames ts ns ts1 → IsClass ts1 bs c ts2 bs' → IsString ts2 text ts3 → IsEnd ts3 rest →
         IsStatement (token.Word s ∷ ts) bs (declaration (s ∷ ns) c text) rest bs'
-    -- a `;` behind the brace is an empty statement of its own
+    -- a `;` after the brace is an empty statement of its own
     definition : {k s : Span} {ts rest : List Token} {bs bs' : List Body} {n : ℕ} →
         IsBody ts bs n rest bs' → IsStatement (token.Elementclass k ∷ token.Word s ∷ ts) bs (statement.Definition s n) rest bs'
     synonym : {k s c : Span} {ts rest : List Token} {bs : List Body} →
         IsEnd ts rest → IsStatement (token.Elementclass k ∷ token.Word s ∷ token.Word c ∷ ts) bs (statement.Synonym s c) rest bs
-    -- a `;` behind it is an empty statement of its own
+    -- a `;` after it is an empty statement of its own
     requirement : {k : Span} {ts rest : List Token} {bs : List Body} {text : Option Span} →
         IsString ts text rest → IsStatement (token.Require k ∷ ts) bs (statement.Requirement text) rest bs
 
@@ -159,16 +159,16 @@ HasRoom Opens depth = depth < most_open
 HasRoom Closes depth = Unit {0}
 HasRoom Neither depth = Unit {0}
 
--- how many braces are open behind one
-abbrev pub depth_behind : Brace → ℕ → ℕ
-depth_behind Opens depth = depth + 1
-depth_behind Closes depth = depth - 1
-depth_behind Neither depth = depth
+-- how many braces are open after one
+abbrev pub braces_after : Brace → ℕ → ℕ
+braces_after Opens depth = depth + 1
+braces_after Closes depth = depth - 1
+braces_after Neither depth = depth
 
 -- with so many open before them, at most 32 are open at once
 abbrev pub NestsWithin : ℕ → List Token → Type 0
 NestsWithin depth [] = Unit {0}
-NestsWithin depth (t ∷ ts) = HasRoom (brace t) depth × NestsWithin (depth_behind (brace t) depth) ts
+NestsWithin depth (t ∷ ts) = HasRoom (brace t) depth × NestsWithin (braces_after (brace t) depth) ts
 
 -- the tree that a configuration holds
 abbrev pub tree_of : Config → Tree

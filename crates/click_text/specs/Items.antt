@@ -23,7 +23,7 @@ leaves m (b ∷ c ∷ p) = if is_plain (mode_after m b) then false else leaves (
 abbrev pub IsItem : ItemKind → List ℕ → Type 0
 IsItem kind.White p = IsPiece piece.Blank p
 IsItem kind.Comment p = IsPiece piece.LineComment p ⊎ IsPiece piece.BlockComment p
--- `"` up to the next `"` that isn't behind a `\`, which takes the next byte with it
+-- `"` up to the next `"` that isn't right after a `\`, which takes the next byte with it
 IsItem kind.Double p = (r : List ℕ) × (p ≡ 34 ∷ r) × (leaves mode.Double r ≡ true)
 -- `'` up to the next `'`
 IsItem kind.Single p = (r : List ℕ) × (p ≡ 39 ∷ r) × (leaves mode.Single r ≡ true)
@@ -37,10 +37,6 @@ pub record LongestItem (text : List ℕ) (k : ItemKind) (n : ℕ) : Type 0 where
   pub within : n ≤ length text
   pub form : IsItem k (take n text)
   pub longest : (j : ItemKind) (m : ℕ) → n < m → m ≤ length text → IsItem j (take m text) → ⊥
-
--- no item of more than one byte begins the text
-abbrev pub NoLongItem : List ℕ → Type 0
-NoLongItem text = (j : ItemKind) (m : ℕ) → 1 < m → m ≤ length text → IsItem j (take m text) → ⊥
 
 pub record Item : Type 0 where
   pub kind : ItemKind
@@ -69,13 +65,13 @@ blank_kind kind.White = true
 blank_kind kind.Comment = true
 blank_kind _ = false
 
-abbrev pub is_blank : Item → Bool
-is_blank i = blank_kind i.kind
+abbrev pub is_blank_item : Item → Bool
+is_blank_item i = blank_kind i.kind
 
--- how many parentheses are open behind an item; one that closes none is passed over
-abbrev pub depth_behind : ItemKind → ℕ → ℕ
-depth_behind (kind.Byte b) depth = if eqb b 40 then depth + 1 else if eqb b 41 then depth - 1 else depth
-depth_behind _ depth = depth
+-- how many parentheses are open after an item; one that closes none is passed over
+abbrev pub parentheses_after : ItemKind → ℕ → ℕ
+parentheses_after (kind.Byte b) depth = if eqb b 40 then depth + 1 else if eqb b 41 then depth - 1 else depth
+parentheses_after _ depth = depth
 
 -- puts an item before the first of some lists
 abbrev pub put : Item → List (List Item) → List (List Item)
@@ -86,4 +82,4 @@ put i (p ∷ ps) = (i ∷ p) ∷ ps
 abbrev pub parted : (ItemKind → Bool) → ℕ → List Item → List (List Item)
 parted test depth [] = [] ∷ []
 parted test depth (i ∷ items) =
-    if eqb depth 0 && test i.kind then [] ∷ parted test depth items else put i (parted test (depth_behind i.kind depth) items)
+    if eqb depth 0 && test i.kind then [] ∷ parted test depth items else put i (parted test (parentheses_after i.kind depth) items)

@@ -2,9 +2,7 @@ pub mod Arguments
 pub mod Faults
 pub mod Grammar
 pub mod Items
-pub mod Kept
-pub mod Machine
-pub mod Marks
+pub mod kept
 pub mod Pieces
 pub mod Spans
 pub mod Spelling

@@ -41,8 +41,8 @@ ends_comment (b ∷ []) = false
 ends_comment (b ∷ c ∷ []) = eqb b 42 && eqb c 47
 ends_comment (b ∷ c ∷ p) = if eqb b 42 && eqb c 47 then false else ends_comment (c ∷ p)
 
-abbrev pub IsWhole : List ℕ → Bool → Type 0
-IsWhole p test = (0 < length p) × (test ≡ true)
+abbrev pub IsRun : List ℕ → Bool → Type 0
+IsRun p test = (0 < length p) × (test ≡ true)
 
 -- the bytes are a piece of that kind
 abbrev pub IsPiece : Piece → List ℕ → Type 0
@@ -52,11 +52,11 @@ IsPiece piece.LineComment p = (r : List ℕ) × (p ≡ 47 ∷ 47 ∷ r) × (list
 -- `/*`, up to the next `*/`
 IsPiece piece.BlockComment p = (r : List ℕ) × (p ≡ 47 ∷ 42 ∷ r) × (ends_comment r ≡ true)
 IsPiece piece.Word p = (is_word p ≡ true) × (list_all digit p ≡ false) × (p ≢ codes "elementclass") × (p ≢ codes "require")
-IsPiece piece.Number p = IsWhole p (list_all digit p)
+IsPiece piece.Number p = IsRun p (list_all digit p)
 IsPiece piece.Elementclass p = p ≡ codes "elementclass"
 IsPiece piece.Require p = p ≡ codes "require"
 -- `$` and a name
-IsPiece piece.Formal p = (r : List ℕ) × (p ≡ 36 ∷ r) × IsWhole r (list_all name_byte r)
+IsPiece piece.Formal p = (r : List ℕ) × (p ≡ 36 ∷ r) × IsRun r (list_all name_byte r)
 -- `(` up to the `)` that closes it
 IsPiece piece.String p = (r : List ℕ) × (p ≡ 40 ∷ r) × (closes mode.Plain 1 r ≡ true)
 IsPiece piece.DoubleColon p = p ≡ codes "::"
@@ -79,14 +79,14 @@ pub record Longest (text : List ℕ) (k : Piece) (n : ℕ) : Type 0 where
 abbrev pub NoPiece : List ℕ → Type 0
 NoPiece text = (k : Piece) (m : ℕ) → m ≤ length text → IsPiece k (take m text) → ⊥
 
--- the number that digits spell, behind one that was read before them
-abbrev pub number_after : ℕ → List ℕ → ℕ
-number_after n [] = n
-number_after n (d ∷ ds) = number_after (10 * n + (d - 48)) ds
+-- the number that digits spell, after one that was read before them
+abbrev pub decimal_after : ℕ → List ℕ → ℕ
+decimal_after n [] = n
+decimal_after n (d ∷ ds) = decimal_after (10 * n + (d - 48)) ds
 
 -- the port that digits spell: 0 to 255, with leading zeros allowed
-abbrev pub port_of : List ℕ → Option ℕ
-port_of digits = if nat_lt (number_after 0 digits) 256 then Some (number_after 0 digits) else None
+abbrev pub port_spelled : List ℕ → Option ℕ
+port_spelled digits = if nat_lt (decimal_after 0 digits) 256 then Some (decimal_after 0 digits) else None
 
 -- the token of a piece, of these bytes and at that span; white space and comments have none
 abbrev pub token_of : Piece → List ℕ → Span → Option Token
@@ -94,7 +94,7 @@ token_of piece.Blank p s = None
 token_of piece.LineComment p s = None
 token_of piece.BlockComment p s = None
 token_of piece.Word p s = Some (token.Word s)
-token_of piece.Number p s = Some (token.Number (port_of p) s)
+token_of piece.Number p s = Some (token.Number (port_spelled p) s)
 token_of piece.Elementclass p s = Some (token.Elementclass s)
 token_of piece.Require p s = Some (token.Require s)
 token_of piece.Formal p s = Some (token.Formal s)

@@ -6,7 +6,7 @@ use Rattle.click_text.specs.declared.strings.Mode.TheVariants as mode
 use Rattle.click_text.specs.Strings.{closes}
 use Rattle.click_text.specs.Items.{Item, bytes_of}
 
--- with a `)` behind it, the text is closed, and not before
+-- with a `)` after it, the text is closed, and not before
 abbrev pub IsStringText : List ℕ → Type 0
 IsStringText text = closes mode.Plain 1 (text ++ 41 ∷ []) ≡ true
 

@@ -3,7 +3,7 @@ use Rattle.std.specs.Prelude.{ℕ, ◌+◌, ◌-◌, List, [], ◌∷◌, Bool, 
 use Rattle.click_text.specs.declared.strings.Mode.{Mode}
 use Rattle.click_text.specs.declared.strings.Mode.TheVariants as mode
 
--- behind a byte that is neither in a quote nor in a comment
+-- after a byte that is neither in a quote nor in a comment
 abbrev pub plain_after : ℕ → Mode
 plain_after b =
     if eqb b 34 then mode.Double else if eqb b 39 then mode.Single else if eqb b 47 then mode.Slash else if eqb b 92 then mode.Backslash else mode.Plain
@@ -12,9 +12,9 @@ plain_after b =
 abbrev pub mode_after : Mode → ℕ → Mode
 -- outside quotes and comments
 mode_after mode.Plain b = plain_after b
--- behind a `/` that begins a comment with this byte, or stands for itself
+-- after a `/` that begins a comment with this byte, or stands for itself
 mode_after mode.Slash b = if eqb b 47 then mode.Line else if eqb b 42 then mode.Block else plain_after b
--- behind a `\` that begins a quote with this byte, or stands for itself
+-- after a `\` that begins a quote with this byte, or stands for itself
 mode_after mode.Backslash b = if eqb b 60 then mode.Angle else plain_after b
 -- in `".."`, where a `\` takes the next byte with it
 mode_after mode.Double b = if eqb b 34 then mode.Plain else if eqb b 92 then mode.Escape else mode.Double
@@ -36,17 +36,17 @@ is_outside mode.Slash = true
 is_outside mode.Backslash = true
 is_outside _ = false
 
--- how many parentheses are open behind a byte
+-- how many parentheses are open after a byte
 abbrev pub depth_after : Mode → ℕ → ℕ → ℕ
 depth_after m depth b =
     if is_outside m && eqb b 40 then depth + 1 else if is_outside m && eqb b 41 then depth - 1 else depth
 
 -- the byte closes the last open parenthesis
-abbrev pub is_last : Mode → ℕ → ℕ → Bool
-is_last m depth b = is_outside m && eqb b 41 && eqb depth 1
+abbrev pub closes_outermost : Mode → ℕ → ℕ → Bool
+closes_outermost m depth b = is_outside m && eqb b 41 && eqb depth 1
 
 -- with so many parentheses open, the last of these bytes closes the outermost one, and none before it does
 abbrev pub closes : Mode → ℕ → List ℕ → Bool
 closes m depth [] = false
-closes m depth (b ∷ []) = is_last m depth b
-closes m depth (b ∷ c ∷ bs) = if is_last m depth b then false else closes (mode_after m b) (depth_after m depth b) (c ∷ bs)
+closes m depth (b ∷ []) = closes_outermost m depth b
+closes m depth (b ∷ c ∷ bs) = if closes_outermost m depth b then false else closes (mode_after m b) (depth_after m depth b) (c ∷ bs)

@@ -3,9 +3,9 @@ use Rattle.std.specs.Prelude.{Vec, ◌≡◌, ℕ, ◌+◌, ◌-◌, ◌*◌, Li
 use Rattle.std.specs.declared.alloc.Global.{Global}
 use Rattle.click_text.specs.declared.items.ItemKind.{ItemKind}
 use Rattle.click_text.specs.declared.items.ItemKind.TheVariants as kind
-use Rattle.click_text.specs.declared.unquote.Step.{Step}
-use Rattle.click_text.specs.declared.unquote.Escape.{Escape}
-use Rattle.click_text.specs.declared.unquote.Escape.TheVariants as escape
+use Rattle.click_text.specs.declared.argument_bytes.Step.{Step}
+use Rattle.click_text.specs.declared.argument_bytes.Escape.{Escape}
+use Rattle.click_text.specs.declared.argument_bytes.Escape.TheVariants as escape
 use Rattle.click_text.specs.Pieces.{digit}
 use Rattle.click_text.specs.Spans.{without_ends}
 use Rattle.click_text.specs.Items.{Item, AreItems}
@@ -37,13 +37,13 @@ second_digit h None = None
 -- what a byte does; None is bad quoting
 abbrev pub stepped : Escape → ℕ → Option Step
 -- outside `\` and `\<..>`
-stepped escape.Clear b = if eqb b 92 then Some (to escape.Behind None) else Some (to escape.Clear (Some b))
--- behind a `\`
-stepped escape.Behind b = if eqb b 60 then Some (to escape.Digits None) else Some (to escape.Clear (Some (escaped b)))
--- in `\<..>`, behind an even number of digits
+stepped escape.Clear b = if eqb b 92 then Some (to escape.Backslash None) else Some (to escape.Clear (Some b))
+-- after a `\`
+stepped escape.Backslash b = if eqb b 60 then Some (to escape.Digits None) else Some (to escape.Clear (Some (escaped b)))
+-- in `\<..>`, after an even number of digits
 stepped escape.Digits b =
     if eqb b 62 then Some (to escape.Clear None) else if eqb b 32 then Some (to escape.Digits None) else first_digit (worth b)
--- behind an odd number of them, the last of which is worth h
+-- after an odd number of them, the last of which is worth h
 stepped (escape.Half h) b = if eqb b 32 then Some (to (escape.Half h) None) else second_digit h (worth b)
 
 -- the bytes of a step
@@ -74,15 +74,15 @@ plain_item kind.Hexadecimal p = unescaped escape.Clear p
 plain_item _ p = Some p
 
 -- what items stand for
-abbrev pub plain : List Item → Option (List ℕ)
-plain [] = Some []
-plain (i ∷ items) = option_and_then (λ p. before p (plain items)) (plain_item i.kind i.bytes)
+abbrev pub plain_bytes : List Item → Option (List ℕ)
+plain_bytes [] = Some []
+plain_bytes (i ∷ items) = option_and_then (λ p. before p (plain_bytes items)) (plain_item i.kind i.bytes)
 
 -- what an argument stands for; None is bad quoting
 pub record StandsFor (text : List ℕ) (bytes : Option (List ℕ)) : Type 0 where
   pub items : List Item
   pub read : AreItems text items
-  pub plain_is : bytes ≡ plain items
+  pub plain_is : bytes ≡ plain_bytes items
 
 abbrev pub IsPlain : List ℕ → Option (Vec ℕ Global) → Type 0
 IsPlain text (Some v) = StandsFor text (Some v.items)

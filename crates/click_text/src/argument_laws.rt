@@ -3,7 +3,7 @@
 ghost use Rattle.std.specs.Prelude.{◌≡◌, ℕ, List, Option, length, false};
 ghost use Rattle.click_text.specs.declared.syntax.Span.{Span};
 ghost use Rattle.click_text.specs.Items.{Item, AreItems, bytes_of};
-ghost use Rattle.click_text.specs.Arguments.{AreArguments, InOrder, IsTextOf};
+ghost use Rattle.click_text.specs.Arguments.{AreArguments, SpansInOrder, IsTextOf};
 ghost use Rattle.click_text.specs.StringText.{IsStringText, leaves_open};
 ghost use Rattle.click_text.specs.Words.{AreWords};
 ghost use Rattle.click_text.specs.Unquote.{StandsFor};
@@ -32,7 +32,7 @@ pub fn stands_once()
 
 /// The arguments of a text stand in order, apart and inside the text.
 pub fn arguments_in_order()
-    ensures { (text : List ℕ) (spans : List Span) → AreArguments text spans → InOrder 0 spans (length text) }
+    ensures { (text : List ℕ) (spans : List Span) → AreArguments text spans → SpansInOrder 0 spans (length text) }
 {}
 
 /// The arguments of a text, joined by commas, are the text but for white space and comments.

@@ -56,7 +56,7 @@ fn words_of(alloc: Global, argument: &[u8]) -> Result<Vec<Sequence<u8>>, AllocEr
 /// The words of an argument: what stands between the white space outside quotes and parentheses, each comment read as one space. A word keeps its quotes and parentheses (Click manual, "Configuration strings").
 pub fn words(alloc: Global, argument: &[u8]) -> Result<Vec<Sequence<u8>>, TextFault>
     ensures ok { IfOk result (λ words. AreWords argument.now words.items) }
-    // Nothing but want of memory stops it.
+    // It stops only where memory runs out.
     ensures err { IfErr result (λ f. f ≡ no_memory) }
 {
     Ok(words_of(alloc, argument)?)

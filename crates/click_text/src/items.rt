@@ -1,7 +1,8 @@
 //! The items of a configuration string: white space, comments, quotes and other bytes.
 
 ghost use Rattle.std.specs.Prelude.{◌≡◌, ◌<◌, ◌≤◌, ◌+◌, ◌^◌, ℕ, length, take, IfSome, IfNone, true, false};
-ghost use Rattle.click_text.specs.Items.{is_plain, leaves, LongestItem, NoLongItem, blank_kind, depth_behind};
+ghost use Rattle.click_text.specs.Items.{is_plain, leaves, LongestItem, blank_kind, parentheses_after};
+ghost use Rattle.click_text.specs.kept.LongItems.{NoLongItem};
 
 use crate::lexer::{comment, is_white};
 use crate::strings::Mode;
@@ -34,10 +35,10 @@ impl ItemKind {
         }
     }
 
-    /// How many parentheses are open behind the item. One that closes none is passed over.
+    /// How many parentheses are open after the item. One that closes none is passed over.
     pub fn depth_after(self, depth: usize) -> usize
         requires { depth + 1 < 2 ^ 64 }
-        ensures { result ≡ depth_behind self depth }
+        ensures { result ≡ parentheses_after self depth }
     {
         match self {
             ItemKind::Byte(b'(') => depth + 1,

@@ -1,9 +1,9 @@
 //! The pieces of a text: white space, comments and tokens.
 
-ghost use Rattle.std.specs.Prelude.{◌≡◌, ◌<◌, ◌≤◌, ◌+◌, ◌^◌, ◌↔◌, ℕ, List, eqb, if◌then◌else◌, length, take, slice_index, IfOk, IfSome, IfNone, None, IsTrue, true, false};
+ghost use Rattle.std.specs.Prelude.{◌≡◌, ◌<◌, ◌≤◌, ◌+◌, ◌^◌, ℕ, eqb, if◌then◌else◌, length, take, slice_index, IfOk, IfSome, IfNone, IsTrue, true, false};
 ghost use Rattle.std.specs.List.{list_all};
-ghost use Rattle.click_text.specs.Marks.{mark_of};
-ghost use Rattle.click_text.specs.Pieces.{white, digit, name_byte, word_byte, is_word, ends_comment, IsPiece, Longest, NoPiece, port_of, token_of, piece_fault, Reads, IsBlank};
+ghost use Rattle.click_text.specs.kept.SingleBytePieces.{mark_of};
+ghost use Rattle.click_text.specs.Pieces.{white, digit, name_byte, word_byte, is_word, ends_comment, IsPiece, Longest, NoPiece, port_spelled, token_of, piece_fault, Reads};
 
 use crate::strings::string_len;
 use crate::syntax::{Ending, FaultKind, Span, TextFault, Token};
@@ -54,16 +54,6 @@ impl Piece {
             Piece::Open => Some(Token::Open(span)),
             Piece::Close => Some(Token::Close(span)),
             Piece::Bar => Some(Token::Bar(span)),
-        }
-    }
-
-    /// The piece is white space or a comment, which has no token.
-    fn is_blank(self) -> bool
-        ensures { (bytes : List ℕ) (span : Span) → IsTrue result ↔ (token_of self bytes span ≡ None) }
-    {
-        match self {
-            Piece::Blank | Piece::LineComment | Piece::BlockComment => true,
-            _ => false,
         }
     }
 }
@@ -190,7 +180,7 @@ fn comment_len(text: &[u8]) -> Option<usize>
 
 /// The port that digits spell, if there is one of that number.
 fn port_number(digits: &[u8]) -> Option<u8>
-    ensures { result ≡ port_of digits.now }
+    ensures { result ≡ port_spelled digits.now }
 {
     let mut number: u16 = 0;
     for digit in digits {
@@ -324,7 +314,7 @@ fn first_piece(text: &[u8]) -> Option<(Piece, usize)>
 }
 
 /// What is wrong at a place where these bytes follow, which no piece begins.
-fn fault_at(at: usize, text: &[u8]) -> Ending
+fn piece_fault(at: usize, text: &[u8]) -> Ending
     requires some { 0 < length text.now }
     requires fits { at + length text.now < 2 ^ 64 }
     ensures { result ≡ piece_fault at text.now }
@@ -349,7 +339,7 @@ pub fn scan(alloc: Global, text: &[u8]) -> Result<(Vec<Token>, Ending), AllocErr
     'pieces: while at < text.len() {
         let rest = &text[at..];
         let Some((piece, len)) = first_piece(rest) else {
-            return Ok((tokens, fault_at(at, rest)));
+            return Ok((tokens, piece_fault(at, rest)));
         };
         let end = at + len;
         if let Some(token) = piece.token(&rest[..len], Span { start: at, end }) {
@@ -358,23 +348,6 @@ pub fn scan(alloc: Global, text: &[u8]) -> Result<(Vec<Token>, Ending), AllocErr
         at = end;
     }
     Ok((tokens, Ending::Whole))
-}
-
-/// White space and comments alone.
-pub fn is_blank(text: &[u8]) -> bool
-    ensures { IsTrue result ↔ IsBlank text.now }
-{
-    let mut at = 0;
-    'pieces: while at < text.len() {
-        let Some((piece, len)) = first_piece(&text[at..]) else {
-            return false;
-        };
-        if !piece.is_blank() {
-            return false;
-        }
-        at += len;
-    }
-    true
 }
 
 #[cfg(test)]
@@ -427,12 +400,5 @@ mod tests {
         let (_, ending) = scan(rt.alloc(), b"a/ b")?;
         assert_eq!(rt; ending, at(FaultKind::BadByte, 1, 2));
         Ok(())
-    }
-
-    #[test]
-    fn blanks(rt: HostRuntime) {
-        assert!(rt; is_blank(b" \t\n /* (a) */ // b"));
-        assert!(rt; !is_blank(b"// a\n b"));
-        assert!(rt; !is_blank(b"/* a"));
     }
 }

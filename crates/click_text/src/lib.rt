@@ -6,25 +6,30 @@ ghost use Rattle.click_text.specs.declared.syntax.Config.{Config};
 ghost use Rattle.click_text.specs.Faults.{IsMemoryOr};
 ghost use Rattle.click_text.specs.Spelling.{longest_text, too_large, Spells, IsAnswered, IsGiven};
 
+mod argument_bytes;
 pub mod argument_laws;
-pub mod argument_words;
-pub mod arguments;
-pub mod items;
+mod argument_spans;
+mod argument_words;
+mod items;
 pub mod laws;
-pub mod lexer;
-pub mod parser;
+mod lexer;
+mod parser;
 pub mod sequence;
-pub mod strings;
+mod strings;
 pub mod syntax;
 #[cfg(test)]
 mod tests;
-pub mod tokens;
-pub mod unquote;
+mod tokens;
 
+pub use argument_bytes::unquote;
+pub use argument_spans::arguments;
+pub use argument_words::words;
+pub use items::{ItemKind, first_item};
 use lexer::scan;
 use parser::config_of;
 use std::alloc::Global;
-use syntax::{Config, TextFault};
+pub use strings::string_len;
+pub use syntax::{Config, Span, TextFault};
 
 /// How many bytes a text may have.
 pub const LONGEST_TEXT: usize = 1_048_576;

@@ -5,7 +5,7 @@ ghost use Rattle.click_text.specs.declared.syntax.Token.{Token};
 ghost use Rattle.click_text.specs.declared.syntax.Statement.{Statement};
 ghost use Rattle.click_text.specs.Grammar.{IsText, NestsWithin, tree_of};
 ghost use Rattle.click_text.specs.Faults.{IsFaultAmong, IsMemoryOr};
-ghost use Rattle.click_text.specs.Machine.{Place, top, Use, Target, Context, start, State, step, outcome, between, statement_wanted, name_read, define, body_opened, element_wanted, head_read, class_wanted, classified, used, grown, Stops, NoStatement};
+ghost use Rattle.click_text.specs.kept.ParserStates.{Place, top, Use, Target, Context, start, State, step, outcome, between, statement_wanted, name_read, define, body_opened, element_wanted, head_read, class_wanted, classified, body_read, element_read, Stops, NoStatement};
 
 use crate::sequence::Sequence;
 use crate::syntax::{
@@ -87,7 +87,7 @@ impl<'a> Parser<'a> {
         }
     }
 
-    /// A declaration behind the first of its names.
+    /// A declaration after the first of its names.
     #[cycle(parser)]
     fn declaration(&mut self, first: Span, depth: usize) -> Result<Statement, Stop>
         ensures goes_on { IfOk result (λ st. (p : Place) (ss : List Statement) →
@@ -103,7 +103,7 @@ impl<'a> Parser<'a> {
         Ok(Statement::Declaration(Declaration { names, class, text }))
     }
 
-    /// A definition or a synonym behind its keyword.
+    /// A definition or a synonym after its keyword.
     #[cycle(parser)]
     fn definition(&mut self, depth: usize) -> Result<Statement, Stop>
         ensures goes_on { IfOk result (λ st. (p : Place) (ss : List Statement) →
@@ -158,7 +158,7 @@ impl<'a> Parser<'a> {
     #[cycle(parser)]
     fn element(&mut self, depth: usize) -> Result<Element, Stop>
         ensures goes_on { IfOk result (λ e. (cx : Context) →
-            outcome depth (element_wanted self.old.bodies cx) self.old.tokens.items.now ≡ outcome depth (grown self.new.bodies cx e) self.new.tokens.items.now) }
+            outcome depth (element_wanted self.old.bodies cx) self.old.tokens.items.now ≡ outcome depth (element_read self.new.bodies cx e) self.new.tokens.items.now) }
         ensures stops { IfErr result (λ s. (cx : Context) →
             Stops s (outcome depth (element_wanted self.old.bodies cx) self.old.tokens.items.now) self.new.tokens.items.now) }
         ensures shorter { OnOk result (length self.new.tokens.items.now < length self.old.tokens.items.now) }
@@ -227,7 +227,7 @@ impl<'a> Parser<'a> {
     fn body(&mut self, brace: Span, depth: usize) -> Result<usize, Stop>
         requires { self.old.tokens.items.now ≡ Token.Open brace ∷ drop 1 self.old.tokens.items.now }
         ensures goes_on { IfOk result (λ at. (s : State) (u : Use) → step s (Token.Open brace) ≡ Some (body_opened self.old.bodies brace u) →
-            outcome depth s self.old.tokens.items.now ≡ outcome depth (used self.new.bodies u at) self.new.tokens.items.now) }
+            outcome depth s self.old.tokens.items.now ≡ outcome depth (body_read self.new.bodies u at) self.new.tokens.items.now) }
         ensures stops { IfErr result (λ e. (s : State) (u : Use) → step s (Token.Open brace) ≡ Some (body_opened self.old.bodies brace u) →
             Stops e (outcome depth s self.old.tokens.items.now) self.new.tokens.items.now) }
         ensures shorter { OnOk result (length self.new.tokens.items.now < length self.old.tokens.items.now) }

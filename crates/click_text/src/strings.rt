@@ -1,20 +1,20 @@
 //! Configuration strings: where quotes and comments stand in them.
 
 ghost use Rattle.std.specs.Prelude.{◌≡◌, ◌<◌, ◌≤◌, ◌+◌, ◌^◌, ℕ, length, take, IfSome, IfNone, true, false};
-ghost use Rattle.click_text.specs.Strings.{mode_after, plain_after, is_outside, is_last, depth_after, closes};
+ghost use Rattle.click_text.specs.Strings.{mode_after, plain_after, is_outside, closes_outermost, depth_after, closes};
 
 /// What the next byte of a configuration string stands in.
 #[derive(Clone, Copy, Debug, PartialEq, Eq)]
 pub enum Mode {
     /// Neither a quote nor a comment.
     Plain,
-    /// Behind a `/` that may begin a comment.
+    /// After a `/` that may begin a comment.
     Slash,
-    /// Behind a `\` that may begin `\<..>`.
+    /// After a `\` that may begin `\<..>`.
     Backslash,
     /// In `".."`.
     Double,
-    /// In `".."`, behind a `\`.
+    /// In `".."`, after a `\`.
     Escape,
     /// In `'..'`.
     Single,
@@ -24,13 +24,13 @@ pub enum Mode {
     Line,
     /// In a comment up to the next `*/`.
     Block,
-    /// In such a comment, behind a `*`.
+    /// In such a comment, after a `*`.
     Star,
 }
 
 impl Mode {
-    /// Behind a byte that is neither in a quote nor in a comment.
-    fn behind_plain(byte: u8) -> Mode
+    /// After a byte that is neither in a quote nor in a comment.
+    fn after_plain(byte: u8) -> Mode
         ensures { result ≡ plain_after byte }
     {
         match byte {
@@ -47,12 +47,12 @@ impl Mode {
         ensures { result ≡ mode_after self byte }
     {
         match self {
-            Mode::Plain => Mode::behind_plain(byte),
+            Mode::Plain => Mode::after_plain(byte),
             Mode::Slash if byte == b'/' => Mode::Line,
             Mode::Slash if byte == b'*' => Mode::Block,
-            Mode::Slash => Mode::behind_plain(byte),
+            Mode::Slash => Mode::after_plain(byte),
             Mode::Backslash if byte == b'<' => Mode::Angle,
-            Mode::Backslash => Mode::behind_plain(byte),
+            Mode::Backslash => Mode::after_plain(byte),
             Mode::Double if byte == b'"' => Mode::Plain,
             Mode::Double if byte == b'\\' => Mode::Escape,
             Mode::Double => Mode::Double,
@@ -82,13 +82,13 @@ impl Mode {
     }
 
     /// The byte closes the last open parenthesis.
-    fn is_last(self, depth: usize, byte: u8) -> bool
-        ensures { result ≡ is_last self depth byte }
+    fn closes_outermost(self, depth: usize, byte: u8) -> bool
+        ensures { result ≡ closes_outermost self depth byte }
     {
         self.is_outside() && byte == b')' && depth == 1
     }
 
-    /// How many parentheses are open behind a byte.
+    /// How many parentheses are open after a byte.
     fn depth_after(self, depth: usize, byte: u8) -> usize
         requires { depth + 1 < 2 ^ 64 }
         ensures { result ≡ depth_after self depth byte }
@@ -104,7 +104,7 @@ impl Mode {
     }
 }
 
-/// How many bytes behind an opening parenthesis end with the one that closes it.
+/// How many bytes after an opening parenthesis end with the one that closes it.
 pub fn string_len(text: &[u8]) -> Option<usize>
     ensures within { IfSome result (λ len. len ≤ length text.now) }
     ensures closed { IfSome result (λ len. closes Mode.Plain 1 (take len text.now) ≡ true) }
@@ -113,7 +113,7 @@ pub fn string_len(text: &[u8]) -> Option<usize>
     let mut mode = Mode::Plain;
     let mut depth = 1;
     for (i, byte) in text.iter().enumerate() {
-        if mode.is_last(depth, *byte) {
+        if mode.closes_outermost(depth, *byte) {
             return Some(i + 1);
         }
         depth = mode.depth_after(depth, *byte);

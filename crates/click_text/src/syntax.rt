@@ -1,12 +1,15 @@
 //! Tokens and the tree of a configuration.
 
 ghost use Rattle.std.specs.Prelude.{◌≡◌};
-ghost use Rattle.click_text.specs.Faults.{span_of, end_fault, no_memory};
+ghost use Rattle.click_text.specs.Faults.{span_of, no_memory};
+ghost use Rattle.click_text.specs.kept.EndFault.{end_fault};
 ghost use Rattle.click_text.specs.Spans.{bytes_at, string_text};
 ghost use Rattle.click_text.specs.Spelling.{too_large};
 
 use crate::sequence::Sequence;
 use std::alloc::AllocError;
+use std::fmt;
+use thiserror::Error;
 
 /// The bytes of a text from `start` on, up to but without `end`. Bytes are counted from 0.
 #[derive(Clone, Copy, Debug, PartialEq, Eq)]
@@ -141,7 +144,7 @@ pub struct Body {
     pub statements: Sequence<Statement>,
 }
 
-/// A whole configuration, with its text. A body stands behind all bodies inside it, and is named by its place.
+/// A whole configuration, with its text. A body stands after all bodies inside it, and is named by its place.
 #[derive(Drop)]
 pub struct Config {
     pub text: Sequence<u8>,
@@ -150,25 +153,33 @@ pub struct Config {
 }
 
 /// What is wrong with a text. The numbers are those that operators see.
-#[derive(Clone, Copy, Debug, PartialEq, Eq)]
+#[derive(Clone, Copy, Debug, Error, PartialEq, Eq)]
 pub enum FaultKind {
+    #[error("1 BadByte")]
     BadByte = 1,
+    #[error("2 UnclosedComment")]
     UnclosedComment = 2,
+    #[error("3 UnclosedString")]
     UnclosedString = 3,
+    #[error("4 Unexpected")]
     Unexpected = 4,
+    #[error("5 TooDeep")]
     TooDeep = 5,
+    #[error("6 TooLarge")]
     TooLarge = 6,
+    #[error("7 NoMemory")]
     NoMemory = 7,
 }
 
-/// A fault of a text, and where it stands.
-#[derive(Clone, Copy, Debug, PartialEq, Eq)]
+/// A fault of a text, and where it stands. TooLarge and NoMemory stand nowhere: their span is 0 to 0.
+#[derive(Clone, Copy, Debug, Error, PartialEq, Eq)]
+#[error("{kind}{place}", place = self.place())]
 pub struct TextFault {
     pub kind: FaultKind,
     pub span: Span,
 }
 
-/// How the reading of tokens ends: behind the whole text, or where no piece begins.
+/// How the reading of tokens ends: after the whole text, or where no piece begins.
 #[derive(Clone, Copy, Debug, PartialEq, Eq)]
 pub enum Ending {
     Whole,
@@ -177,7 +188,7 @@ pub enum Ending {
 
 impl Token {
     /// Where it stands.
-    pub fn span(&self) -> Span
+    pub(crate) fn span(&self) -> Span
         ensures { result ≡ span_of self.now }
     {
         match *self {
@@ -202,7 +213,7 @@ impl Token {
 
 impl Ending {
     /// The fault at the end of a text of that many bytes.
-    pub fn fault(&self, size: usize) -> TextFault
+    pub(crate) fn fault(&self, size: usize) -> TextFault
         ensures { result ≡ end_fault size self.now }
     {
         match *self {
@@ -218,8 +229,28 @@ impl Ending {
     }
 }
 
+/// How a fault's text ends: with its place in bytes, where it has one.
+#[derive(Clone, Copy)]
+struct Place(Option<Span>);
+
+impl fmt::Display for Place {
+    fn fmt<W: fmt::Write>(&self, f: &mut fmt::Formatter<W>) -> fmt::Result {
+        match self.0 {
+            Some(span) => write!(f, " at bytes {} to {}", span.start, span.end),
+            None => Ok(()),
+        }
+    }
+}
+
 impl TextFault {
-    /// Want of memory.
+    fn place(&self) -> Place {
+        match self.kind {
+            FaultKind::TooLarge | FaultKind::NoMemory => Place(None),
+            _ => Place(Some(self.span)),
+        }
+    }
+
+    /// Memory ran out.
     pub fn no_memory() -> TextFault
         ensures { result ≡ no_memory }
     {

@@ -2,7 +2,7 @@
 
 use crate::parse;
 use crate::syntax::{Class, Config, FaultKind, Head, Span, Statement, TextFault};
-use std::alloc::Global;
+use std::alloc::{AllocError, Global};
 use std::process::Abort;
 use std::test::Fail;
 
@@ -303,5 +303,30 @@ fn the_longest_text(rt: HostRuntime) -> Result<(), Fail> {
     text.push(b' ')?;
     let fault = TextFault::too_large();
     assert_eq!(rt; fault_of(rt.alloc(), &text), Some(fault));
+    Ok(())
+}
+
+#[test]
+fn faults_as_text(rt: HostRuntime) -> Result<(), AllocError> {
+    let cases = [
+        (FaultKind::BadByte, "1 BadByte at bytes 2 to 5"),
+        (
+            FaultKind::UnclosedComment,
+            "2 UnclosedComment at bytes 2 to 5",
+        ),
+        (
+            FaultKind::UnclosedString,
+            "3 UnclosedString at bytes 2 to 5",
+        ),
+        (FaultKind::Unexpected, "4 Unexpected at bytes 2 to 5"),
+        (FaultKind::TooDeep, "5 TooDeep at bytes 2 to 5"),
+        (FaultKind::TooLarge, "6 TooLarge"),
+        (FaultKind::NoMemory, "7 NoMemory"),
+    ];
+    let span = Span { start: 2, end: 5 };
+    for (kind, expected) in cases {
+        let text = format!(in rt.alloc(); "{}", TextFault { kind, span })?;
+        assert_eq!(rt; text.as_str(), expected);
+    }
     Ok(())
 }

@@ -11,7 +11,7 @@ ghost use Rattle.click_text.specs.declared.syntax.Link.{Link};
 ghost use Rattle.click_text.specs.declared.syntax.Statement.{Statement};
 ghost use Rattle.click_text.specs.declared.syntax.Body.{Body};
 ghost use Rattle.click_text.specs.Grammar.{element, declaration};
-ghost use Rattle.click_text.specs.Machine.{Place, inside, Use, of_names, Context, linked, Side, out, into, outcome, between, name_wanted, name_read, class_wanted, listed_read, define, define_named, required, ending, body_opened, formal_wanted, formal_read, element_wanted, word_read, head_read, after, port_wanted, number_wanted, close_wanted, arrow_wanted, a_requirement, grown, ported, behind, past_word, past_name, past_formal, Stops, Lists};
+ghost use Rattle.click_text.specs.kept.ParserStates.{Place, inside, Use, of_names, Context, linked, Side, out, into, outcome, between, name_wanted, name_read, class_wanted, listed_read, define, define_named, required, ending, body_opened, formal_wanted, formal_read, element_wanted, word_read, head_read, after, port_wanted, number_wanted, close_wanted, arrow_wanted, a_requirement, element_read, ported, past_element, past_word, past_name, past_formal, Stops, Lists};
 
 use crate::sequence::Sequence;
 use crate::syntax::{Port, Span, Token};
@@ -85,7 +85,7 @@ impl<'a> Tokens<'a> {
         Some(first)
     }
 
-    /// The names of a declaration behind the first of them, with the `::` behind them.
+    /// The names of a declaration after the first of them, with the `::` after them.
     pub fn names(&mut self, alloc: Global, first: Span) -> Result<Sequence<Span>, Stop>
         ensures goes_on { IfOk result (λ ns. (n : ℕ) (bs : List Body) (p : Place) (ss : List Statement) →
             outcome n (name_read bs p ss (first ∷ [])) self.old.items.now ≡ outcome n (class_wanted bs (of_names ns p ss)) self.new.items.now) }
@@ -150,7 +150,7 @@ impl<'a> Tokens<'a> {
         Ok(name)
     }
 
-    /// The parameters of a body behind its open brace, with the bar behind them.
+    /// The parameters of a body after its open brace, with the bar after them.
     pub fn formals(&mut self, alloc: Global) -> Result<Sequence<Span>, Stop>
         ensures goes_on { IfOk result (λ fs. (n : ℕ) (bs : List Body) (a : Span) (u : Use) →
             outcome n (body_opened bs a u) self.old.items.now ≡ outcome n (between bs (inside a fs u) []) self.new.items.now) }
@@ -240,7 +240,7 @@ impl<'a> Tokens<'a> {
     /// What follows an element: an arrow with its ports, or the end of the chain.
     pub fn further(&mut self) -> Result<Option<Joint>, Stop>
         ensures goes_on { IfOk result (λ joint. (n : ℕ) (bs : List Body) (p : Place) (ss : List Statement) (f : Element) (ls : List Link) →
-            outcome n (after bs p ss f ls) self.old.items.now ≡ outcome n (behind joint bs p ss f ls) self.new.items.now) }
+            outcome n (after bs p ss f ls) self.old.items.now ≡ outcome n (past_element joint bs p ss f ls) self.new.items.now) }
         ensures stops { IfErr result (λ s. (n : ℕ) (bs : List Body) (p : Place) (ss : List Statement) (f : Element) (ls : List Link) →
             Stops s (outcome n (after bs p ss f ls) self.old.items.now) self.new.items.now) }
         ensures shorter { OnOk result (length self.new.items.now ≤ length self.old.items.now) }
@@ -344,7 +344,7 @@ impl<'a> Tokens<'a> {
         Ok(number)
     }
 
-    /// Whether a name is declared: goes past the `::` where one stands behind it.
+    /// Whether a name is declared: goes past the `::` where one stands after it.
     pub fn double_colon(&mut self) -> bool
         ensures goes_on { (n : ℕ) (bs : List Body) (cx : Context) (s : Span) →
             outcome n (word_read bs cx s) self.old.items.now ≡ outcome n (past_word result bs cx s) self.new.items.now }
@@ -360,10 +360,10 @@ impl<'a> Tokens<'a> {
         true
     }
 
-    /// A configuration string, or none: behind a head, behind the class of names, or behind `require`.
+    /// A configuration string, or none: after a head, after the class of names, or after `require`.
     pub fn string(&mut self) -> Option<Span>
         ensures of_head { (n : ℕ) (bs : List Body) (cx : Context) (h : Head) →
-            outcome n (head_read bs cx h) self.old.items.now ≡ outcome n (grown bs cx (element h result)) self.new.items.now }
+            outcome n (head_read bs cx h) self.old.items.now ≡ outcome n (element_read bs cx (element h result)) self.new.items.now }
         ensures of_names { (n : ℕ) (bs : List Body) (p : Place) (ss : List Statement) (ns : List Span) (c : Class) →
             outcome n (listed_read bs p ss ns c) self.old.items.now ≡ outcome n (ending bs p ss (declaration ns c result)) self.new.items.now }
         ensures of_requirement { (n : ℕ) (bs : List Body) (p : Place) (ss : List Statement) →

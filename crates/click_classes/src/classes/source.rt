@@ -12,7 +12,7 @@ use crate::state::State;
 use crate::values::number::{number_in, number_or_minus_one};
 use crate::values::truth::truth;
 use click_text::sequence::Sequence;
-use click_text::unquote::unquote;
+use click_text::unquote;
 use std::alloc::Global;
 
 /// The bytes of a packet.

@@ -9,7 +9,7 @@ use Rattle.std.proofs.lemmas.List.Folds.{list_all-append, list_any-append}
 use Rattle.click_text.specs.declared.lexer.Piece.TheVariants as piece
 use Rattle.click_text.specs.Pieces.{digit, is_word, IsPiece}
 use Rattle.click_text.proofs.Beginnings.{word_form}
-use Rattle.click_text.proofs.Words.{word_on}
+use Rattle.click_text.proofs.WordForms.{word_on}
 use Rattle.click_expand.specs.Elements.{numbered}
 use Rattle.click_expand.specs.Flat.{flat_name}
 

@@ -20,7 +20,7 @@ use Rattle.click_text.specs.declared.syntax.Body.{Body}
 use Rattle.click_text.specs.declared.lexer.Piece.{Piece}
 use Rattle.click_text.specs.declared.lexer.Piece.TheVariants as piece
 use Rattle.click_text.specs.Spans.{bytes_at}
-use Rattle.click_text.specs.Pieces.{IsPiece, span, number_after, port_of, token_of, Reads, ends, passes, takes, stuck}
+use Rattle.click_text.specs.Pieces.{IsPiece, span, decimal_after, port_spelled, token_of, Reads, ends, passes, takes, stuck}
 use Rattle.click_text.specs.Grammar.{body, IsPort, no_port, bracketed, IsString, no_string, string, IsEnd, semicolon, before_close, at_end, IsFormals, last_formal, more_formals, IsHeader, no_header, header, IsNames, last_name, more_names, IsBody, braces, IsClass, by_name, by_body, IsHead, word, declared, compound, IsElement, an_element, IsLinks, no_links, more_links, IsStatement, chained, declarations, definition, synonym, requirement, IsStatements, no_more, empty, stated}
 use Rattle.click_expand.proofs.ReadsBack.FlatNames.{IsName}
 
@@ -58,9 +58,9 @@ Tokens text ts = AllByRecursion (RightToken text) ts
 abbrev Bodies : List ℕ → List Body → Type 0
 Bodies text bs = AllByRecursion (RightBody text) bs
 
-right_number : (text : List ℕ) (s : Span) (p : List ℕ) → RightToken text (token.Number (port_of p) s)
-right_number text s p = elim (cases_Bool (nat_lt (number_after 0 p) 256)) [
-  | inl e ↦ rw e (ltb-true (number_after 0 p) 256 e)
+right_number : (text : List ℕ) (s : Span) (p : List ℕ) → RightToken text (token.Number (port_spelled p) s)
+right_number text s p = elim (cases_Bool (nat_lt (decimal_after 0 p) 256)) [
+  | inl e ↦ rw e (ltb-true (decimal_after 0 p) 256 e)
   | inr e ↦ rw e tt
 ]
 
@@ -72,7 +72,7 @@ right_token text piece.Blank p s tok h b e = cc
 right_token text piece.LineComment p s tok h b e = cc
 right_token text piece.BlockComment p s tok h b e = cc
 right_token text piece.Word p s tok h b e = right_by text (token.Word s) tok e (rw b h)
-right_token text piece.Number p s tok h b e = right_by text (token.Number (port_of p) s) tok e (right_number text s p)
+right_token text piece.Number p s tok h b e = right_by text (token.Number (port_spelled p) s) tok e (right_number text s p)
 right_token text piece.Elementclass p s tok h b e = right_by text (token.Elementclass s) tok e tt
 right_token text piece.Require p s tok h b e = right_by text (token.Require s) tok e tt
 right_token text piece.Formal p s tok h b e = right_by text (token.Formal s) tok e tt

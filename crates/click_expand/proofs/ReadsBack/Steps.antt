@@ -14,9 +14,9 @@ use Rattle.click_text.specs.declared.lexer.Piece.TheVariants as piece
 use Rattle.click_text.specs.declared.strings.Mode.TheVariants as mode
 use Rattle.click_text.specs.Strings.{closes}
 use Rattle.click_text.specs.Spans.{bytes_at}
-use Rattle.click_text.specs.Pieces.{white, digit, word_byte, is_word, IsPiece, Longest, span, number_after, port_of, Reads, passes, takes}
+use Rattle.click_text.specs.Pieces.{white, digit, word_byte, is_word, IsPiece, Longest, span, decimal_after, port_spelled, Reads, passes, takes}
 use Rattle.click_text.proofs.Beginnings.{family, word_first, word_form}
-use Rattle.click_text.proofs.Words.{word_most}
+use Rattle.click_text.proofs.WordForms.{word_most}
 use Rattle.click_text.proofs.Longest.{longest_blank, longest_mark, longest_colons, longest_arrow, longest_word, longest_string}
 
 -- no word goes on with these bytes
@@ -63,7 +63,7 @@ pub read_word : (at : ℕ) (p r : List ℕ) (ts : List Token) → IsPiece piece.
 read_word at p r ts h s m =
     takes at (p ++ r) ts ending.Whole piece.Word (length p) (token.Word (span at (at + length p))) (longest_front piece.Word p r refl h s) refl (rw (rest_of p r) m)
 
-pub read_number : (at : ℕ) (p r : List ℕ) (ts : List Token) (n : ℕ) → IsPiece piece.Number p → port_of p ≡ Some n → Stops r → Reads (at + length p) r ts ending.Whole →
+pub read_number : (at : ℕ) (p r : List ℕ) (ts : List Token) (n : ℕ) → IsPiece piece.Number p → port_spelled p ≡ Some n → Stops r → Reads (at + length p) r ts ending.Whole →
     Reads at (p ++ r) (token.Number (Some n) (span at (at + length p)) ∷ ts) ending.Whole
 read_number at p r ts n h e s m =
     takes at (p ++ r) ts ending.Whole piece.Number (length p) (token.Number (Some n) (span at (at + length p))) (longest_front piece.Number p r refl h s) (rw (front_of p r, e) refl) (rw (rest_of p r) m)
@@ -98,7 +98,7 @@ read_arrow at r ts m = takes at (45 ∷ 62 ∷ r) ts ending.Whole piece.Arrow 2 
 
 -- the digits of a port
 abbrev IsSpelt : ℕ → Bool
-IsSpelt n = eqb (number_after 0 (decimal n)) n && (list_all digit (decimal n) && nat_lt 0 (length (decimal n)))
+IsSpelt n = eqb (decimal_after 0 (decimal n)) n && (list_all digit (decimal n) && nat_lt 0 (length (decimal n)))
 
 spelt : (n : ℕ) → n < 256 → IsSpelt n ≡ true
 unfolding digits
@@ -106,14 +106,14 @@ spelt n h = agree_below_at IsSpelt (λ (m : ℕ). true) 256 n refl h
 
 pub port_digits : (n : ℕ) → n < 256 → IsPiece piece.Number (decimal n)
 port_digits n h =
-    let a = and_parts (eqb (number_after 0 (decimal n)) n) (list_all digit (decimal n) && nat_lt 0 (length (decimal n))) (spelt n h) in
+    let a = and_parts (eqb (decimal_after 0 (decimal n)) n) (list_all digit (decimal n) && nat_lt 0 (length (decimal n))) (spelt n h) in
     let b = and_parts (list_all digit (decimal n)) (nat_lt 0 (length (decimal n))) a.1 in
     (ltb-true 0 (length (decimal n)) b.1, b.0)
 
-pub port_of_digits : (n : ℕ) → n < 256 → port_of (decimal n) ≡ Some n
+pub port_of_digits : (n : ℕ) → n < 256 → port_spelled (decimal n) ≡ Some n
 port_of_digits n h =
-    let a = and_parts (eqb (number_after 0 (decimal n)) n) (list_all digit (decimal n) && nat_lt 0 (length (decimal n))) (spelt n h) in
-    let e : number_after 0 (decimal n) ≡ n = eqb-true (number_after 0 (decimal n)) n a.0 in
+    let a = and_parts (eqb (decimal_after 0 (decimal n)) n) (list_all digit (decimal n) && nat_lt 0 (length (decimal n))) (spelt n h) in
+    let e : decimal_after 0 (decimal n) ≡ n = eqb-true (decimal_after 0 (decimal n)) n a.0 in
     rw (e, lt-ltb n 256 h) refl
 
 -- where a text goes on

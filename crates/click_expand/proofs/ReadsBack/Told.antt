@@ -13,7 +13,7 @@ use Rattle.click_text.specs.declared.syntax.Statement.{Statement}
 use Rattle.click_text.specs.declared.lexer.Piece.TheVariants as piece
 use Rattle.click_text.specs.Spans.{bytes_at, without_ends}
 use Rattle.click_text.specs.Pieces.{IsPiece, span, Reads, ends}
-use Rattle.click_text.specs.Grammar.{port, IsPort, no_port, bracketed, IsString, no_string, string, semicolon, by_name, declared, word, an_element, no_links, more_links, chained, IsStatements, no_more, stated, NestsWithin}
+use Rattle.click_text.specs.Grammar.{written_port, IsPort, no_port, bracketed, IsString, no_string, string, semicolon, by_name, declared, word, an_element, no_links, more_links, chained, IsStatements, no_more, stated, NestsWithin}
 use Rattle.click_expand.specs.declared.flat.FlatElement.{FlatElement}
 use Rattle.click_expand.specs.declared.flat.Connection.{Connection}
 use Rattle.click_expand.specs.declared.flat.Flat.{Flat}
@@ -80,7 +80,7 @@ out_some text at rest bytes n l b e =
     let d = at + 1 + 1 + length (decimal n) in
     let R : List Token → List ℕ → Type 0 = λ us t. Reads at t us ending.Whole in
     record {
-      port = Some (port n (span (at + 1) (at + 1 + 1)) (span d (d + 1)));
+      port = Some (written_port n (span (at + 1) (at + 1 + 1)) (span d (d + 1)));
       number = refl;
       behind = d + 1;
       there = behind text d (93 ∷ []) rest e3;
@@ -103,7 +103,7 @@ in_some text at rest bytes n l b e =
     let e4 = behind text d (93 ∷ []) (32 ∷ rest) e3 in
     let R : List Token → List ℕ → Type 0 = λ us t. Reads at t us ending.Whole in
     record {
-      port = Some (port n (span at (at + 1)) (span d (d + 1)));
+      port = Some (written_port n (span at (at + 1)) (span d (d + 1)));
       number = refl;
       behind = d + 1 + 1;
       there = behind text (d + 1) (32 ∷ []) rest e4;

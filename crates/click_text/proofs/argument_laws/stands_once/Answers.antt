@@ -1,7 +1,7 @@
 use Rattle.std.proofs.Common.{◌∙◌, sym, ap}
-use Rattle.click_text.specs.Unquote.{plain}
+use Rattle.click_text.specs.Unquote.{plain_bytes}
 use Rattle.click_text.proofs.ItemReading.{items_once}
 use Rattle.click_text.proofs.argument_laws.stands_once.Goals as goal
 
 pub returns : goal.returns
-returns c = λ text a b h k. h.plain_is ∙ ap plain (items_once h.read k.read) ∙ sym k.plain_is
+returns c = λ text a b h k. h.plain_is ∙ ap plain_bytes (items_once h.read k.read) ∙ sym k.plain_is

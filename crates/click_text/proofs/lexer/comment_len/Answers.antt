@@ -13,8 +13,8 @@ no_mark a b h = elim (cases_Bool (eqb a 42 && eqb b 47)) [
 abbrev NoMark : List ℕ → ℕ → Type 0
 NoMark text n = (k : ℕ) → k < n → get_or text k 0 ≡ 42 → get_or text (suc k) 0 ≡ 47 → ⊥
 
-behind : (x : ℕ) (r : List ℕ) (n : ℕ) → NoMark (x ∷ r) (suc n) → NoMark r n
-behind x r n h k l a b = h (suc k) (omega arith) a b
+after_first : (x : ℕ) (r : List ℕ) (n : ℕ) → NoMark (x ∷ r) (suc n) → NoMark r n
+after_first x r n h k l a b = h (suc k) (omega arith) a b
 
 -- the first `*/` ends a comment
 ends_here : (text : List ℕ) (n : ℕ) → suc n < length text → NoMark text n → get_or text n 0 ≡ 42 → get_or text (suc n) 0 ≡ 47 → ends_comment (take (suc (suc n)) text) ≡ true
@@ -23,7 +23,7 @@ ends_here (x ∷ []) n l h a b = absurd (omega arith)
 ends_here (x ∷ y ∷ r) zero l h a b = rw (a, b) refl
 ends_here (x ∷ y ∷ []) (suc n) l h a b = absurd (omega arith)
 ends_here (x ∷ y ∷ z ∷ r) (suc n) l h a b =
-    rw (no_mark x y (h 0 (omega arith))) (ends_here (y ∷ z ∷ r) n (omega arith) (behind x (y ∷ z ∷ r) n h) a b)
+    rw (no_mark x y (h 0 (omega arith))) (ends_here (y ∷ z ∷ r) n (omega arith) (after_first x (y ∷ z ∷ r) n h) a b)
 
 ends_nowhere : (text : List ℕ) (s : ℕ) → length text ≡ suc s → NoMark text s → (n : ℕ) → ends_comment (take n text) ≡ false
 ends_nowhere [] s e h n = absurd (omega arith)
@@ -35,7 +35,7 @@ ends_nowhere (x ∷ y ∷ r) s e h (suc (suc zero)) = no_mark x y (h 0 (omega ar
 ends_nowhere (x ∷ y ∷ []) s e h (suc (suc (suc n))) = no_mark x y (h 0 (omega arith))
 ends_nowhere (x ∷ y ∷ z ∷ r) zero e h (suc (suc (suc n))) = absurd (omega arith)
 ends_nowhere (x ∷ y ∷ z ∷ r) (suc s) e h (suc (suc (suc n))) =
-    rw (no_mark x y (h 0 (omega arith))) (ends_nowhere (y ∷ z ∷ r) s (omega arith) (behind x (y ∷ z ∷ r) s h) (suc (suc n)))
+    rw (no_mark x y (h 0 (omega arith))) (ends_nowhere (y ∷ z ∷ r) s (omega arith) (after_first x (y ∷ z ∷ r) s h) (suc (suc n)))
 
 ends_nowhere_in : (text : List ℕ) → NoMark text (length text - 1) → (n : ℕ) → ends_comment (take n text) ≡ false
 ends_nowhere_in [] h zero = refl

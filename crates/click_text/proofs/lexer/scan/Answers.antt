@@ -9,9 +9,9 @@ pub returns-in_default : goal.returns-in_default
 returns-in_default c =
     let text = c.args.text.now in
     let at = c.pieces.at in
-    let e = rw (take_rest text at) at c.fault_at.ensures in
+    let e = rw (take_rest text at) at c.piece_fault.ensures in
     let r = stuck at (drop at text) (omega (arith, length-drop at text)) (none_tail text at c.in_default.ensures.none) in
-    rw append-nil at (c.pieces.invariant.reads [] c.fault_at.result (rw e r))
+    rw append-nil at (c.pieces.invariant.reads [] c.piece_fault.result (rw e r))
 
 pub pieces-preserved-in_ok-push : goal.pieces-preserved-in_ok-push
 pieces-preserved-in_ok-push c =

@@ -1,5 +1,5 @@
 use Rattle.std.proofs.Common.{[], refl, arith}
-use Rattle.click_text.specs.Machine.{body_opened, formal_wanted}
+use Rattle.click_text.specs.kept.ParserStates.{body_opened, formal_wanted}
 use Rattle.click_text.proofs.Takes.{unfolded_by, otherwise}
 use Rattle.click_text.proofs.Steps.{same_step, same_end}
 use Rattle.click_text.proofs.tokens.Tokens.formals.Goals as goal

@@ -1,10 +1,10 @@
 use Rattle.std.proofs.Common.{◌≡◌, ℕ, ◌≤◌, List, length}
 use Rattle.click_text.specs.declared.syntax.Span.{Span}
 use Rattle.click_text.specs.declared.syntax.Body.{Body}
-use Rattle.click_text.specs.Machine.{Use, outcome, body_opened, formal_wanted}
+use Rattle.click_text.specs.kept.ParserStates.{Use, outcome, body_opened, formal_wanted}
 use Rattle.click_text.proofs.tokens.Tokens.formals.Given as goal
 
--- the run from behind the brace on goes on as one from behind the parameters so far
+-- the run from after the brace on goes on as one from after the parameters so far
 abbrev pub invariant-formals : goal.invariant-formals
 invariant-formals l = record {
   same : (n : ℕ) (bs : List Body) (a : Span) (u : Use) → outcome n (body_opened bs a u) l.fn.self.items.now

@@ -1,10 +1,10 @@
 use Rattle.std.proofs.Common.{◌≡◌, ℕ, ◌≤◌, [], ◌∷◌, List, length}
 use Rattle.click_text.specs.declared.syntax.Statement.{Statement}
 use Rattle.click_text.specs.declared.syntax.Body.{Body}
-use Rattle.click_text.specs.Machine.{Place, outcome, name_read}
+use Rattle.click_text.specs.kept.ParserStates.{Place, outcome, name_read}
 use Rattle.click_text.proofs.tokens.Tokens.names.Given as goal
 
--- the run from behind the first name on goes on as one from behind the names so far
+-- the run from after the first name on goes on as one from after the names so far
 abbrev pub invariant-names : goal.invariant-names
 invariant-names l = record {
   same : (n : ℕ) (bs : List Body) (p : Place) (ss : List Statement) → outcome n (name_read bs p ss (l.fn.first ∷ [])) l.fn.self.items.now

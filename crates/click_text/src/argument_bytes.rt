@@ -4,26 +4,26 @@ ghost use Rattle.std.specs.Prelude.{◌≡◌, ◌<◌, IfOk, IfErr, IfSome};
 ghost use Rattle.click_text.specs.Faults.{no_memory};
 ghost use Rattle.click_text.specs.Spans.{without_ends};
 ghost use Rattle.click_text.specs.Unquote.{worth, escaped, to, stepped, is_clear, unescaped, plain_item, IsPlain};
-ghost use Rattle.click_text.specs.Kept.{fits_digit, IsAdded};
+ghost use Rattle.click_text.specs.kept.Unescaping.{fits_digit, IsExtendedBy};
 
 use crate::items::{ItemKind, first_item};
 use crate::syntax::TextFault;
 use std::alloc::{AllocError, Global};
 
-/// What is open behind a byte with escapes before it.
+/// What is open after a byte with escapes before it.
 #[derive(Clone, Copy, Debug, PartialEq, Eq)]
 pub enum Escape {
     /// Neither `\` nor `\<..>`.
     Clear,
     /// A `\`.
-    Behind,
-    /// `\<..>`, behind an even number of digits.
+    Backslash,
+    /// `\<..>`, after an even number of digits.
     Digits,
-    /// `\<..>`, behind an odd number of digits, the last of which is worth that much.
+    /// `\<..>`, after an odd number of digits, the last of which is worth that much.
     Half(u8),
 }
 
-/// What is open behind a byte, and the byte that it adds.
+/// What is open after a byte, and the byte that it adds.
 #[derive(Clone, Copy, Debug, PartialEq, Eq)]
 struct Step {
     state: Escape,
@@ -71,10 +71,10 @@ impl Escape {
         ensures fits { IfSome result (λ step. fits_digit step.state) }
     {
         match self {
-            Escape::Clear if byte == b'\\' => Some(Step::to(Escape::Behind, None)),
+            Escape::Clear if byte == b'\\' => Some(Step::to(Escape::Backslash, None)),
             Escape::Clear => Some(Step::to(Escape::Clear, Some(byte))),
-            Escape::Behind if byte == b'<' => Some(Step::to(Escape::Digits, None)),
-            Escape::Behind => Some(Step::to(Escape::Clear, Some(escaped(byte)))),
+            Escape::Backslash if byte == b'<' => Some(Step::to(Escape::Digits, None)),
+            Escape::Backslash => Some(Step::to(Escape::Clear, Some(escaped(byte)))),
             Escape::Digits if byte == b'>' => Some(Step::to(Escape::Clear, None)),
             Escape::Digits if byte == b' ' => Some(Step::to(Escape::Digits, None)),
             Escape::Digits => Some(Step::to(Escape::Half(worth(byte)?), None)),
@@ -96,7 +96,7 @@ impl Escape {
 
 /// Adds what bytes with escapes stand for. Without that it answers no: bad quoting.
 fn push_unescaped(to: &mut Vec<u8>, bytes: &[u8]) -> Result<bool, AllocError>
-    ensures { IfOk result (λ good. IsAdded good (unescaped Escape.Clear bytes.now) to.old.items to.new.items) }
+    ensures { IfOk result (λ good. IsExtendedBy good (unescaped Escape.Clear bytes.now) to.old.items to.new.items) }
 {
     let mut escape = Escape::Clear;
     for byte in bytes {
@@ -123,7 +123,7 @@ fn without_ends(bytes: &[u8]) -> &[u8]
 
 /// Adds what an item stands for. Without that it answers no: bad quoting.
 fn push_plain(to: &mut Vec<u8>, kind: ItemKind, bytes: &[u8]) -> Result<bool, AllocError>
-    ensures { IfOk result (λ good. IsAdded good (plain_item kind bytes.now) to.old.items to.new.items) }
+    ensures { IfOk result (λ good. IsExtendedBy good (plain_item kind bytes.now) to.old.items to.new.items) }
 {
     match kind {
         ItemKind::Double => return push_unescaped(to, without_ends(bytes)),
@@ -155,7 +155,7 @@ fn plain_of(alloc: Global, argument: &[u8]) -> Result<Option<Vec<u8>>, AllocErro
 /// What an argument stands for without its quotes, or none where their text is bad (Click manual, "Configuration strings"). Outside quotes bytes stand for themselves, and a comment is one space. `'..'` stands for its bytes, and `\<..>` for those of its hexadecimal digits, spaces aside. In `".."` a `\` stands with `n`, `r` or `t` for LF, CR or tab, with `<..>` for bytes as outside, and with any other byte for that byte.
 pub fn unquote(alloc: Global, argument: &[u8]) -> Result<Option<Vec<u8>>, TextFault>
     ensures ok { IfOk result (λ bytes. IsPlain argument.now bytes) }
-    // Nothing but want of memory stops it.
+    // It stops only where memory runs out.
     ensures err { IfErr result (λ f. f ≡ no_memory) }
 {
     Ok(plain_of(alloc, argument)?)

@@ -1,6 +1,6 @@
 use Rattle.std.proofs.Common.{◌-◌, length}
 use Rattle.click_text.proofs.Cutting.{Cutting}
-use Rattle.click_text.proofs.arguments.spans_of.Given as goal
+use Rattle.click_text.proofs.argument_spans.spans_of.Given as goal
 
 abbrev pub invariant-items : goal.invariant-items
 invariant-items l = Cutting l.text l.at l.depth l.spans.items l.found

@@ -17,7 +17,7 @@ use Rattle.click_text.specs.declared.syntax.Body.{Body}
 use Rattle.click_text.specs.declared.tokens.Stop.{Stop}
 use Rattle.click_text.specs.declared.tokens.Stop.TheVariants as stop
 use Rattle.click_text.specs.declared.tokens.Joint.{Joint}
-use Rattle.click_text.specs.Grammar.{port, element, link, chain, declaration, body, Tree, most_open, Brace, Opens, Closes, Neither, brace}
+use Rattle.click_text.specs.Grammar.{written_port, element, link, chain, declaration, body, Tree, most_open, Brace, Opens, Closes, Neither, brace}
 
 mutual
   -- where a list of statements stands: inside a body with its brace, its parameters and what it is for, or in none
@@ -36,12 +36,12 @@ mutual
     of_head : Span → Context → Target
     of_names : List Span → Place → List Statement → Target
 
-  -- what an element goes to: it is the first of a chain, or a further one behind an arrow with these ports
+  -- what an element goes to: it is the first of a chain, or a further one after an arrow with these ports
   pub data Context : Type 0 where
     start : Place → List Statement → Context
     linked : Place → List Statement → Element → List Link → Option Port → Option Port → Context
 
--- which port of an arrow comes: the one before it, or the one behind it, where the one before it is known
+-- which port of an arrow comes: the one before it, or the one after it, where the one before it is known
 pub data Side : Type 0 where
   out : Side
   into : Option Port → Side
@@ -53,7 +53,7 @@ pub data State : Type 0 where
   statement_wanted : List Body → Place → List Statement → State
   -- a statement's first word has been read
   first_read : List Body → Place → List Statement → Span → State
-  -- behind a comma a further name must come
+  -- after a comma a further name must come
   name_wanted : List Body → Place → List Statement → List Span → State
   -- names have been read
   name_read : List Body → Place → List Statement → List Span → State
@@ -83,7 +83,7 @@ pub data State : Type 0 where
   head_read : List Body → Context → Head → State
   -- an element has ended
   after : List Body → Place → List Statement → Element → List Link → State
-  -- a port may come, and then what stands behind it must
+  -- a port may come, and then what stands after it must
   port_wanted : List Body → Place → List Statement → Element → List Link → Side → State
   -- a bracket is open, and a port's number must come
   number_wanted : List Body → Place → List Statement → Element → List Link → Side → Span → State
@@ -102,9 +102,9 @@ abbrev pub a_requirement : Option Span → Statement
 a_requirement text = statement.Requirement text
 
 -- the state after an element
-abbrev pub grown : List Body → Context → Element → State
-grown bs (start p ss) e = after bs p ss e []
-grown bs (linked p ss f ls from to) e = after bs p ss f (ls ++ link from to e ∷ [])
+abbrev pub element_read : List Body → Context → Element → State
+element_read bs (start p ss) e = after bs p ss e []
+element_read bs (linked p ss f ls from to) e = after bs p ss f (ls ++ link from to e ∷ [])
 
 -- the state after a class
 abbrev pub classified : List Body → Target → Class → State
@@ -112,10 +112,10 @@ classified bs (of_head s cx) c = head_read bs cx (head.Declared s c)
 classified bs (of_names ns p ss) c = listed_read bs p ss ns c
 
 -- the state after a body, which has this place
-abbrev pub used : List Body → Use → ℕ → State
-used bs (as_element cx) n = head_read bs cx (head.Compound n)
-used bs (as_class g) n = classified bs g (class.Body n)
-used bs (as_definition s p ss) n = between bs p (ss ++ a_definition s n ∷ [])
+abbrev pub body_read : List Body → Use → ℕ → State
+body_read bs (as_element cx) n = head_read bs cx (head.Compound n)
+body_read bs (as_class g) n = classified bs g (class.Body n)
+body_read bs (as_definition s p ss) n = between bs p (ss ++ a_definition s n ∷ [])
 
 -- the state after a port, or after none
 abbrev pub ported : List Body → Place → List Statement → Element → List Link → Side → Option Port → State
@@ -137,54 +137,54 @@ classed bs g _ = None
 -- the statements of a body end
 abbrev pub closed : List Body → Place → List Statement → Span → Option State
 closed bs top ss b = None
-closed bs (inside a fs u) ss b = Some (used (bs ++ body a b fs ss ∷ []) u (length bs))
+closed bs (inside a fs u) ss b = Some (body_read (bs ++ body a b fs ss ∷ []) u (length bs))
 
 -- an arrow comes
 abbrev pub arrowed : List Body → Place → List Statement → Element → List Link → Option Port → Token → Option State
 arrowed bs p ss f ls q (token.Arrow s) = Some (port_wanted bs p ss f ls (into q))
 arrowed bs p ss f ls q _ = None
 
--- what stands behind a port comes
+-- what stands after a port comes
 abbrev pub past_port : List Body → Place → List Statement → Element → List Link → Side → Option Port → Token → Option State
 past_port bs p ss f ls out q t = arrowed bs p ss f ls q t
 past_port bs p ss f ls (into from) q t = begun bs (linked p ss f ls from q) t
 
--- a port comes, or what stands behind it
-abbrev pub joined : List Body → Place → List Statement → Element → List Link → Side → Token → Option State
-joined bs p ss f ls side (token.OpenBracket a) = Some (number_wanted bs p ss f ls side a)
-joined bs p ss f ls side t = past_port bs p ss f ls side None t
+-- a port comes, or what stands after it
+abbrev pub port_begun : List Body → Place → List Statement → Element → List Link → Side → Token → Option State
+port_begun bs p ss f ls side (token.OpenBracket a) = Some (number_wanted bs p ss f ls side a)
+port_begun bs p ss f ls side t = past_port bs p ss f ls side None t
 
 -- a port's number comes
-abbrev pub numbered : List Body → Place → List Statement → Element → List Link → Side → Span → Token → Option State
-numbered bs p ss f ls side a (token.Number (Some n) s) = Some (close_wanted bs p ss f ls side a n)
-numbered bs p ss f ls side a _ = None
+abbrev pub port_numbered : List Body → Place → List Statement → Element → List Link → Side → Span → Token → Option State
+port_numbered bs p ss f ls side a (token.Number (Some n) s) = Some (close_wanted bs p ss f ls side a n)
+port_numbered bs p ss f ls side a _ = None
 
 -- a bracket closes
 abbrev pub bracketed_off : List Body → Place → List Statement → Element → List Link → Side → Span → ℕ → Token → Option State
-bracketed_off bs p ss f ls side a n (token.CloseBracket b) = Some (ported bs p ss f ls side (Some (port n a b)))
+bracketed_off bs p ss f ls side a n (token.CloseBracket b) = Some (ported bs p ss f ls side (Some (written_port n a b)))
 bracketed_off bs p ss f ls side a n _ = None
 
--- a token behind an element
+-- a token after an element
 abbrev pub beyond : List Body → Place → List Statement → Element → List Link → Token → Option State
 beyond bs p ss f ls (token.Semicolon s) = Some (between bs p (ss ++ chain f ls ∷ []))
 beyond bs p ss f ls (token.Close s) = closed bs p (ss ++ chain f ls ∷ []) s
-beyond bs p ss f ls t = joined bs p ss f ls out t
+beyond bs p ss f ls t = port_begun bs p ss f ls out t
 
-abbrev pub beyond_grown : List Body → Context → Element → Token → Option State
-beyond_grown bs (start p ss) e t = beyond bs p ss e [] t
-beyond_grown bs (linked p ss f ls from to) e t = beyond bs p ss f (ls ++ link from to e ∷ []) t
+abbrev pub beyond_element : List Body → Context → Element → Token → Option State
+beyond_element bs (start p ss) e t = beyond bs p ss e [] t
+beyond_element bs (linked p ss f ls from to) e t = beyond bs p ss f (ls ++ link from to e ∷ []) t
 
--- a token behind a head
+-- a token after a head
 abbrev pub headed : List Body → Context → Head → Token → Option State
-headed bs cx h (token.String s) = Some (grown bs cx (element h (Some s)))
-headed bs cx h t = beyond_grown bs cx (element h None) t
+headed bs cx h (token.String s) = Some (element_read bs cx (element h (Some s)))
+headed bs cx h t = beyond_element bs cx (element h None) t
 
--- a token behind a word
+-- a token after a word
 abbrev pub worded : List Body → Context → Span → Token → Option State
 worded bs cx s (token.DoubleColon d) = Some (class_wanted bs (of_head s cx))
 worded bs cx s t = headed bs cx (head.Word s) t
 
--- a token behind a statement's first word
+-- a token after a statement's first word
 abbrev pub firsted : List Body → Place → List Statement → Span → Token → Option State
 firsted bs p ss s (token.Comma c) = Some (name_wanted bs p ss (s ∷ []))
 firsted bs p ss s t = worded bs (start p ss) s t
@@ -194,22 +194,22 @@ abbrev pub named : List Body → Place → List Statement → List Span → Toke
 named bs p ss ns (token.Word s) = Some (name_read bs p ss (ns ++ s ∷ []))
 named bs p ss ns _ = None
 
--- a token behind names
+-- a token after names
 abbrev pub names_on : List Body → Place → List Statement → List Span → Token → Option State
 names_on bs p ss ns (token.Comma c) = Some (name_wanted bs p ss ns)
 names_on bs p ss ns (token.DoubleColon d) = Some (class_wanted bs (of_names ns p ss))
 names_on bs p ss ns _ = None
 
 -- a statement ends
-abbrev pub over : List Body → Place → List Statement → Statement → Token → Option State
-over bs p ss st (token.Semicolon s) = Some (between bs p (ss ++ st ∷ []))
-over bs p ss st (token.Close s) = closed bs p (ss ++ st ∷ []) s
-over bs p ss st _ = None
+abbrev pub statement_over : List Body → Place → List Statement → Statement → Token → Option State
+statement_over bs p ss st (token.Semicolon s) = Some (between bs p (ss ++ st ∷ []))
+statement_over bs p ss st (token.Close s) = closed bs p (ss ++ st ∷ []) s
+statement_over bs p ss st _ = None
 
--- a token behind the class of names
-abbrev pub listed : List Body → Place → List Statement → List Span → Class → Token → Option State
-listed bs p ss ns c (token.String s) = Some (ending bs p ss (declaration ns c (Some s)))
-listed bs p ss ns c t = over bs p ss (declaration ns c None) t
+-- a token after the class of names
+abbrev pub class_listed : List Body → Place → List Statement → List Span → Class → Token → Option State
+class_listed bs p ss ns c (token.String s) = Some (ending bs p ss (declaration ns c (Some s)))
+class_listed bs p ss ns c t = statement_over bs p ss (declaration ns c None) t
 
 -- the name of a definition comes
 abbrev pub defined : List Body → Place → List Statement → Token → Option State
@@ -230,43 +230,43 @@ opening bs p ss (token.Require k) = Some (required bs p ss)
 opening bs p ss t = begun bs (start p ss) t
 
 -- a token where a statement may begin
-abbrev pub stated : List Body → Place → List Statement → Token → Option State
-stated bs p ss (token.Semicolon s) = Some (between bs p ss)
-stated bs p ss (token.Close s) = closed bs p ss s
-stated bs p ss t = opening bs p ss t
+abbrev pub statement_next : List Body → Place → List Statement → Token → Option State
+statement_next bs p ss (token.Semicolon s) = Some (between bs p ss)
+statement_next bs p ss (token.Close s) = closed bs p ss s
+statement_next bs p ss t = opening bs p ss t
 
--- a token behind `require`
+-- a token after `require`
 abbrev pub required_on : List Body → Place → List Statement → Token → Option State
 required_on bs p ss (token.String s) = Some (between bs p (ss ++ a_requirement (Some s) ∷ []))
-required_on bs p ss t = stated bs p (ss ++ a_requirement None ∷ []) t
+required_on bs p ss t = statement_next bs p (ss ++ a_requirement None ∷ []) t
 
--- a token behind an open brace
+-- a token after an open brace
 abbrev pub unfolded : List Body → Span → Use → Token → Option State
 unfolded bs a u (token.Formal s) = Some (formal_read bs a u (s ∷ []))
-unfolded bs a u t = stated bs (inside a [] u) [] t
+unfolded bs a u t = statement_next bs (inside a [] u) [] t
 
 -- a further parameter comes
 abbrev pub formal_next : List Body → Span → Use → List Span → Token → Option State
 formal_next bs a u fs (token.Formal s) = Some (formal_read bs a u (fs ++ s ∷ []))
 formal_next bs a u fs _ = None
 
--- a token behind a parameter
+-- a token after a parameter
 abbrev pub formal_on : List Body → Span → Use → List Span → Token → Option State
 formal_on bs a u fs (token.Comma c) = Some (formal_wanted bs a u fs)
 formal_on bs a u fs (token.Bar r) = Some (between bs (inside a fs u) [])
 formal_on bs a u fs _ = None
 
 abbrev pub step : State → Token → Option State
-step (between bs p ss) t = stated bs p ss t
+step (between bs p ss) t = statement_next bs p ss t
 step (statement_wanted bs p ss) t = opening bs p ss t
 step (first_read bs p ss s) t = firsted bs p ss s t
 step (name_wanted bs p ss ns) t = named bs p ss ns t
 step (name_read bs p ss ns) t = names_on bs p ss ns t
-step (listed_read bs p ss ns c) t = listed bs p ss ns c t
+step (listed_read bs p ss ns c) t = class_listed bs p ss ns c t
 step (define bs p ss) t = defined bs p ss t
 step (define_named bs p ss s) t = define_on bs p ss s t
 step (required bs p ss) t = required_on bs p ss t
-step (ending bs p ss st) t = over bs p ss st t
+step (ending bs p ss st) t = statement_over bs p ss st t
 step (body_opened bs a u) t = unfolded bs a u t
 step (formal_wanted bs a u fs) t = formal_next bs a u fs t
 step (formal_read bs a u fs) t = formal_on bs a u fs t
@@ -275,39 +275,39 @@ step (word_read bs cx s) t = worded bs cx s t
 step (class_wanted bs g) t = classed bs g t
 step (head_read bs cx h) t = headed bs cx h t
 step (after bs p ss f ls) t = beyond bs p ss f ls t
-step (port_wanted bs p ss f ls side) t = joined bs p ss f ls side t
-step (number_wanted bs p ss f ls side a) t = numbered bs p ss f ls side a t
+step (port_wanted bs p ss f ls side) t = port_begun bs p ss f ls side t
+step (number_wanted bs p ss f ls side a) t = port_numbered bs p ss f ls side a t
 step (close_wanted bs p ss f ls side a n) t = bracketed_off bs p ss f ls side a n t
 step (arrow_wanted bs p ss f ls q) t = arrowed bs p ss f ls q t
 
 -- the tree where the text may end
-abbrev pub ended : List Body → Place → List Statement → Option Tree
-ended bs top ss = Some (record { statements = ss; bodies = bs })
-ended bs (inside a fs u) ss = None
+abbrev pub tree_at_end : List Body → Place → List Statement → Option Tree
+tree_at_end bs top ss = Some (record { statements = ss; bodies = bs })
+tree_at_end bs (inside a fs u) ss = None
 
-abbrev pub ended_grown : List Body → Context → Element → Option Tree
-ended_grown bs (start p ss) e = ended bs p (ss ++ chain e [] ∷ [])
-ended_grown bs (linked p ss f ls from to) e = ended bs p (ss ++ chain f (ls ++ link from to e ∷ []) ∷ [])
+abbrev pub tree_at_element : List Body → Context → Element → Option Tree
+tree_at_element bs (start p ss) e = tree_at_end bs p (ss ++ chain e [] ∷ [])
+tree_at_element bs (linked p ss f ls from to) e = tree_at_end bs p (ss ++ chain f (ls ++ link from to e ∷ []) ∷ [])
 
 abbrev pub finish : State → Option Tree
-finish (between bs p ss) = ended bs p ss
+finish (between bs p ss) = tree_at_end bs p ss
 finish (statement_wanted bs p ss) = None
-finish (first_read bs p ss s) = ended bs p (ss ++ chain (element (head.Word s) None) [] ∷ [])
+finish (first_read bs p ss s) = tree_at_end bs p (ss ++ chain (element (head.Word s) None) [] ∷ [])
 finish (name_wanted bs p ss ns) = None
 finish (name_read bs p ss ns) = None
-finish (listed_read bs p ss ns c) = ended bs p (ss ++ declaration ns c None ∷ [])
+finish (listed_read bs p ss ns c) = tree_at_end bs p (ss ++ declaration ns c None ∷ [])
 finish (define bs p ss) = None
 finish (define_named bs p ss s) = None
-finish (required bs p ss) = ended bs p (ss ++ a_requirement None ∷ [])
-finish (ending bs p ss st) = ended bs p (ss ++ st ∷ [])
+finish (required bs p ss) = tree_at_end bs p (ss ++ a_requirement None ∷ [])
+finish (ending bs p ss st) = tree_at_end bs p (ss ++ st ∷ [])
 finish (body_opened bs a u) = None
 finish (formal_wanted bs a u fs) = None
 finish (formal_read bs a u fs) = None
 finish (element_wanted bs cx) = None
-finish (word_read bs cx s) = ended_grown bs cx (element (head.Word s) None)
+finish (word_read bs cx s) = tree_at_element bs cx (element (head.Word s) None)
 finish (class_wanted bs g) = None
-finish (head_read bs cx h) = ended_grown bs cx (element h None)
-finish (after bs p ss f ls) = ended bs p (ss ++ chain f ls ∷ [])
+finish (head_read bs cx h) = tree_at_element bs cx (element h None)
+finish (after bs p ss f ls) = tree_at_end bs p (ss ++ chain f ls ∷ [])
 finish (port_wanted bs p ss f ls side) = None
 finish (number_wanted bs p ss f ls side a) = None
 finish (close_wanted bs p ss f ls side a n) = None
@@ -328,13 +328,13 @@ advance s [] = Some s
 advance s (t ∷ ts) = bind (step s t) (λ s'. advance s' ts)
 
 -- how many braces are open after one, if it isn't one too many
-abbrev pub open_behind : Brace → ℕ → Option ℕ
-open_behind Opens n = if nat_lt n most_open then Some (n + 1) else None
-open_behind Closes n = Some (n - 1)
-open_behind Neither n = Some n
+abbrev pub open_after_brace : Brace → ℕ → Option ℕ
+open_after_brace Opens n = if nat_lt n most_open then Some (n + 1) else None
+open_after_brace Closes n = Some (n - 1)
+open_after_brace Neither n = Some n
 
 abbrev pub open_after : ℕ → Token → Option ℕ
-open_after n t = open_behind (brace t) n
+open_after n t = open_after_brace (brace t) n
 
 -- how a run with the limit ends: with a tree, or before the first token that fits nowhere or is one `{` too many
 pub data Outcome : Type 0 where
@@ -358,22 +358,22 @@ unfoldable pub outcome : ℕ → State → List Token → Outcome
 outcome n s [] = accepted (finish s)
 outcome n s (t ∷ ts) = or_refused (step s t) (t ∷ ts) (λ s'. or_deep (open_after n t) (t ∷ ts) (λ m. outcome m s' ts))
 
--- behind an element: an arrow with its ports, or the end of the chain
-abbrev pub behind : Option Joint → List Body → Place → List Statement → Element → List Link → State
-behind (Some j) bs p ss f ls = element_wanted bs (linked p ss f ls j.from j.to)
-behind None bs p ss f ls = between bs p (ss ++ chain f ls ∷ [])
+-- after an element: an arrow with its ports, or the end of the chain
+abbrev pub past_element : Option Joint → List Body → Place → List Statement → Element → List Link → State
+past_element (Some j) bs p ss f ls = element_wanted bs (linked p ss f ls j.from j.to)
+past_element None bs p ss f ls = between bs p (ss ++ chain f ls ∷ [])
 
--- behind a word: its class, or nothing of its own
+-- after a word: its class, or nothing of its own
 abbrev pub past_word : Bool → List Body → Context → Span → State
 past_word true bs cx s = class_wanted bs (of_head s cx)
 past_word false bs cx s = head_read bs cx (head.Word s)
 
--- behind names: a further one, or the class
+-- after names: a further one, or the class
 abbrev pub past_name : Bool → List Body → Place → List Statement → List Span → State
 past_name true bs p ss ns = name_wanted bs p ss ns
 past_name false bs p ss ns = class_wanted bs (of_names ns p ss)
 
--- behind a parameter: a further one, or the body's statements
+-- after a parameter: a further one, or the body's statements
 abbrev pub past_formal : Bool → List Body → Span → Use → List Span → State
 past_formal true bs a u fs = formal_wanted bs a u fs
 past_formal false bs a u fs = between bs (inside a fs u) []

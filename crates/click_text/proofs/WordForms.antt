@@ -8,7 +8,7 @@ use Rattle.std.proofs.lemmas.List.Folds.{list_all_at}
 use Rattle.click_text.specs.Pieces.{word_byte, is_word}
 use Rattle.click_text.proofs.Beginnings.{word_slash, word_first}
 
--- a longer front goes on behind a shorter one
+-- a longer front goes on after a shorter one
 pub front_splits : (text : List ℕ) (n m : ℕ) → n < m → m ≤ length text → take m text ≡ take n text ++ get_or text n 0 ∷ drop (n + 1) (take m text)
 front_splits text n m h l =
     let a : n < length (take m text) = omega (arith, length-take m text) in

@@ -3,7 +3,7 @@
 ghost use Rattle.std.specs.Prelude.{◌≡◌, ℕ, length, IfOk, IfErr};
 ghost use Rattle.click_text.specs.Faults.{no_memory};
 ghost use Rattle.click_text.specs.Arguments.{is_comma, AreArguments};
-ghost use Rattle.click_text.specs.Kept.{found_or, grown, is_nothing};
+ghost use Rattle.click_text.specs.kept.PartialArgument.{found_or, grown_argument, is_nothing};
 
 use crate::items::{ItemKind, first_item};
 use crate::syntax::{Span, TextFault};
@@ -19,7 +19,7 @@ fn is_comma(kind: ItemKind) -> bool
 }
 
 /// Where an argument stands that ends at a place, where that much of it was found.
-fn argument(found: Option<Span>, end: usize) -> Span
+fn argument_found(found: Option<Span>, end: usize) -> Span
     ensures { result ≡ found_or found end }
 {
     match found {
@@ -29,8 +29,8 @@ fn argument(found: Option<Span>, end: usize) -> Span
 }
 
 /// Where what was found stands with an item, which begins at a place and ends at another.
-fn grown(found: Option<Span>, kind: ItemKind, start: usize, end: usize) -> Option<Span>
-    ensures { result ≡ grown found kind start end }
+fn grown_argument(found: Option<Span>, kind: ItemKind, start: usize, end: usize) -> Option<Span>
+    ensures { result ≡ grown_argument found kind start end }
 {
     if kind.is_blank() {
         return found;
@@ -66,10 +66,10 @@ fn spans_of(alloc: Global, text: &[u8]) -> Result<Vec<Span>, AllocError>
         let (kind, len) = first_item(&text[at..]);
         let end = at + len;
         if depth == 0 && is_comma(kind) {
-            spans.push(argument(found, at))?;
+            spans.push(argument_found(found, at))?;
             found = None;
         } else {
-            found = grown(found, kind, at, end);
+            found = grown_argument(found, kind, at, end);
             depth = kind.depth_after(depth);
         }
         at = end;
@@ -77,14 +77,14 @@ fn spans_of(alloc: Global, text: &[u8]) -> Result<Vec<Span>, AllocError>
     if is_nothing(spans.as_slice(), found) {
         return Ok(spans);
     }
-    spans.push(argument(found, at))?;
+    spans.push(argument_found(found, at))?;
     Ok(spans)
 }
 
 /// The arguments of a configuration string: what stands between the commas outside quotes, comments and parentheses, without the white space and the comments at its ends (Click manual, "Configuration strings"). An empty argument stands at the comma that closes it, or at the end of the text. A text of white space and comments alone has no arguments.
 pub fn arguments(alloc: Global, text: &[u8]) -> Result<Vec<Span>, TextFault>
     ensures ok { IfOk result (λ spans. AreArguments text.now spans.items) }
-    // Nothing but want of memory stops it.
+    // It stops only where memory runs out.
     ensures err { IfErr result (λ f. f ≡ no_memory) }
 {
     Ok(spans_of(alloc, text)?)

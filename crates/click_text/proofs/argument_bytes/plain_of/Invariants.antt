@@ -1,6 +1,6 @@
 use Rattle.std.proofs.Common.{◌-◌, length}
 use Rattle.click_text.proofs.Quoting.{Quoting}
-use Rattle.click_text.proofs.unquote.plain_of.Given as goal
+use Rattle.click_text.proofs.argument_bytes.plain_of.Given as goal
 
 abbrev pub invariant-items : goal.invariant-items
 invariant-items l = Quoting l.argument l.at l.bytes.items

@@ -1,8 +1,8 @@
 use Rattle.std.proofs.Common.{◌≡◌, ℕ, ◌++◌, List, drop}
-use Rattle.click_text.specs.declared.unquote.Escape.TheVariants as escape
+use Rattle.click_text.specs.declared.argument_bytes.Escape.TheVariants as escape
 use Rattle.click_text.specs.Unquote.{unescaped, before}
-use Rattle.click_text.specs.Kept.{fits_digit}
-use Rattle.click_text.proofs.unquote.push_unescaped.Given as goal
+use Rattle.click_text.specs.kept.Unescaping.{fits_digit}
+use Rattle.click_text.proofs.argument_bytes.push_unescaped.Given as goal
 
 -- what was added is what the bytes so far stand for, and the others go on from here
 abbrev pub invariant-loop-byte : goal.invariant-loop-byte

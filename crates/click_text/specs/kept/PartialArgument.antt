@@ -1,0 +1,24 @@
+-- The argument that `arguments` is reading: what it has found of it so far.
+use Rattle.std.specs.Prelude.{ℕ, List, length, eqb, Bool, false, Option, Some, None, if◌then◌else◌}
+use Rattle.click_text.specs.declared.syntax.Span.{Span}
+use Rattle.click_text.specs.declared.items.ItemKind.{ItemKind}
+use Rattle.click_text.specs.Pieces.{span}
+use Rattle.click_text.specs.Items.{blank_kind}
+
+-- where an argument stands that ends at a place, where that much of it was found, or nothing but white space and comments
+abbrev pub found_or : Option Span → ℕ → Span
+found_or (Some s) at = s
+found_or None at = span at at
+
+abbrev pub grown_to : Option Span → ℕ → ℕ → Option Span
+grown_to (Some s) a b = Some (span s.start b)
+grown_to None a b = Some (span a b)
+
+-- what was found of it with an item between two places
+abbrev pub grown_argument : Option Span → ItemKind → ℕ → ℕ → Option Span
+grown_argument f k a b = if blank_kind k then f else grown_to f a b
+
+-- no argument has come, and nothing was found of one
+abbrev pub is_nothing : List Span → Option Span → Bool
+is_nothing spans None = eqb (length spans) 0
+is_nothing spans (Some s) = false
