@@ -9,7 +9,7 @@ use Rattle.click_classes.specs.declared.fault.ArgFault.TheVariants as fault
 use Rattle.click_classes.specs.declared.values.groups.Group.{Group}
 use Rattle.click_classes.specs.declared.values.groups.Group.TheVariants as kind
 use Rattle.click_classes.specs.declared.values.prefix.Prefix.{Prefix}
-use Rattle.click_classes.specs.Values.{group, joined, address, first_bits, cleared, prefix_of, whole, prefix_at, prefix, decimal_in}
+use Rattle.click_classes.specs.Values.{group, separated, address, first_bits, cleared, prefix_of, whole, prefix_at, prefix, decimal_in}
 
 first_bits_again : (bits b : ℕ) → first_bits bits (first_bits bits b) ≡ first_bits bits b
 unfolding first_bits
@@ -34,17 +34,17 @@ mapped None f b e = cc
 mapped (Some a) f b e = (a, refl, cc)
 
 -- so many groups
-pub joined_len : (k : Group) (separator n : ℕ) (bytes values : List ℕ) → joined k separator n bytes ≡ Some values → length values ≡ n
-unfolding joined
-joined_len k separator zero bytes values e = cc
-joined_len k separator (suc zero) bytes values e =
+pub separated_len : (k : Group) (separator n : ℕ) (bytes values : List ℕ) → separated k separator n bytes ≡ Some values → length values ≡ n
+unfolding separated
+separated_len k separator zero bytes values e = cc
+separated_len k separator (suc zero) bytes values e =
     let one = mapped (group k bytes) (λ x. x ∷ []) values e in
     ap length (sym one.2)
-joined_len k separator (suc (suc n)) bytes values e =
+separated_len k separator (suc (suc n)) bytes values e =
     let cut = some_of (position (λ b. b == separator) bytes) _ values e in
     let read = some_of (group k (take cut.0 bytes)) _ values cut.1 in
-    let more = mapped (joined k separator (suc n) (drop (cut.0 + 1) bytes)) (λ xs. read.0 ∷ xs) values read.1 in
-    ap length (sym more.2) ∙ ap suc (joined_len k separator (suc n) (drop (cut.0 + 1) bytes) more.0 more.1)
+    let more = mapped (separated k separator (suc n) (drop (cut.0 + 1) bytes)) (λ xs. read.0 ∷ xs) values read.1 in
+    ap length (sym more.2) ∙ ap suc (separated_len k separator (suc n) (drop (cut.0 + 1) bytes) more.0 more.1)
 
 byte_whole : (b : ℕ) → b / 1 * 1 ≡ b
 byte_whole b = omega arith
@@ -64,7 +64,7 @@ found (Some b) f a e = cc
 
 address_len : (bytes a : List ℕ) → address bytes ≡ Ok a → length a ≡ 4
 unfolding address
-address_len bytes a e = joined_len kind.Octet 46 4 bytes a (found (joined kind.Octet 46 4 bytes) fault.BadAddress a e)
+address_len bytes a e = separated_len kind.Octet 46 4 bytes a (found (separated kind.Octet 46 4 bytes) fault.BadAddress a e)
 
 whole_cleared : (bytes : List ℕ) (r : Result (List ℕ) ArgFault) (p : Prefix) → address bytes ≡ r → whole r ≡ Ok p → cleared p.len p.network ≡ p.network
 whole_cleared bytes (Ok a) p e f =

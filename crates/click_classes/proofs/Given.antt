@@ -9,7 +9,7 @@ use Rattle.click_text.specs.Words.{AreWords}
 use Rattle.click_classes.specs.declared.fault.ArgFault.{ArgFault}
 use Rattle.click_classes.specs.declared.fault.ArgFault.TheVariants as fault
 use Rattle.click_classes.specs.Fresh.{source_bytes}
-use Rattle.click_classes.specs.Made.{AreBytes}
+use Rattle.click_classes.specs.kept.Answers.{AreBytes}
 
 zip_push : {A B : Type 0} (R : A → B → Type 0) (xs : List A) (ys : List B) (x : A) (y : B) → AllZip R xs ys → R x y → AllZip R (xs ++ x ∷ []) (ys ++ y ∷ [])
 zip_push R [] [] x y h r = (r, tt)

@@ -5,8 +5,7 @@ use Rattle.std.proofs.lemmas.Slice.Eq.{bytes_eq-Decides}
 use Rattle.std.specs.Str.{bytes_eq}
 use Rattle.click_classes.specs.declared.class.Class.{Class}
 use Rattle.click_classes.specs.declared.class.Class.TheVariants as class
-use Rattle.click_classes.specs.declared.class.TheConstants.{CLASSES}
-use Rattle.click_classes.specs.Classes.{name, class_of}
+use Rattle.click_classes.specs.Classes.{classes, name, class_of}
 
 -- what is found passes the test
 passes : (test : Class → Bool) (cs : List Class) (c : Class) → find test cs ≡ Some c → test c ≡ true
@@ -18,7 +17,7 @@ passes test (d ∷ cs) c e = elim (cases_Bool (test d)) [
 
 pub found : (c : Class) (text : List ℕ) → class_of text ≡ Some c → name c ≡ text
 unfolding class_of
-found c text e = (bytes_eq-Decides (name c) text).0 (passes (λ d. bytes_eq (name d) text) CLASSES c e)
+found c text e = (bytes_eq-Decides (name c) text).0 (passes (λ d. bytes_eq (name d) text) classes c e)
 
 -- by computing it for each class
 by_name : (c : Class) → class_of (name c) ≡ Some c

@@ -12,7 +12,7 @@ use Rattle.click_classes.specs.declared.fault.ArgFault.{ArgFault}
 use Rattle.click_classes.specs.declared.fault.ArgFault.TheVariants as fault
 use Rattle.click_classes.specs.declared.state.State.{State}
 use Rattle.click_classes.specs.Fresh.{classifier, static_ip_lookup, check_ip_header, infinite_source}
-use Rattle.click_classes.specs.Made.{IsGiven, IsFresh, IsMade}
+use Rattle.click_classes.specs.Made.{FirstStandsFor, IsFresh, IsMade}
 use Rattle.click_classes.specs.Steps.{OrNoMemory}
 use Rattle.click_classes.proofs.OneReading.{one_arguments, one_plain, one_words_each}
 
@@ -22,13 +22,13 @@ one_by_words : (in_range : Bool) (state_of : List (List (List ℕ)) → Result S
 one_by_words true state_of args r s (words, a, e) (others, b, f) = e ∙ ap state_of (one_words_each args words others a b) ∙ sym f
 one_by_words false state_of args r s e f = e ∙ sym f
 
-one_given : (argument : Option (List ℕ)) (first other : Option (Option (List ℕ))) → IsGiven argument first → IsGiven argument other → first ≡ other
+one_given : (argument : Option (List ℕ)) (first other : Option (Option (List ℕ))) → FirstStandsFor argument first → FirstStandsFor argument other → first ≡ other
 one_given None first other e f = e ∙ sym f
 one_given (Some a) first other (bytes, s, e) (others, t, f) = e ∙ ap Some (one_plain a bytes others s t) ∙ sym f
 
 one_by_first : (in_range : Bool) (argument : Option (List ℕ)) (state_of : Option (Option (List ℕ)) → Result State ArgFault) (r s : Result State ArgFault) →
-    MatchBool in_range ((first : Option (Option (List ℕ))) × IsGiven argument first × (r ≡ state_of first)) (r ≡ Err fault.ArgumentCount) →
-    MatchBool in_range ((first : Option (Option (List ℕ))) × IsGiven argument first × (s ≡ state_of first)) (s ≡ Err fault.ArgumentCount) → r ≡ s
+    MatchBool in_range ((first : Option (Option (List ℕ))) × FirstStandsFor argument first × (r ≡ state_of first)) (r ≡ Err fault.ArgumentCount) →
+    MatchBool in_range ((first : Option (Option (List ℕ))) × FirstStandsFor argument first × (s ≡ state_of first)) (s ≡ Err fault.ArgumentCount) → r ≡ s
 one_by_first true argument state_of r s (first, a, e) (other, b, f) = e ∙ ap state_of (one_given argument first other a b) ∙ sym f
 one_by_first false argument state_of r s e f = e ∙ sym f
 
@@ -51,7 +51,7 @@ made_by c text spans (Ok s) a f = record { spans = spans; cut = a; fresh = f }
 made_by c text spans (Err f) a (inl e) = inl e
 made_by c text spans (Err f) a (inr e) = inr (record { spans = spans; cut = a; fresh = e })
 
--- what is so is answered, unless there was no memory
+-- what is so is answered, unless memory ran out
 pub only_made : (c : Class) (text : List ℕ) (result r : Result State ArgFault) → OrNoMemory (IsMade c text) result → IsMade c text r → (result ≡ r) ⊎ (result ≡ Err fault.NoMemory)
 only_made c text (Ok s) r a b = inl (one_made c text (Ok s) r a b)
 only_made c text (Err f) r (inl e) b = inr (ap Err e)

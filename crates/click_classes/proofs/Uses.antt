@@ -15,8 +15,8 @@ use Rattle.click_classes.specs.declared.state.State.TheVariants as state
 use Rattle.click_classes.specs.declared.values.entry.Entry.{Entry}
 use Rattle.click_classes.specs.Counts.{ports, at_least, up_to_256, outputs_for, counts}
 use Rattle.click_classes.specs.Entries.{word, entry_of, entry, has_prefix, with_entry, table}
-use Rattle.click_classes.specs.Fresh.{argument, or_else, optional, addresses, source_bytes, plain, suppressor, capacity, empty, queue, front_drop_queue, port, switch, pull_switch, copies, tee, pull_tee, only_number, paint, paint_tee, strip, check_length, get_ip_address, ether_encap, device, from_device, to_device, classifier, static_ip_lookup, check_ip_header, infinite_source}
-use Rattle.click_classes.specs.Made.{IsGiven, ByWords, IsFresh}
+use Rattle.click_classes.specs.Fresh.{argument_at, given_or, optional, addresses, source_bytes, without_arguments, suppressor, capacity, empty, queue, front_drop_queue, switch_port, switch, pull_switch, copies, tee, pull_tee, only_number, paint, paint_tee, strip, check_length, get_ip_address, ether_encap, device, from_device, to_device, classifier, static_ip_lookup, check_ip_header, infinite_source}
+use Rattle.click_classes.specs.Made.{FirstStandsFor, ByWords, IsFresh}
 use Rattle.click_classes.specs.Patterns.{pattern}
 use Rattle.click_classes.specs.State.{class}
 use Rattle.click_classes.specs.Steps.{◌>>=◌, each}
@@ -44,7 +44,7 @@ by_words : (least most : ℕ) (first : List (List (List ℕ)) → Result State A
 by_words least most first args s h = cut (nat_le least (length args) && nat_le (length args) most) first args s h
 
 abbrev AtFirst : Option (List ℕ) → (Option (Option (List ℕ)) → Result State ArgFault) → State → Type 0
-AtFirst argument state_of s = (first : Option (Option (List ℕ))) × IsGiven argument first × (Ok s ≡ state_of first)
+AtFirst argument state_of s = (first : Option (Option (List ℕ))) × FirstStandsFor argument first × (Ok s ≡ state_of first)
 
 given : (fits : Bool) (argument : Option (List ℕ)) (state_of : Option (Option (List ℕ)) → Result State ArgFault) (s : State) → MatchBool fits (AtFirst argument state_of s) (Ok s ≡ Err fault.ArgumentCount) → AtFirst argument state_of s
 given true argument state_of s p = p
@@ -72,13 +72,13 @@ minus_bound high bytes k e = elim (cases_Bool (bytes_eq bytes (codes "-1"))) [
   | inr t ↦ let f = rw t at e in some_bound (number_in 0 high bytes) high k (λ n g. number_bound 0 high bytes n g) f
 ]
 
-port_given : (o : Option (List ℕ)) (k : Option ℕ) → Ok k ≡ or_else (Some 0) (number_or_minus_one 255) o → at_least k ≤ 256
+port_given : (o : Option (List ℕ)) (k : Option ℕ) → Ok k ≡ given_or (Some 0) (number_or_minus_one 255) o → at_least k ≤ 256
 port_given None k e = let same : Some 0 ≡ k = cc in rw (← same) (omega arith)
 port_given (Some bytes) k e = minus_bound 255 bytes k e
 
-port_bound : (args : List (List ℕ)) (k : Option ℕ) → Ok k ≡ port args → at_least k ≤ 256
-unfolding port
-port_bound args k e = port_given (slice_get args 0) k (taken _ (or_else (Some 0) (number_or_minus_one 255) (slice_get args 0)) k e)
+port_bound : (args : List (List ℕ)) (k : Option ℕ) → Ok k ≡ switch_port args → at_least k ≤ 256
+unfolding switch_port
+port_bound args k e = port_given (slice_get args 0) k (taken _ (given_or (Some 0) (number_or_minus_one 255) (slice_get args 0)) k e)
 
 -- the outputs of entries
 outputs_push : (es : List Entry) (e : Entry) → outputs_for (es ++ e ∷ []) ≡ max (outputs_for es) (e.output + 1)
@@ -141,8 +141,8 @@ IsWell c s = (class s ≡ c) × HasUse (counts s)
 well : (c : Class) (t s : State) → ◌≡◌ {A = Result State ArgFault} (Ok s) (Ok t) → class t ≡ c → HasUse (counts t) → IsWell c s
 well c t s e f h = let same : t ≡ s = cc in rw (← same) (f, h)
 
-well_plain : (c : Class) (t s : State) (args : List (List ℕ)) → Ok s ≡ plain t args → class t ≡ c → HasUse (counts t) → IsWell c s
-unfolding plain
+well_plain : (c : Class) (t s : State) (args : List (List ℕ)) → Ok s ≡ without_arguments t args → class t ≡ c → HasUse (counts t) → IsWell c s
+unfolding without_arguments
 well_plain c t s args e f h = well c t s (taken _ (Ok t) s e) f h
 
 one_one : HasUse (ports 1 1 1 1)
@@ -170,9 +170,9 @@ well_ether_encap : (args : List (List ℕ)) (s : State) → Ok s ≡ ether_encap
 unfolding ether_encap
 well_ether_encap args s h =
     let whole = taken (nat_le 3 (length args) && nat_le (length args) 3) _ s h in
-    let a = both_ok (number_in 0 65535 (argument args 0)) _ s whole in
-    let b = both_ok (ethernet (argument args 1)) _ s a.2 in
-    let d = both_ok (ethernet (argument args 2)) _ s b.2 in
+    let a = both_ok (number_in 0 65535 (argument_at args 0)) _ s whole in
+    let b = both_ok (ethernet (argument_at args 1)) _ s a.2 in
+    let d = both_ok (ethernet (argument_at args 2)) _ s b.2 in
     well is.EtherEncap (state.EtherEncap a.0 b.0 d.0) s d.2 refl one_one
 
 well_infinite_source : (first : Option (Option (List ℕ))) (args : List (List ℕ)) (s : State) → Ok s ≡ infinite_source first args → IsWell is.InfiniteSource s
@@ -191,8 +191,8 @@ first_well is.Queue args s h = well_of (capacity args) is.Queue (λ n. state.Que
 first_well is.FrontDropQueue args s h = well_of (capacity args) is.FrontDropQueue (λ n. state.FrontDropQueue (empty n) 0 0) s h (λ _. refl) (λ _ _. one_one)
 first_well is.Unqueue args s h = well_plain is.Unqueue state.Unqueue s args h refl one_one
 first_well is.Counter args s h = well_plain is.Counter (state.Counter 0 0) s args h refl one_one
-first_well is.Switch args s h = well_of (port args) is.Switch state.Switch s h (λ _. refl) (λ k e. ranges 1 1 (at_least k) 256 (omega arith) (port_bound args k e))
-first_well is.PullSwitch args s h = well_of (port args) is.PullSwitch state.PullSwitch s h (λ _. refl) (λ k e. ranges (at_least k) 256 1 1 (port_bound args k e) (omega arith))
+first_well is.Switch args s h = well_of (switch_port args) is.Switch state.Switch s h (λ _. refl) (λ k e. ranges 1 1 (at_least k) 256 (omega arith) (port_bound args k e))
+first_well is.PullSwitch args s h = well_of (switch_port args) is.PullSwitch state.PullSwitch s h (λ _. refl) (λ k e. ranges (at_least k) 256 1 1 (port_bound args k e) (omega arith))
 first_well is.RoundRobinSwitch args s h = well_plain is.RoundRobinSwitch (state.RoundRobinSwitch 0) s args h refl (ranges 1 1 1 256 (omega arith) (omega arith))
 first_well is.RoundRobinSched args s h = well_plain is.RoundRobinSched (state.RoundRobinSched 0) s args h refl (ranges 1 256 1 1 (omega arith) (omega arith))
 first_well is.PrioSched args s h = well_plain is.PrioSched state.PrioSched s args h refl (ranges 1 256 1 1 (omega arith) (omega arith))

@@ -1,10 +1,19 @@
--- The names of the classes (Click element reference).
-use Rattle.std.specs.Prelude.{ℕ, List, codes, find, Option}
+-- The classes, their order and their names (Click element reference).
+use Rattle.std.specs.Prelude.{ℕ, List, [], ◌∷◌, codes, find, Option}
 use Rattle.std.specs.Str.{bytes_eq}
-use Rattle.click_classes.specs.declared.class.TheConstants.{CLASSES}
 use Rattle.click_classes.specs.declared.class.Class.{Class}
 use Rattle.click_classes.specs.declared.class.Class.TheVariants as class
 
+-- the thirty classes in the order of the reference
+abbrev pub classes : List Class
+classes =
+    class.Queue ∷ class.FrontDropQueue ∷ class.Unqueue ∷ class.Counter ∷ class.Switch ∷ class.PullSwitch ∷ class.RoundRobinSwitch ∷
+    class.RoundRobinSched ∷ class.PrioSched ∷ class.Tee ∷ class.PullTee ∷ class.Idle ∷ class.Discard ∷ class.Null ∷ class.PushNull ∷
+    class.PullNull ∷ class.Suppressor ∷ class.Paint ∷ class.PaintTee ∷ class.Strip ∷ class.CheckLength ∷ class.Classifier ∷
+    class.GetIPAddress ∷ class.StaticIPLookup ∷ class.CheckIPHeader ∷ class.DecIPTTL ∷ class.EtherEncap ∷ class.InfiniteSource ∷
+    class.FromDevice ∷ class.ToDevice ∷ []
+
+-- a class's name, as configurations write it
 abbrev pub name : Class → List ℕ
 name class.Queue = codes "Queue"
 name class.FrontDropQueue = codes "FrontDropQueue"
@@ -39,4 +48,4 @@ name class.ToDevice = codes "ToDevice"
 
 -- the class of that name
 unfoldable pub class_of : List ℕ → Option Class
-class_of text = find (λ c. bytes_eq (name c) text) CLASSES
+class_of text = find (λ c. bytes_eq (name c) text) classes

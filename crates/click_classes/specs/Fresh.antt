@@ -15,20 +15,20 @@ abbrev pub taking : {A : Type 0} → ℕ → ℕ → List (List ℕ) → Result 
 taking least most args r = if nat_le least (length args) && nat_le (length args) most then r else Err fault.ArgumentCount
 
 -- the argument at a place
-abbrev pub argument : List (List ℕ) → ℕ → List ℕ
-argument args k = slice_index_or args k []
+abbrev pub argument_at : List (List ℕ) → ℕ → List ℕ
+argument_at args k = slice_index_or args k []
 
 -- an argument that may be left out, or a value in its place
-abbrev pub or_else : {A : Type 0} → A → (List ℕ → Result A ArgFault) → Option (List ℕ) → Result A ArgFault
-or_else default read None = Ok default
-or_else default read (Some bytes) = read bytes
+abbrev pub given_or : {A : Type 0} → A → (List ℕ → Result A ArgFault) → Option (List ℕ) → Result A ArgFault
+given_or default read None = Ok default
+given_or default read (Some bytes) = read bytes
 
 abbrev pub optional : {A : Type 0} → List (List ℕ) → ℕ → A → (List ℕ → Result A ArgFault) → Result A ArgFault
-optional args k default read = or_else default read (slice_get args k)
+optional args k default read = given_or default read (slice_get args k)
 
 -- a class without arguments
-unfoldable pub plain : State → List (List ℕ) → Result State ArgFault
-plain s args = taking 0 0 args (Ok s)
+unfoldable pub without_arguments : State → List (List ℕ) → Result State ArgFault
+without_arguments s args = taking 0 0 args (Ok s)
 
 -- a Suppressor all of whose inputs are active
 abbrev pub suppressor : State
@@ -48,14 +48,14 @@ unfoldable pub front_drop_queue : List (List ℕ) → Result State ArgFault
 front_drop_queue args = capacity args >>= λ n. Ok (state.FrontDropQueue (empty n) 0 0)
 
 -- the port of a switch, None for -1
-unfoldable pub port : List (List ℕ) → Result (Option ℕ) ArgFault
-port args = taking 0 1 args (optional args 0 (Some 0) (number_or_minus_one 255))
+unfoldable pub switch_port : List (List ℕ) → Result (Option ℕ) ArgFault
+switch_port args = taking 0 1 args (optional args 0 (Some 0) (number_or_minus_one 255))
 
 unfoldable pub switch : List (List ℕ) → Result State ArgFault
-switch args = port args >>= λ k. Ok (state.Switch k)
+switch args = switch_port args >>= λ k. Ok (state.Switch k)
 
 unfoldable pub pull_switch : List (List ℕ) → Result State ArgFault
-pull_switch args = port args >>= λ k. Ok (state.PullSwitch k)
+pull_switch args = switch_port args >>= λ k. Ok (state.PullSwitch k)
 
 -- how many outputs there have to be, if that is said
 unfoldable pub copies : List (List ℕ) → Result (Option ℕ) ArgFault
@@ -69,7 +69,7 @@ pull_tee args = copies args >>= λ n. Ok (state.PullTee n)
 
 -- a number up to a bound as the only argument
 unfoldable pub only_number : ℕ → List (List ℕ) → Result ℕ ArgFault
-only_number high args = taking 1 1 args (number_in 0 high (argument args 0))
+only_number high args = taking 1 1 args (number_in 0 high (argument_at args 0))
 
 unfoldable pub paint : List (List ℕ) → Result State ArgFault
 paint args = only_number 255 args >>= λ c. Ok (state.Paint c)
@@ -88,14 +88,14 @@ get_ip_address args = only_number 1596 args >>= λ n. Ok (state.GetIPAddress n)
 
 unfoldable pub ether_encap : List (List ℕ) → Result State ArgFault
 ether_encap args = taking 3 3 args
-    (number_in 0 65535 (argument args 0) >>= λ t.
-    ethernet (argument args 1) >>= λ source.
-    ethernet (argument args 2) >>= λ destination.
+    (number_in 0 65535 (argument_at args 0) >>= λ t.
+    ethernet (argument_at args 1) >>= λ source.
+    ethernet (argument_at args 2) >>= λ destination.
     Ok (state.EtherEncap t source destination))
 
 -- the name of a device as the only argument
 unfoldable pub device : List (List ℕ) → Result (List ℕ) ArgFault
-device args = taking 1 1 args (if is_device (argument args 0) then Ok (argument args 0) else Err fault.BadText)
+device args = taking 1 1 args (if is_device (argument_at args 0) then Ok (argument_at args 0) else Err fault.BadText)
 
 unfoldable pub from_device : List (List ℕ) → Result State ArgFault
 from_device args = device args >>= λ d. Ok (state.FromDevice d)

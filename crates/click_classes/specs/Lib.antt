@@ -12,3 +12,4 @@ pub mod State
 pub mod Steps
 pub mod Uses
 pub mod Values
+pub mod kept

@@ -20,12 +20,12 @@ value_of (h ∷ []) = []
 value_of (h ∷ l ∷ ds) = (16 * digit_value h + digit_value l) ∷ value_of ds
 
 -- the bits of a mask's digit that count at a digit: none under a `?`
-abbrev pub kept : ℕ → ℕ → ℕ
-kept d m = if d == 63 then 0 else digit_value m
+abbrev pub counted_bits : ℕ → ℕ → ℕ
+counted_bits d m = if d == 63 then 0 else digit_value m
 
 -- the bytes of a mask's digits at these digits
 abbrev pub mask_of : List ℕ → List ℕ → List ℕ
-mask_of (h ∷ l ∷ ds) (m ∷ n ∷ ms) = (16 * kept h m + kept l n) ∷ mask_of ds ms
+mask_of (h ∷ l ∷ ds) (m ∷ n ∷ ms) = (16 * counted_bits h m + counted_bits l n) ∷ mask_of ds ms
 mask_of _ _ = []
 
 -- an even number of 2 to 128 digits
@@ -42,7 +42,7 @@ clause_of negated offset ds ms =
     if are_digits ds && is_mask ds ms then Ok (record { negated = negated; offset = offset; value = value_of ds; mask = mask_of ds ms })
     else Err fault.BadEntry
 
--- digits, and a mask behind the place of `%`; without one each bit of a digit counts, as with the digit `f`
+-- digits, and a mask after the place of `%`; without one each bit of a digit counts, as with the digit `f`
 abbrev pub with_mask : Bool → ℕ → List ℕ → Option ℕ → Result Clause ArgFault
 with_mask negated offset p None = clause_of negated offset p (replicate (length p) 102)
 with_mask negated offset p (Some at) = clause_of negated offset (take at p) (drop (at + 1) p)
@@ -51,7 +51,7 @@ abbrev pub with_offset : Bool → List ℕ → Option ℕ → Result Clause ArgF
 with_offset negated p None = Err fault.BadEntry
 with_offset negated p (Some offset) = with_mask negated offset p (position (λ b. b == 37) p)
 
--- an offset of 0 to 1,599, and digits behind the place of `/`
+-- an offset of 0 to 1,599, and digits after the place of `/`
 abbrev pub with_digits : Bool → List ℕ → Option ℕ → Result Clause ArgFault
 with_digits negated p None = Err fault.BadEntry
 with_digits negated p (Some at) = with_offset negated (drop (at + 1) p) (decimal_in 1599 (take at p))

@@ -1,4 +1,4 @@
--- Steps that may find a fault, and calls that may want memory.
+-- Steps that may find a fault, and calls that may run out of memory.
 use Rattle.std.specs.Prelude.{◌≡◌, ◌⊎◌, List, [], ◌∷◌, Result, Ok, Err}
 use Rattle.click_classes.specs.declared.fault.ArgFault.{ArgFault}
 use Rattle.click_classes.specs.declared.fault.ArgFault.TheVariants as fault
@@ -14,12 +14,7 @@ abbrev pub each : {A B : Type 0} → (A → Result B ArgFault) → List A → Re
 each read [] = Ok []
 each read (a ∷ as') = read a >>= λ b. each read as' >>= λ bs. Ok (b ∷ bs)
 
--- a call answers so, or that there was no memory for it
+-- a call answers so, or that it ran out of memory
 abbrev pub OrNoMemory : {A : Type 0} → (Result A ArgFault → Type 0) → Result A ArgFault → Type 0
 OrNoMemory P (Ok a) = P (Ok a)
 OrNoMemory P (Err f) = (f ≡ fault.NoMemory) ⊎ P (Err f)
-
--- a call answers what is said, or that there was no memory for it
-abbrev pub IsOrNoMemory : {A : Type 0} → Result A ArgFault → Result A ArgFault → Type 0
-IsOrNoMemory said (Ok a) = said ≡ Ok a
-IsOrNoMemory said (Err f) = (f ≡ fault.NoMemory) ⊎ (said ≡ Err f)

@@ -23,7 +23,7 @@ digit_value b = unwrap_or (worth b) 0
 abbrev pub is_run : (ℕ → Bool) → List ℕ → Bool
 is_run test bytes = nat_lt 0 (length bytes) && list_all test bytes
 
--- the number that digits spell in a base, behind one that was read before them
+-- the number that digits spell in a base, after one that was read before them
 abbrev pub spelled : ℕ → ℕ → List ℕ → ℕ
 spelled base n [] = n
 spelled base n (d ∷ ds) = spelled base (base * n + digit_value d) ds
@@ -78,20 +78,20 @@ group kind.Octet bytes = if nat_le (length bytes) 3 then decimal_in 255 bytes el
 group kind.Pair bytes = if nat_le (length bytes) 2 then hexadecimal_in 255 bytes else None
 
 -- so many groups with a separator between two of them
-unfoldable pub joined : Group → ℕ → ℕ → List ℕ → Option (List ℕ)
-joined k separator zero bytes = None
-joined k separator (suc zero) bytes = option_map (λ x. x ∷ []) (group k bytes)
-joined k separator (suc (suc n)) bytes = option_and_then
-    (λ at. option_and_then (λ x. option_map (λ xs. x ∷ xs) (joined k separator (suc n) (drop (at + 1) bytes))) (group k (take at bytes)))
+unfoldable pub separated : Group → ℕ → ℕ → List ℕ → Option (List ℕ)
+separated k separator zero bytes = None
+separated k separator (suc zero) bytes = option_map (λ x. x ∷ []) (group k bytes)
+separated k separator (suc (suc n)) bytes = option_and_then
+    (λ at. option_and_then (λ x. option_map (λ xs. x ∷ xs) (separated k separator (suc n) (drop (at + 1) bytes))) (group k (take at bytes)))
     (position (λ b. b == separator) bytes)
 
 -- four groups joined by `.`
 unfoldable pub address : List ℕ → Result (List ℕ) ArgFault
-address bytes = ok_or (joined kind.Octet 46 4 bytes) fault.BadAddress
+address bytes = ok_or (separated kind.Octet 46 4 bytes) fault.BadAddress
 
 -- six groups joined by `:`
 unfoldable pub ethernet : List ℕ → Result (List ℕ) ArgFault
-ethernet bytes = ok_or (joined kind.Pair 58 6 bytes) fault.BadAddress
+ethernet bytes = ok_or (separated kind.Pair 58 6 bytes) fault.BadAddress
 
 -- the first bits of a byte, with the others 0
 unfoldable pub first_bits : ℕ → ℕ → ℕ
@@ -112,7 +112,7 @@ abbrev pub whole : Result (List ℕ) ArgFault → Result Prefix ArgFault
 whole (Ok a) = Ok (record { network = a; len = 32 })
 whole (Err f) = Err f
 
--- an address with its length behind a `/`, at the place of that, or alone
+-- an address with its length after a `/`, at the place of that, or alone
 abbrev pub prefix_at : List ℕ → Option ℕ → Result Prefix ArgFault
 prefix_at bytes None = whole (address bytes)
 prefix_at bytes (Some at) = prefix_of (address (take at bytes)) (decimal_in 32 (drop (at + 1) bytes))

@@ -6,7 +6,8 @@ ghost use Rattle.click_classes.specs.declared.state.State.{State};
 ghost use Rattle.click_classes.specs.declared.values.entry.Entry.{Entry};
 ghost use Rattle.click_classes.specs.declared.values.pattern.Pattern.{Pattern};
 ghost use Rattle.click_classes.specs.declared.values.prefix.Prefix.{Prefix};
-ghost use Rattle.click_classes.specs.Classes.{name, class_of};
+ghost use Rattle.click_classes.specs.declared.class.TheConstants.{CLASSES};
+ghost use Rattle.click_classes.specs.Classes.{classes, name, class_of};
 ghost use Rattle.click_classes.specs.Counts.{counts};
 ghost use Rattle.click_classes.specs.Entries.{table};
 ghost use Rattle.click_classes.specs.Made.{IsMade};
@@ -16,6 +17,11 @@ ghost use Rattle.click_classes.specs.Routes.{IsRoute};
 ghost use Rattle.click_classes.specs.State.{class};
 ghost use Rattle.click_classes.specs.Uses.{HasUse};
 ghost use Rattle.click_classes.specs.Values.{cleared, prefix};
+
+/// The classes stand in the order of the reference.
+pub fn classes_in_order()
+    ensures { CLASSES ≡ classes }
+{}
 
 /// Each class is found by its name, and by no other word.
 pub fn found_by_name()

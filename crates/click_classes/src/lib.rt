@@ -1,20 +1,20 @@
 //! The element classes: their arguments, first states, port counts and port codes (Click element reference).
 #![tactic(auto)]
 
-pub mod arguments;
-pub mod class;
-pub mod classes;
-pub mod codes;
-pub mod fault;
+mod arguments;
+mod class;
+mod classes;
+mod codes;
+mod fault;
 pub mod laws;
-pub mod making;
-pub mod packet_list;
-pub mod port_counts;
-pub mod ports;
-pub mod state;
-pub mod values;
+mod making;
+mod packet_list;
+mod port_counts;
+mod ports;
+mod state;
+mod values;
 
-pub use class::{Class, class_of};
+pub use class::{CLASSES, Class, class_of};
 pub use codes::{code, passes};
 pub use fault::ArgFault;
 pub use making::make;
@@ -22,6 +22,9 @@ pub use packet_list::PacketList;
 pub use port_counts::counts;
 pub use ports::{Code, Counts, Side};
 pub use state::State;
+pub use values::entry::Entry;
+pub use values::pattern::{Clause, Pattern};
+pub use values::prefix::Prefix;
 
 #[cfg(test)]
 mod tests;

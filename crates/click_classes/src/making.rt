@@ -73,9 +73,9 @@ pub fn first_state(alloc: Global, class: Class, arguments: &Arguments) -> Result
 /// The first state of an element of the class with that configuration string, or the first fault of its arguments: their
 /// number first, and then the arguments from left to right.
 pub fn make(alloc: Global, class: Class, text: &[u8]) -> Result<State, ArgFault>
-    // What is answered is so, or there was no memory.
+    // What is answered is so, or memory ran out.
     ensures made { OrNoMemory (IsMade class text.now) result }
-    // What is so is answered, or there was no memory.
+    // What is so is answered, or memory ran out.
     ensures only { (r : Result State ArgFault) → IsMade class text.now r → (result ≡ r) ⊎ (result ≡ Err NoMemory) }
 {
     let spans = arguments(alloc, text)?;

@@ -558,3 +558,22 @@ fn ports(rt: HostRuntime) {
     assert!(rt; !passes(Class::Idle, 0, 0));
     assert!(rt; passes(Class::Tee, 0, 7));
 }
+
+/// The text of a fault is its number and its name.
+#[test]
+fn fault_texts(rt: HostRuntime) -> Result<(), Fail> {
+    let rows = [
+        (ArgFault::NoMemory, "7 NoMemory"),
+        (ArgFault::ArgumentCount, "21 ArgumentCount"),
+        (ArgFault::BadNumber, "22 BadNumber"),
+        (ArgFault::BadText, "23 BadText"),
+        (ArgFault::OutOfRange, "24 OutOfRange"),
+        (ArgFault::BadAddress, "25 BadAddress"),
+        (ArgFault::BadEntry, "26 BadEntry"),
+    ];
+    for (fault, text) in rows {
+        let shown = format!(in rt.alloc(); "{fault}")?;
+        assert_eq!(rt; shown.as_str(), text);
+    }
+    Ok(())
+}

@@ -94,7 +94,7 @@ header_good-false bytes refused h =
 pub header_len-none : (bytes : List ℕ) → None ≡ header_len bytes → 20 ≤ stated_len bytes → stated_len bytes ≤ length bytes → ⊥
 header_len-none bytes e low high = let f = header_len-some bytes low high in cc
 
--- a byte behind the first leaves the header's length
+-- a byte after the first leaves the header's length
 stated_len-set : (bytes : List ℕ) (k b : ℕ) → 0 < k → stated_len (set bytes k b) ≡ stated_len bytes
 stated_len-set bytes k b h = ap (λ n. n % 16 * 4) (get_or-set_other bytes k 0 b 0 (omega arith))
 

@@ -14,17 +14,17 @@ use Rattle.click_expand.specs.declared.flat.Connection.{Connection}
 use Rattle.click_ports.specs.declared.port.Port.{Port}
 use Rattle.click_ports.specs.Ports.{Has, used}
 use Rattle.click_ports.specs.Links.{class_at, code_at, IsAgnostic}
-use Rattle.click_ports.specs.Passages.{Crosses, across, passes_between, opposite, IsRow, AreRows}
-use Rattle.click_ports.specs.Marks.{AreCodes}
-use Rattle.click_ports.specs.Search.{code_of}
-use Rattle.click_ports.specs.Wiring.{Wiring, number_of, first, AreWithin, InPlace}
+use Rattle.click_ports.specs.kept.Passages.{Crosses, across, passes_between, opposite, IsRow, AreRows}
+use Rattle.click_ports.specs.kept.Marks.{AreCodes}
+use Rattle.click_ports.specs.kept.Search.{code_of}
+use Rattle.click_ports.specs.kept.Wiring.{Wiring, port_index, first, AreWithin, InPlace}
 use Rattle.click_ports.proofs.Places.{number-same, number-within}
 use Rattle.click_ports.proofs.Using.{has-within}
 
 -- the links to the ports below a number
 pub record IsRowBelow (w : Wiring) (p : Port) (below : ℕ) (row : List ℕ) : Type 0 where
-  pub sound : (y : ℕ) → Contains row y → (n : ℕ) × Crosses w.shapes w.connections p n × (number_of w.connections (across p n) ≡ y)
-  pub complete : (n : ℕ) → n < below → Crosses w.shapes w.connections p n → Contains row (number_of w.connections (across p n))
+  pub sound : (y : ℕ) → Contains row y → (n : ℕ) × Crosses w.shapes w.connections p n × (port_index w.connections (across p n) ≡ y)
+  pub complete : (n : ℕ) → n < below → Crosses w.shapes w.connections p n → Contains row (port_index w.connections (across p n))
 
 contains_none : (y : ℕ) → Contains {X = ℕ} [] y → ⊥
 contains_none y (k, l, e) = omega (arith, l)
@@ -35,14 +35,14 @@ row-none w p from h = record {
   complete = λ n l k. let b : from ≤ n = h n k in absurd (omega (arith, l, b));
 }
 
-pub row-more : (w : Wiring) (p : Port) (n : ℕ) (row new : List ℕ) → Crosses w.shapes w.connections p n → new ≡ row ++ number_of w.connections (across p n) ∷ [] → IsRowBelow w p n row → IsRowBelow w p (n + 1) new
+pub row-more : (w : Wiring) (p : Port) (n : ℕ) (row new : List ℕ) → Crosses w.shapes w.connections p n → new ≡ row ++ port_index w.connections (across p n) ∷ [] → IsRowBelow w p n row → IsRowBelow w p (n + 1) new
 row-more w p n row new c is k =
-    let y : ℕ = number_of w.connections (across p n) in
+    let y : ℕ = port_index w.connections (across p n) in
     subst (IsRowBelow w p (n + 1)) (sym is) (record {
       sound = λ z h. elim (Contains-push_cases row y z h) [ inl e ↦ k.sound z e | inr e ↦ (n, c, e) ];
       complete = λ m l d. elim (cases_lt m n) [
         | inl b ↦ Contains-append_left row (y ∷ []) _ (k.complete m b d)
-        | inr b ↦ (let here : m ≡ n = omega (arith, l, b) in subst (λ x. Contains (row ++ y ∷ []) (number_of w.connections (across p x))) (sym here) (Contains-push row y))
+        | inr b ↦ (let here : m ≡ n = omega (arith, l, b) in subst (λ x. Contains (row ++ y ∷ []) (port_index w.connections (across p x))) (sym here) (Contains-push row y))
       ];
     })
 
@@ -82,8 +82,8 @@ crosses-made w p side class n a b h l g i k = record {
   inside = ap (λ x. passes_between x p.side p.number n) (sym b) ∙ k;
 }
 
-pub number-across : (w : Wiring) (p : Port) (side : Side) (n : ℕ) → side ≡ opposite p.side → number_of w.connections (record { element = p.element; side = side; number = n }) ≡ number_of w.connections (across p n)
-number-across w p side n a = ap (λ s. number_of w.connections (record { element = p.element; side = s; number = n })) a
+pub number-across : (w : Wiring) (p : Port) (side : Side) (n : ℕ) → side ≡ opposite p.side → port_index w.connections (record { element = p.element; side = side; number = n }) ≡ port_index w.connections (across p n)
+number-across w p side n a = ap (λ s. port_index w.connections (record { element = p.element; side = s; number = n })) a
 
 pub passes-across : (w : Wiring) (p : Port) (class : Class) (n : ℕ) → class ≡ class_at w.shapes p.element → Crosses w.shapes w.connections p n → passes_between class p.side p.number n ≡ true
 passes-across w p class n b k = ap (λ x. passes_between x p.side p.number n) b ∙ k.inside
@@ -94,7 +94,7 @@ agnostic-across w p side n a k = subst (λ s. IsAgnostic w.shapes (record { elem
 -- the rows of the ports whose numbers are below one
 pub record AreRowsBelow (w : Wiring) (below : ℕ) (rows : List (List ℕ)) : Type 0 where
   pub all : length rows ≡ below
-  pub right : (p : Port) → Has w.connections p → number_of w.connections p < below → IsRow w p (get_or rows (number_of w.connections p) [])
+  pub right : (p : Port) → Has w.connections p → port_index w.connections p < below → IsRow w p (get_or rows (port_index w.connections p) [])
 
 pub rows-none : (w : Wiring) → AreRowsBelow w 0 []
 rows-none w = record { all = refl; right = λ p h l. absurd (omega (arith, l)) }
@@ -106,11 +106,11 @@ read-more xs x d n i P l b old new = elim (cases_lt i n) [
   | inr a ↦ (let here : i ≡ n = omega (arith, a, b) in subst P (sym (get_or_at xs x [] d i (l ∙ sym here))) (new here))
 ]
 
-pub rows-more : (w : Wiring) (q : Port) (n : ℕ) (rows new : List (List ℕ)) (row : List ℕ) → Has w.connections q → number_of w.connections q ≡ n → IsRow w q row → new ≡ rows ++ row ∷ [] →
+pub rows-more : (w : Wiring) (q : Port) (n : ℕ) (rows new : List (List ℕ)) (row : List ℕ) → Has w.connections q → port_index w.connections q ≡ n → IsRow w q row → new ≡ rows ++ row ∷ [] →
     AreRowsBelow w n rows → AreRowsBelow w (n + 1) new
 rows-more w q n rows new row h e r is k = subst (AreRowsBelow w (n + 1)) (sym is) (record {
   all = length_push rows row ∙ ap (λ x. x + 1) k.all;
-  right = λ p g l. read-more rows row [] n (number_of w.connections p) (IsRow w p) k.all l (λ a. k.right p g a)
+  right = λ p g l. read-more rows row [] n (port_index w.connections p) (IsRow w p) k.all l (λ a. k.right p g a)
       (λ a. subst (λ x. IsRow w x row) (number-same w.connections q p h g (e ∙ sym a)) r);
 })
 
@@ -123,16 +123,16 @@ rows-all w n rows i e k = record {
 -- the codes of the ports whose numbers are below one
 pub record AreCodesBelow (w : Wiring) (below : ℕ) (codes : List Code) : Type 0 where
   pub all : length codes ≡ below
-  pub right : (p : Port) → Has w.connections p → number_of w.connections p < below → code_of codes (number_of w.connections p) ≡ code_at w.shapes p
+  pub right : (p : Port) → Has w.connections p → port_index w.connections p < below → code_of codes (port_index w.connections p) ≡ code_at w.shapes p
 
 pub codes-none : (w : Wiring) → AreCodesBelow w 0 []
 codes-none w = record { all = refl; right = λ p h l. absurd (omega (arith, l)) }
 
-pub codes-more : (w : Wiring) (q : Port) (n : ℕ) (codes new : List Code) (code : Code) → Has w.connections q → number_of w.connections q ≡ n → code ≡ code_at w.shapes q → new ≡ codes ++ code ∷ [] →
+pub codes-more : (w : Wiring) (q : Port) (n : ℕ) (codes new : List Code) (code : Code) → Has w.connections q → port_index w.connections q ≡ n → code ≡ code_at w.shapes q → new ≡ codes ++ code ∷ [] →
     AreCodesBelow w n codes → AreCodesBelow w (n + 1) new
 codes-more w q n codes new code h e r is k = subst (AreCodesBelow w (n + 1)) (sym is) (record {
   all = length_push codes code ∙ ap (λ x. x + 1) k.all;
-  right = λ p g l. read-more codes code Agnostic n (number_of w.connections p) (λ c. c ≡ code_at w.shapes p) k.all l (λ a. k.right p g a)
+  right = λ p g l. read-more codes code Agnostic n (port_index w.connections p) (λ c. c ≡ code_at w.shapes p) k.all l (λ a. k.right p g a)
       (λ a. r ∙ ap (code_at w.shapes) (number-same w.connections q p h g (e ∙ sym a)));
 })
 
@@ -143,5 +143,5 @@ codes-all w n codes i e k = record {
 }
 
 -- a port that is read at a place is there, with that number
-pub read-place : (cs : List Connection) (ports : List Port) (i : ℕ) (d : Port) → InPlace cs ports → i < length ports → Has cs (get_or ports i d) × (number_of cs (get_or ports i d) ≡ i)
+pub read-place : (cs : List Connection) (ports : List Port) (i : ℕ) (d : Port) → InPlace cs ports → i < length ports → Has cs (get_or ports i d) × (port_index cs (get_or ports i d) ≡ i)
 read-place cs ports i d k l = k i (get_or ports i d) (slice_get-get_or ports i d l)

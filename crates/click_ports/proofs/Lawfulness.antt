@@ -12,11 +12,11 @@ use Rattle.click_ports.specs.declared.fault.FaultKind.TheVariants as kind
 use Rattle.click_ports.specs.declared.fault.PortFault.{PortFault}
 use Rattle.click_ports.specs.declared.port.Port.{Port}
 use Rattle.click_ports.specs.declared.shape.Shape.{Shape}
-use Rattle.click_ports.specs.Ports.{used, end_of, Has, input, output}
+use Rattle.click_ports.specs.Ports.{used, joined_port, Has, input, output}
 use Rattle.click_ports.specs.Links.{code_at, IsAgnostic, IsFixed, Linked, along, against, through, back, Passes}
 use Rattle.click_ports.specs.Kinds.{Reaches, itself, linked, further, IsPull, IsPush}
 use Rattle.click_ports.specs.Lawful.{Lawful}
-use Rattle.click_ports.specs.Breaches.{IsBreach, count, unused, mixed, twice, rank, side_rank, PortBefore, port_of, Before, IsFirstBreach}
+use Rattle.click_ports.specs.Breaches.{IsBreach, count, unused, mixed, twice, rank, side_rank, PortBefore, fault_port, BreachBefore, IsFirstBreach}
 use Rattle.click_ports.proofs.Spreading.{linked-back, linked-has}
 use Rattle.click_ports.proofs.Telling.{counted-right}
 use Rattle.click_ports.proofs.Places.{same_port}
@@ -34,17 +34,17 @@ across-link ss cs p q Push k l e m =
 pub linked-agree : (ss : List Shape) (cs : List Connection) (p q : Port) → Lawful ss cs → Linked ss cs p q → IsPull ss cs p → IsPull ss cs q
 linked-agree ss cs p q k l m = across-link ss cs p q (code_at ss p) k l refl m
 
-pub agree : (ss : List Shape) (cs : List Connection) (c : Connection) → Lawful ss cs → Contains cs c → IsPull ss cs (end_of Output c) ↔ IsPull ss cs (end_of Input c)
-agree ss cs c k h = (linked-agree ss cs (end_of Output c) (end_of Input c) k (along c h), linked-agree ss cs (end_of Input c) (end_of Output c) k (against c h))
+pub agree : (ss : List Shape) (cs : List Connection) (c : Connection) → Lawful ss cs → Contains cs c → IsPull ss cs (joined_port Output c) ↔ IsPull ss cs (joined_port Input c)
+agree ss cs c k h = (linked-agree ss cs (joined_port Output c) (joined_port Input c) k (along c h), linked-agree ss cs (joined_port Input c) (joined_port Output c) k (against c h))
 
 -- the same ports are there by the same connections
 has-same : (cs ds : List Connection) → ((c : Connection) → Contains cs c → Contains ds c) → (p : Port) → Has cs p → Has ds p
 has-same cs ds f p h =
     let r = reason cs p h in
-    let g : Has ds (end_of p.side r.by) = has-end ds r.by p.side (f r.by r.there) in
+    let g : Has ds (joined_port p.side r.by) = has-end ds r.by p.side (f r.by r.there) in
     higher p.side r.by p.element p.number r.at_element r.at_least g
   where
-    higher : (s : Side) (c : Connection) (e n : ℕ) → (end_of s c).element ≡ e → n ≤ (end_of s c).number → Has ds (end_of s c) → n < used ds e s
+    higher : (s : Side) (c : Connection) (e n : ℕ) → (joined_port s c).element ≡ e → n ≤ (joined_port s c).number → Has ds (joined_port s c) → n < used ds e s
     higher Input c e n a b g = subst (λ x. n < used ds x Input) a (omega (arith, b, g))
     higher Output c e n a b g = subst (λ x. n < used ds x Output) a (omega (arith, b, g))
 
@@ -132,16 +132,16 @@ same_kind kind.NoMemory kind.Mixed h = absurd (omega (arith, h))
 same_kind kind.NoMemory kind.Twice h = absurd (omega (arith, h))
 same_kind kind.NoMemory kind.NoMemory h = refl
 
-same_fault : (f g : PortFault) → f.kind ≡ g.kind → port_of f ≡ port_of g → f ≡ g
+same_fault : (f g : PortFault) → f.kind ≡ g.kind → fault_port f ≡ fault_port g → f ≡ g
 same_fault f g k p =
     let made : FaultKind → Port → PortFault = λ j q. record { kind = j; element = q.element; side = q.side; number = q.number } in
-    ap (λ j. made j (port_of f)) k ∙ ap (made g.kind) p
+    ap (λ j. made j (fault_port f)) k ∙ ap (made g.kind) p
 
-compared : (f g : PortFault) → Before f g ⊎ (Before g f ⊎ (f ≡ g))
+compared : (f g : PortFault) → BreachBefore f g ⊎ (BreachBefore g f ⊎ (f ≡ g))
 compared f g = elim (cases_order (rank f.kind) (rank g.kind)) [
   | inr (inl l) ↦ inl (inl l)
   | inr (inr l) ↦ inr (inl (inl l))
-  | inl e ↦ (let k = same_kind f.kind g.kind e in elim (three (port_of f) (port_of g)) [
+  | inl e ↦ (let k = same_kind f.kind g.kind e in elim (three (fault_port f) (fault_port g)) [
     | inl l ↦ inl (inr (k, l))
     | inr (inl l) ↦ inr (inl (inr (sym k, l)))
     | inr (inr s) ↦ inr (inr (same_fault f g k s))

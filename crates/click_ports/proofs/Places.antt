@@ -11,10 +11,10 @@ use Rattle.click_ports.specs.declared.numbering.Block.{Block}
 use Rattle.click_ports.specs.declared.port.Port.{Port}
 use Rattle.click_ports.specs.declared.shape.Shape.{Shape}
 use Rattle.click_ports.specs.Ports.{used, Has}
-use Rattle.click_ports.specs.LaidOut.{IsLaidOut}
+use Rattle.click_ports.specs.kept.LaidOut.{IsLaidOut}
 use Rattle.click_ports.specs.Breaches.{PortBefore, side_rank}
-use Rattle.click_ports.specs.Numbered.{side_ports}
-use Rattle.click_ports.specs.Wiring.{Wiring, first, ahead, ahead_in, count_in, number_of, block_of, InPlace, AreNumbered}
+use Rattle.click_ports.specs.kept.Numbered.{side_ports}
+use Rattle.click_ports.specs.kept.Wiring.{Wiring, first, ahead, ahead_in, count_in, port_index, block_of, InPlace, AreNumbered}
 use Rattle.click_ports.proofs.Using.{has-within}
 
 -- what is at a place of a list with one more
@@ -24,13 +24,13 @@ push_get [] y (suc x) q h = absurd (none-some q h)
 push_get (a ∷ xs) y zero q h = inl h
 push_get (a ∷ xs) y (suc x) q h = elim (push_get xs y x q h) [ inl e ↦ inl e | inr e ↦ inr (ap suc e.0, e.1) ]
 
-pub place-push : (cs : List Connection) (ports : List Port) (p : Port) → InPlace cs ports → Has cs p → number_of cs p ≡ length ports → InPlace cs (ports ++ p ∷ [])
+pub place-push : (cs : List Connection) (ports : List Port) (p : Port) → InPlace cs ports → Has cs p → port_index cs p ≡ length ports → InPlace cs (ports ++ p ∷ [])
 place-push cs ports p k has is x q h = elim (push_get ports p x q h) [
   | inl e ↦ k x q e
-  | inr e ↦ subst (λ (r : Port). Has cs r × (number_of cs r ≡ x)) (sym e.1) (has, is ∙ sym e.0)
+  | inr e ↦ subst (λ (r : Port). Has cs r × (port_index cs r ≡ x)) (sym e.1) (has, is ∙ sym e.0)
 ]
 
--- so many ports of a side, behind those that stand before them
+-- so many ports of a side, after those that stand before them
 pub place-side : (cs : List Connection) (ports : List Port) (e : ℕ) (s : Side) (n : ℕ) → InPlace cs ports → length ports ≡ first cs e + ahead cs e s → n ≤ used cs e s →
     InPlace cs (ports ++ side_ports e s n) × (length (ports ++ side_ports e s n) ≡ first cs e + ahead cs e s + n)
 place-side cs ports e s zero k l m = (λ x q h. k x q (subst (λ xs. slice_get xs x ≡ Some q) (append-nil ports) h), ap length (append-nil ports) ∙ l ∙ sym (add-zero _))
@@ -96,15 +96,15 @@ number-ends cs e Input k h = omega (arith, h)
 number-ends cs e Output k h = omega (arith, h)
 
 -- a port's number is below that of all ports of the elements that are there
-pub number-within : (cs : List Connection) (n : ℕ) (p : Port) → Has cs p → p.element < n → number_of cs p < first cs n
+pub number-within : (cs : List Connection) (n : ℕ) (p : Port) → Has cs p → p.element < n → port_index cs p < first cs n
 number-within cs n p h l =
-    let a : number_of cs p < first cs (suc p.element) = number-ends cs p.element p.side p.number h in
+    let a : port_index cs p < first cs (suc p.element) = number-ends cs p.element p.side p.number h in
     let b : first cs (suc p.element) ≤ first cs n = first-le cs (suc p.element) n (omega (arith, l)) in
     omega (arith, a, b)
 
 -- the numbers of a lower element's ports are lower
-number-apart : (cs : List Connection) (p q : Port) → Has cs p → p.element < q.element → number_of cs p < number_of cs q
-number-apart cs p q h l = let a : number_of cs p < first cs q.element = number-within cs q.element p h l in omega (arith, a)
+number-apart : (cs : List Connection) (p q : Port) → Has cs p → p.element < q.element → port_index cs p < port_index cs q
+number-apart cs p q h l = let a : port_index cs p < first cs q.element = number-within cs q.element p h l in omega (arith, a)
 
 same_in : (cs : List Connection) (e : ℕ) (s t : Side) (k l : ℕ) → k < used cs e s → l < used cs e t → first cs e + ahead cs e s + k ≡ first cs e + ahead cs e t + l → (s ≡ t) × (k ≡ l)
 same_in cs e Input Input k l h m q = (refl, omega (arith, q))
@@ -118,14 +118,14 @@ same_port p q a b d =
     ap (λ e. made e p.side p.number) a ∙ ap (λ s. made q.element s p.number) b ∙ ap (λ n. made q.element q.side n) d
 
 -- ports of one number are one
-pub number-same : (cs : List Connection) (p q : Port) → Has cs p → Has cs q → number_of cs p ≡ number_of cs q → p ≡ q
+pub number-same : (cs : List Connection) (p q : Port) → Has cs p → Has cs q → port_index cs p ≡ port_index cs q → p ≡ q
 number-same cs p q h k same = elim (cases_order p.element q.element) [
   | inl e ↦ (
       let k' : q.number < used cs p.element q.side = subst (λ x. q.number < used cs x q.side) (sym e) k in
       let r = same_in cs p.element p.side q.side p.number q.number h k' (same ∙ ap (λ x. first cs x + ahead cs x q.side + q.number) (sym e)) in
       same_port p q e r.0 r.1)
-  | inr (inl l) ↦ (let a : number_of cs p < number_of cs q = number-apart cs p q h l in absurd (omega (arith, a, same)))
-  | inr (inr l) ↦ (let a : number_of cs q < number_of cs p = number-apart cs q p k l in absurd (omega (arith, a, same)))
+  | inr (inl l) ↦ (let a : port_index cs p < port_index cs q = number-apart cs p q h l in absurd (omega (arith, a, same)))
+  | inr (inr l) ↦ (let a : port_index cs q < port_index cs p = number-apart cs q p k l in absurd (omega (arith, a, same)))
 ]
 
 side_before : (cs : List Connection) (e : ℕ) (s t : Side) (k l : ℕ) → k < used cs e s → side_rank s < side_rank t → first cs e + ahead cs e s + k < first cs e + ahead cs e t + l
@@ -135,13 +135,13 @@ side_before cs e Output Input k l h r = absurd (omega (arith, r))
 side_before cs e Output Output k l h r = absurd (omega (arith, r))
 
 -- a port that stands before another has a lower number
-pub number-before : (cs : List Connection) (p q : Port) → Has cs p → PortBefore p q → number_of cs p < number_of cs q
+pub number-before : (cs : List Connection) (p q : Port) → Has cs p → PortBefore p q → port_index cs p < port_index cs q
 number-before cs p q h (inl l) = number-apart cs p q h l
 number-before cs p q h (inr (e, inl l)) =
-    subst (λ x. number_of cs p < first cs x + ahead cs x q.side + q.number) e (side_before cs p.element p.side q.side p.number q.number h l)
+    subst (λ x. port_index cs p < first cs x + ahead cs x q.side + q.number) e (side_before cs p.element p.side q.side p.number q.number h l)
 number-before cs p q h (inr (e, inr (s, l))) =
-    subst (λ x. number_of cs p < first cs x + ahead cs x q.side + q.number) e
-    (subst (λ t. number_of cs p < first cs p.element + ahead cs p.element t + q.number) s (omega (arith, l)))
+    subst (λ x. port_index cs p < first cs x + ahead cs x q.side + q.number) e
+    (subst (λ t. port_index cs p < first cs p.element + ahead cs p.element t + q.number) s (omega (arith, l)))
 
 pub ahead-block : (cs : List Connection) (e : ℕ) (b : Block) (s : Side) → b ≡ block_of cs e → ahead_in b s ≡ ahead cs e s
 ahead-block cs e b Input h = refl
@@ -151,7 +151,7 @@ pub count-block : (cs : List Connection) (e : ℕ) (b : Block) (s : Side) → b 
 count-block cs e b Input h = ap (λ (x : Block). x.inputs) h
 count-block cs e b Output h = ap (λ (x : Block). x.outputs) h
 
-pub place_number : (cs : List Connection) (b : Block) (p : Port) (a : ℕ) → b ≡ block_of cs p.element → a ≡ ahead_in b p.side → b.first + a + p.number ≡ number_of cs p
+pub place_number : (cs : List Connection) (b : Block) (p : Port) (a : ℕ) → b ≡ block_of cs p.element → a ≡ ahead_in b p.side → b.first + a + p.number ≡ port_index cs p
 place_number cs b p a h k = ap (λ x. b.first + x + p.number) (k ∙ ahead-block cs p.element b p.side h) ∙ ap (λ (x : Block). x.first + ahead cs p.element p.side + p.number) h
 
 -- what a layout keeps, of what it is seen as
@@ -169,8 +169,8 @@ used-read ss cs blocks ports e b s n k l h c =
     (is, subst (λ x. x ≤ 256) (sym is) (k.numbered.small e s l))
 
 pub number-read : (ss : List Shape) (cs : List Connection) (blocks : List Block) (ports : List Port) (p : Port) (b : Block) (a : ℕ) → IsLaidOut ss cs blocks ports → Has cs p → b ≡ get_or blocks p.element b → a ≡ ahead_in b p.side →
-    (b.first + a + p.number ≡ number_of cs p) × (number_of cs p < length ports)
+    (b.first + a + p.number ≡ port_index cs p) × (port_index cs p < length ports)
 number-read ss cs blocks ports p b a k h r c =
     let l : p.element < length ss = has-within (length ss) cs p k.within h in
-    let below : number_of cs p < first cs (length ss) = number-within cs (length ss) p h l in
+    let below : port_index cs p < first cs (length ss) = number-within cs (length ss) p h l in
     (place_number cs b p a (block-read ss cs blocks ports p.element b k l r) c, omega (arith, below, k.numbered.all_ports))

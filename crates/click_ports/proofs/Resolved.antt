@@ -16,13 +16,13 @@ use Rattle.click_ports.specs.declared.fault.PortFault.{PortFault}
 use Rattle.click_ports.specs.declared.port.Port.{Port}
 use Rattle.click_ports.specs.declared.shape.Shape.{Shape}
 use Rattle.click_ports.specs.Breaches.{IsFirstBreach}
-use Rattle.click_ports.specs.Kept.{IsKept}
+use Rattle.click_ports.specs.kept.Nets.{KeepsNet}
 use Rattle.click_ports.specs.Kinds.{IsPull}
 use Rattle.click_ports.specs.Lawful.{Lawful, AllCounted, AllConnected, NoneMixed, AllSingle}
-use Rattle.click_ports.specs.Marks.{AreMarks}
-use Rattle.click_ports.specs.Net.{IsSound, Net, shape_of, is_there, joined, names_of, AreStatesOf}
+use Rattle.click_ports.specs.kept.Marks.{AreMarks}
+use Rattle.click_ports.specs.Net.{IsLawfulNet, Net, shape_of, is_there, joined, names_of, AreStatesOf}
 use Rattle.click_ports.specs.Ports.{Has, used}
-use Rattle.click_ports.specs.Wiring.{Wiring, AreWithin, number_of}
+use Rattle.click_ports.specs.kept.Wiring.{Wiring, AreWithin, port_index}
 use Rattle.click_ports.proofs.Lawfulness.{lawful-none}
 use Rattle.click_ports.proofs.Telling.{mark-read}
 use Rattle.click_ports.proofs.Using.{has-within}
@@ -66,7 +66,7 @@ pub told-of : (f : Flat) (states : List State) (w : Wiring) (fault : PortFault) 
 told-of f states w fault o b = subst (λ cs. IsFirstBreach (map shape_of states) cs fault) o.connections (subst (λ ss. IsFirstBreach ss w.connections fault) o.shapes b)
 
 pub kept-made : (es : List FlatElement) (states : List State) (names : List (List ℕ)) (w : Wiring) (pulls : List Bool) → AreStatesOf es states → names ≡ names_of es → w.shapes ≡ map shape_of states → AreWithin (length w.shapes) w.connections →
-    AllCounted w.shapes w.connections → AllConnected w.connections → NoneMixed w.shapes w.connections → AllSingle w.shapes w.connections → AreMarks w Pull pulls → IsKept names w pulls
+    AllCounted w.shapes w.connections → AllConnected w.connections → NoneMixed w.shapes w.connections → AllSingle w.shapes w.connections → AreMarks w Pull pulls → KeepsNet names w pulls
 kept-made es states names w pulls h p q i a b d s m = record {
   sound = record {
     named = ap length p ∙ length-map es (λ (e : FlatElement). e.name) ∙ sym (one-each es states h) ∙ sym (length-map states shape_of) ∙ ap length (sym q);
@@ -77,16 +77,16 @@ kept-made es states names w pulls h p q i a b d s m = record {
 }
 
 -- past the elements and past an element's ports there is none
-pub has-not : (n : Net) (p : Port) (len count : ℕ) → IsSound n → len ≡ length n.shapes → (len ≤ p.element) ⊎ ((count ≡ used n.connections p.element p.side) × (count ≤ p.number)) → Has n.connections p → ⊥
+pub has-not : (n : Net) (p : Port) (len count : ℕ) → IsLawfulNet n → len ≡ length n.shapes → (len ≤ p.element) ⊎ ((count ≡ used n.connections p.element p.side) × (count ≤ p.number)) → Has n.connections p → ⊥
 has-not n p len count k e (inl l) h = let b = has-within (length n.shapes) n.connections p k.within h in omega (arith, b, l, e)
 has-not n p len count k e (inr (c, l)) h = omega (arith, h, l, c)
 
 -- what is read at a port's number
 pub pull-read : (n : Net) (names : List (List ℕ)) (w : Wiring) (pulls : List Bool) (p : Port) (i : ℕ) (b : Bool) → ◌≡◌ {A = Net} (record { names = names; shapes = w.shapes; connections = w.connections }) n →
-    IsKept names w pulls → Has n.connections p → i ≡ number_of w.connections p → i < length pulls → b ≡ get_or pulls i b → (b ≡ true) ↔ IsPull n.shapes n.connections p
+    KeepsNet names w pulls → Has n.connections p → i ≡ port_index w.connections p → i < length pulls → b ≡ get_or pulls i b → (b ≡ true) ↔ IsPull n.shapes n.connections p
 pull-read n names w pulls p i b seen k h e l r =
     let here : Has w.connections p = subst (λ (m : Net). Has m.connections p) (sym seen) h in
-    let is : get_or pulls (number_of w.connections p) false ≡ b = mark-read pulls i (number_of w.connections p) b (sym e) l r in
+    let is : get_or pulls (port_index w.connections p) false ≡ b = mark-read pulls i (port_index w.connections p) b (sym e) l r in
     let m = k.pulls.right p here in
     let there : IsPull w.shapes w.connections p → IsPull n.shapes n.connections p = λ t. subst (λ (v : Net). IsPull v.shapes v.connections p) seen t in
     let back : IsPull n.shapes n.connections p → IsPull w.shapes w.connections p = λ t. subst (λ (v : Net). IsPull v.shapes v.connections p) (sym seen) t in

@@ -6,7 +6,7 @@ use Rattle.std.proofs.lemmas.List.Elements.{Contains-push, Contains-push_cases, 
 use Rattle.std.proofs.lemmas.Bool.{cases_lt, cases_eq}
 use Rattle.click_classes.specs.declared.ports.Code.{Code}
 use Rattle.click_classes.specs.declared.ports.Code.TheVariants.{Agnostic}
-use Rattle.click_ports.specs.Search.{code_of, row_of, IsNext, IsGraph, IsOpen, Spreads, begins, goes_on, IsMarked, unmarked, RowMarked, AreMarked}
+use Rattle.click_ports.specs.kept.Search.{code_of, row_at, IsNext, IsGraph, IsOpen, Spreads, begins, goes_on, IsMarked, unmarked, RowMarked, AreMarked}
 
 contains_none : (y : ℕ) → Contains {X = ℕ} [] y → ⊥
 contains_none y (k, l, e) = omega (arith, l)
@@ -188,8 +188,8 @@ module _ (codes : List Code) (outside inside : List (List ℕ)) (k : Code) where
       }
 
   -- one port is worked off
-  pub way-on : (x : ℕ) (marks marks1 marks2 : List Bool) (work rest work1 work2 : List ℕ) → work ≡ rest ++ x ∷ [] → RowMarked codes k (row_of outside x) marks rest marks1 work1 →
-      RowMarked codes k (row_of inside x) marks1 work1 marks2 work2 → IsUnderWay codes outside inside k marks work → IsUnderWay codes outside inside k marks2 work2
+  pub way-on : (x : ℕ) (marks marks1 marks2 : List Bool) (work rest work1 work2 : List ℕ) → work ≡ rest ++ x ∷ [] → RowMarked codes k (row_at outside x) marks rest marks1 work1 →
+      RowMarked codes k (row_at inside x) marks1 work1 marks2 work2 → IsUnderWay codes outside inside k marks work → IsUnderWay codes outside inside k marks2 work2
   way-on x marks marks1 marks2 work rest work1 work2 popped r1 r2 w =
       let in_work : (z : ℕ) → Contains rest z → Contains work z = λ z h. subst (λ ws. Contains ws z) (sym popped) (Contains-append_left rest (x ∷ []) z h) in
       let x_waits = w.waiting x (subst (λ ws. Contains ws x) (sym popped) (Contains-push rest x)) in
@@ -238,10 +238,10 @@ pub none-left : (xs : List ℕ) → length xs ≡ 0 → xs ≡ []
 none-left [] h = refl
 none-left (x ∷ xs) h = absurd (omega (arith, h))
 
-pub row-within : (n x : ℕ) (outside inside : List (List ℕ)) (row : List ℕ) → IsGraph n outside inside → (row ≡ row_of outside x) ⊎ (row ≡ row_of inside x) → (y : ℕ) → Contains row y → y < n
+pub row-within : (n x : ℕ) (outside inside : List (List ℕ)) (row : List ℕ) → IsGraph n outside inside → (row ≡ row_at outside x) ⊎ (row ≡ row_at inside x) → (y : ℕ) → Contains row y → y < n
 row-within n x outside inside row g (inl h) y c = g.within x y (inl (subst (λ r. Contains r y) h c))
 row-within n x outside inside row g (inr h) y c = g.within x y (inr (subst (λ r. Contains r y) h c))
 
 -- a row that is read
-pub row-read : (rows : List (List ℕ)) (x : ℕ) (r row : List ℕ) → x < length rows → r ≡ get_or rows x r → row ≡ r → row ≡ row_of rows x
+pub row-read : (rows : List (List ℕ)) (x : ℕ) (r row : List ℕ) → x < length rows → r ≡ get_or rows x r → row ≡ r → row ≡ row_at rows x
 row-read rows x r row l h e = e ∙ h ∙ get_or_default rows x r [] l

@@ -9,14 +9,14 @@ use Rattle.click_classes.specs.declared.ports.Side.TheVariants.{Input, Output}
 use Rattle.click_expand.specs.declared.flat.Connection.{Connection}
 use Rattle.click_ports.specs.declared.port.Port.{Port}
 use Rattle.click_ports.specs.declared.shape.Shape.{Shape}
-use Rattle.click_ports.specs.Ports.{used, end_of, joins, Has, input, output}
+use Rattle.click_ports.specs.Ports.{used, joined_port, joins, Has, input, output}
 use Rattle.click_ports.specs.Links.{code_at, IsFixed, Linked, along, against, through, back}
 use Rattle.click_ports.specs.Kinds.{Reaches, itself, linked, further, Meets}
-use Rattle.click_ports.specs.Ends.{far_end, far_ends, AreEnds}
-use Rattle.click_ports.specs.Marks.{AreCodes, AreMarks}
-use Rattle.click_ports.specs.Passages.{opposite, across, Crosses, AreRows}
-use Rattle.click_ports.specs.Search.{code_of, row_of, IsNext, IsGraph, Spreads, begins, goes_on, AreMarked}
-use Rattle.click_ports.specs.Wiring.{Wiring, first, number_of, AreWithin}
+use Rattle.click_ports.specs.kept.Ends.{far_end, far_ends, AreFarEnds}
+use Rattle.click_ports.specs.kept.Marks.{AreCodes, AreMarks}
+use Rattle.click_ports.specs.kept.Passages.{opposite, across, Crosses, AreRows}
+use Rattle.click_ports.specs.kept.Search.{code_of, row_at, IsNext, IsGraph, Spreads, begins, goes_on, AreMarked}
+use Rattle.click_ports.specs.kept.Wiring.{Wiring, first, port_index, AreWithin}
 use Rattle.click_ports.proofs.Places.{number-same, number-within}
 use Rattle.click_ports.proofs.Rows.{joins-end, joins-is}
 use Rattle.click_ports.proofs.Using.{has-end, has-within}
@@ -34,7 +34,7 @@ linked-has ss cs p q (through e i o h) = h.has_input
 linked-has ss cs p q (back e i o h) = h.has_output
 
 -- each number below the count of ports is that of a port
-pub number-onto : (cs : List Connection) (n x : ℕ) → x < first cs n → (p : Port) × Has cs p × (number_of cs p ≡ x)
+pub number-onto : (cs : List Connection) (n x : ℕ) → x < first cs n → (p : Port) × Has cs p × (port_index cs p ≡ x)
 number-onto cs zero x h = absurd (omega (arith, h))
 number-onto cs (suc n) x h = elim (cases_lt x (first cs n)) [
   | inl a ↦ number-onto cs n x a
@@ -52,7 +52,7 @@ number-onto cs (suc n) x h = elim (cases_lt x (first cs n)) [
 pub record FarEnd (cs some : List Connection) (p : Port) (y : ℕ) : Type 0 where
   pub by : Connection
   pub there : Contains some by
-  pub here : p ≡ end_of p.side by
+  pub here : p ≡ joined_port p.side by
   pub far : y ≡ far_end cs p by
 
 contains-head : {X : Type 0} (x : X) (xs : List X) → Contains (x ∷ xs) x
@@ -84,7 +84,7 @@ kept_by : (b : Bool) (n : ℕ) (row : List ℕ) (y : ℕ) → Contains row y →
 kept_by false n row y h = h
 kept_by true n row y h = contains-tail n row y h
 
-far-has : (cs some : List Connection) (p : Port) (c : Connection) → Contains some c → p ≡ end_of p.side c → Contains (far_ends cs some p) (far_end cs p c)
+far-has : (cs some : List Connection) (p : Port) (c : Connection) → Contains some c → p ≡ joined_port p.side c → Contains (far_ends cs some p) (far_end cs p c)
 far-has cs [] p c (k, l, e) h = absurd (omega (arith, l))
 far-has cs (d ∷ some) p c k h = elim (contains-cases d some c k) [
   | inl a ↦ (let t : joins p d ≡ true = ap (joins p) a ∙ joins-end p c h in
@@ -94,9 +94,9 @@ far-has cs (d ∷ some) p c k h = elim (contains-cases d some c k) [
 ]
 
 -- the port at the other end of a connection
-joined_port : (ss : List Shape) (cs : List Connection) (p : Port) (s : Side) (c : Connection) → Contains cs c → p ≡ end_of s c → Linked ss cs p (end_of (opposite s) c)
-joined_port ss cs p Input c h e = subst (λ x. Linked ss cs x (end_of Output c)) (sym e) (against c h)
-joined_port ss cs p Output c h e = subst (λ x. Linked ss cs x (end_of Input c)) (sym e) (along c h)
+end_linked : (ss : List Shape) (cs : List Connection) (p : Port) (s : Side) (c : Connection) → Contains cs c → p ≡ joined_port s c → Linked ss cs p (joined_port (opposite s) c)
+end_linked ss cs p Input c h e = subst (λ x. Linked ss cs x (joined_port Output c)) (sym e) (against c h)
+end_linked ss cs p Output c h e = subst (λ x. Linked ss cs x (joined_port Input c)) (sym e) (along c h)
 
 crossed_port : (ss : List Shape) (cs : List Connection) (e : ℕ) (s : Side) (k n : ℕ) → Crosses ss cs (record { element = e; side = s; number = k }) n →
     Linked ss cs (record { element = e; side = s; number = k }) (across (record { element = e; side = s; number = k }) n)
@@ -104,34 +104,34 @@ crossed_port ss cs e Input k n h = through e k n (record { has_input = h.here; h
 crossed_port ss cs e Output k n h = back e n k (record { has_input = h.there; has_output = h.here; agnostic_input = h.agnostic_there; agnostic_output = h.agnostic_here; inside = h.inside })
 
 module _ (w : Wiring) (codes : List Code) (ends inside : List (List ℕ)) (in_range : AreWithin (length w.shapes) w.connections)
-    (are_codes : AreCodes w codes) (are_ends : AreEnds w ends) (are_rows : AreRows w inside) where
-  number_in : (p : Port) → Has w.connections p → number_of w.connections p < length codes
+    (are_codes : AreCodes w codes) (are_ends : AreFarEnds w ends) (are_rows : AreRows w inside) where
+  number_in : (p : Port) → Has w.connections p → port_index w.connections p < length codes
   number_in p h =
       let b = number-within w.connections (length w.shapes) p h (has-within (length w.shapes) w.connections p in_range h) in
       omega (arith, b, are_codes.all)
 
   -- a port that another's rows have
-  next_port : (p : Port) (y : ℕ) → Has w.connections p → IsNext ends inside (number_of w.connections p) y → (q : Port) × Has w.connections q × (number_of w.connections q ≡ y) × Linked w.shapes w.connections p q
+  next_port : (p : Port) (y : ℕ) → Has w.connections p → IsNext ends inside (port_index w.connections p) y → (q : Port) × Has w.connections q × (port_index w.connections q ≡ y) × Linked w.shapes w.connections p q
   next_port p y h (inl k) =
       let f = far-is w.connections w.connections p y (subst (λ r. Contains r y) (are_ends.right p h) k) in
-      let l = joined_port w.shapes w.connections p p.side f.by f.there f.here in
-      (end_of (opposite p.side) f.by, has-end w.connections f.by (opposite p.side) f.there, sym f.far, l)
+      let l = end_linked w.shapes w.connections p p.side f.by f.there f.here in
+      (joined_port (opposite p.side) f.by, has-end w.connections f.by (opposite p.side) f.there, sym f.far, l)
   next_port p y h (inr k) =
       let f = (are_rows.right p h).sound y k in
       (across p f.0, f.1.there, f.2, crossed_port w.shapes w.connections p.element p.side p.number f.0 f.1)
 
-  port_next : (p q : Port) → Linked w.shapes w.connections p q → IsNext ends inside (number_of w.connections p) (number_of w.connections q)
+  port_next : (p q : Port) → Linked w.shapes w.connections p q → IsNext ends inside (port_index w.connections p) (port_index w.connections q)
   port_next p q (along c h) =
-      inl (subst (λ r. Contains r (number_of w.connections (end_of Input c))) (sym (are_ends.right (end_of Output c) (has-end w.connections c Output h))) (far-has w.connections w.connections (end_of Output c) c h refl))
+      inl (subst (λ r. Contains r (port_index w.connections (joined_port Input c))) (sym (are_ends.right (joined_port Output c) (has-end w.connections c Output h))) (far-has w.connections w.connections (joined_port Output c) c h refl))
   port_next p q (against c h) =
-      inl (subst (λ r. Contains r (number_of w.connections (end_of Output c))) (sym (are_ends.right (end_of Input c) (has-end w.connections c Input h))) (far-has w.connections w.connections (end_of Input c) c h refl))
+      inl (subst (λ r. Contains r (port_index w.connections (joined_port Output c))) (sym (are_ends.right (joined_port Input c) (has-end w.connections c Input h))) (far-has w.connections w.connections (joined_port Input c) c h refl))
   port_next p q (through e i o h) =
       inr ((are_rows.right (input e i) h.has_input).complete o (record { here = h.has_input; there = h.has_output; agnostic_here = h.agnostic_input; agnostic_there = h.agnostic_output; inside = h.inside }))
   port_next p q (back e i o h) =
       inr ((are_rows.right (output e o) h.has_output).complete i (record { here = h.has_output; there = h.has_input; agnostic_here = h.agnostic_output; agnostic_there = h.agnostic_input; inside = h.inside }))
 
-  empty_past : (rows : List (List ℕ)) (x y : ℕ) → length rows ≤ x → Contains (row_of rows x) y → ⊥
-  empty_past rows x y l (k, b, e) = let r : row_of rows x ≡ [] = get_or_past rows x [] l in omega (arith, b, ap length r)
+  empty_past : (rows : List (List ℕ)) (x y : ℕ) → length rows ≤ x → Contains (row_at rows x) y → ⊥
+  empty_past rows x y l (k, b, e) = let r : row_at rows x ≡ [] = get_or_past rows x [] l in omega (arith, b, ap length r)
 
   -- the rows are those of a graph
   next_in : (x y : ℕ) → IsNext ends inside x y → y < length codes
@@ -158,7 +158,7 @@ module _ (w : Wiring) (codes : List Code) (ends inside : List (List ℕ)) (in_ra
     spreads_in z (goes_on x y s o n) = next_in x y n
 
     -- a port to which the marks spread reaches one of the code
-    meets_from : (x : ℕ) (p : Port) → Spreads codes ends inside k x → Has w.connections p → number_of w.connections p ≡ x → Meets w.shapes w.connections k p
+    meets_from : (x : ℕ) (p : Port) → Spreads codes ends inside k x → Has w.connections p → port_index w.connections p ≡ x → Meets w.shapes w.connections k p
     meets_from z p (begins x l e) h is =
         let c : code_at w.shapes p ≡ k = sym (are_codes.right p h) ∙ ap (code_of codes) is ∙ e in
         (p, itself p (fixed_at p c), c)
@@ -174,22 +174,22 @@ module _ (w : Wiring) (codes : List Code) (ends inside : List (List ℕ)) (in_ra
           | inr e ↦ (let m = meets_from x p s f.1 f.2 in (m.0, further q p m.0 l (sym code ∙ e) m.1, m.2))
         ]
 
-    spreads_from : (p r : Port) → Reaches w.shapes w.connections p r → code_at w.shapes r ≡ k → Has w.connections p → Spreads codes ends inside k (number_of w.connections p)
-    spreads_from p r (itself a f) c h = begins (number_of w.connections a) (number_in a h) (are_codes.right a h ∙ c)
+    spreads_from : (p r : Port) → Reaches w.shapes w.connections p r → code_at w.shapes r ≡ k → Has w.connections p → Spreads codes ends inside k (port_index w.connections p)
+    spreads_from p r (itself a f) c h = begins (port_index w.connections a) (number_in a h) (are_codes.right a h ∙ c)
     spreads_from p r (linked a b l f) c h =
         let g : Has w.connections b = linked-has w.shapes w.connections b a (linked-back w.shapes w.connections a b l) in
-        let s = begins (number_of w.connections b) (number_in b g) (are_codes.right b g ∙ c) in
-        goes_on (number_of w.connections b) (number_of w.connections a) s (inl (are_codes.right b g ∙ c)) (port_next b a (linked-back w.shapes w.connections a b l))
+        let s = begins (port_index w.connections b) (number_in b g) (are_codes.right b g ∙ c) in
+        goes_on (port_index w.connections b) (port_index w.connections a) s (inl (are_codes.right b g ∙ c)) (port_next b a (linked-back w.shapes w.connections a b l))
     spreads_from p r (further a b d l f rest) c h =
         let g : Has w.connections b = linked-has w.shapes w.connections b a (linked-back w.shapes w.connections a b l) in
-        goes_on (number_of w.connections b) (number_of w.connections a) (spreads_from b d rest c g) (inr (are_codes.right b g ∙ f)) (port_next b a (linked-back w.shapes w.connections a b l))
+        goes_on (port_index w.connections b) (port_index w.connections a) (spreads_from b d rest c g) (inr (are_codes.right b g ∙ f)) (port_next b a (linked-back w.shapes w.connections a b l))
 
     -- the marks are those of the ports that reach one of the code
     pub marks-meet : (marks : List Bool) → AreMarked codes ends inside k marks → AreMarks w k marks
     marks-meet marks m = record {
       all = m.sized ∙ are_codes.all;
       right = λ p h. (
-        λ i. meets_from (number_of w.connections p) p (m.sound (number_of w.connections p) i) h refl,
-        λ t. m.complete (number_of w.connections p) (spreads_from p t.0 t.1 t.2 h),
+        λ i. meets_from (port_index w.connections p) p (m.sound (port_index w.connections p) i) h refl,
+        λ t. m.complete (port_index w.connections p) (spreads_from p t.0 t.1 t.2 h),
       );
     }

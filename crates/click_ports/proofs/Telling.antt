@@ -17,20 +17,20 @@ use Rattle.click_ports.specs.declared.shape.Shape.{Shape}
 use Rattle.click_ports.specs.Ports.{used, Has, uses, joins, input, output}
 use Rattle.click_ports.specs.Kinds.{IsMixed, IsSingle, push_output, pull_input}
 use Rattle.click_ports.specs.Lawful.{IsCounted, AllCounted, AllConnected, NoneMixed, AllSingle}
-use Rattle.click_ports.specs.Breaches.{IsMiscounted, inputs_out, outputs_out, unequal, fault_at, count_fault, IsBreach, count, unused, mixed, twice, side_rank, PortBefore, Before, IsFirstBreach}
-use Rattle.click_ports.specs.Ends.{far_end, far_ends, AreEnds}
-use Rattle.click_ports.specs.Marks.{AreMarks, is_single}
-use Rattle.click_ports.specs.Wiring.{Wiring, first, number_of, AreWithin}
+use Rattle.click_ports.specs.Breaches.{IsMiscounted, inputs_out, outputs_out, unequal, fault_at, count_fault, IsBreach, count, unused, mixed, twice, side_rank, PortBefore, BreachBefore, IsFirstBreach}
+use Rattle.click_ports.specs.kept.Ends.{far_end, far_ends, AreFarEnds}
+use Rattle.click_ports.specs.kept.Marks.{AreMarks, is_single}
+use Rattle.click_ports.specs.kept.Wiring.{Wiring, first, port_index, AreWithin}
 use Rattle.click_ports.proofs.Places.{number-before, number-same, number-within}
 use Rattle.click_ports.proofs.Using.{has-within}
 
--- allowed numbers are not told
+-- allowed numbers are no breach
 pub counted-right : (c : Counts) (i o : ℕ) (s : Side) → IsCounted c i o → IsMiscounted c i o s → ⊥
 counted-right c i o s k (inputs_out h) = h k.inputs_in
 counted-right c i o s k (outputs_out a h) = h k.outputs_in
 counted-right c i o s k (unequal a b e h) = h (k.equal e)
 
--- an element's numbers are told at one side
+-- numbers that are not allowed are found at one side
 pub one-side : (c : Counts) (i o : ℕ) (s t : Side) → IsMiscounted c i o s → IsMiscounted c i o t → s ≡ t
 one-side c i o s t (inputs_out h) (inputs_out g) = refl
 one-side c i o s t (inputs_out h) (outputs_out a g) = absurd (h a)
@@ -52,7 +52,7 @@ pub first-count : (ss : List Shape) (cs : List Connection) (e : ℕ) (shape : Sh
     ((d : ℕ) (t : Shape) → d < e → slice_get ss d ≡ Some t → IsCounted t.counts (used cs d Input) (used cs d Output)) → IsFirstBreach ss cs (count_fault cs e s)
 first-count ss cs e shape s h m front = record { breach = count e shape s h m; first = none }
   where
-    none : (g : PortFault) → IsBreach ss cs g → Before g (count_fault cs e s) → ⊥
+    none : (g : PortFault) → IsBreach ss cs g → BreachBefore g (count_fault cs e s) → ⊥
     none g (count d t u k n) (inl l) = omega (arith, l)
     none g (count d t u k n) (inr (a, inl l)) = counted-right t.counts (used cs d Input) (used cs d Output) u (front d t l k) n
     none g (count d t u k n) (inr (a, inr (b, l))) =
@@ -102,10 +102,10 @@ module _ (ss : List Shape) (cs : List Connection) (counted : AllCounted ss cs) w
   no_count e t s h m = counted-right t.counts (used cs e Input) (used cs e Output) s (counted e t h) m
 
   -- no breach stands before the first port without a connection
-  pub first-unused : (p : Port) → Has cs p → uses cs p ≡ 0 → ((q : Port) → Has cs q → number_of cs q < number_of cs p → 0 < uses cs q) → IsFirstBreach ss cs (fault_at kind.Unused p)
+  pub first-unused : (p : Port) → Has cs p → uses cs p ≡ 0 → ((q : Port) → Has cs q → port_index cs q < port_index cs p → 0 < uses cs q) → IsFirstBreach ss cs (fault_at kind.Unused p)
   first-unused p h z front = record { breach = unused p h z; first = none }
     where
-      none : (g : PortFault) → IsBreach ss cs g → Before g (fault_at kind.Unused p) → ⊥
+      none : (g : PortFault) → IsBreach ss cs g → BreachBefore g (fault_at kind.Unused p) → ⊥
       none g (count d t u k n) b = no_count d t u k n
       none g (unused q k n) (inl l) = omega (arith, l)
       none g (unused q k n) (inr (a, l)) = let f = front q k (number-before cs q p k l) in omega (arith, f, n)
@@ -119,10 +119,10 @@ module _ (ss : List Shape) (cs : List Connection) (counted : AllCounted ss cs) w
     no_unused q h z = let c = connected q h in omega (arith, c, z)
 
     -- none before the first mixed port
-    pub first-mixed : (p : Port) → Has cs p → IsMixed ss cs p → ((q : Port) → Has cs q → number_of cs q < number_of cs p → IsMixed ss cs q → ⊥) → IsFirstBreach ss cs (fault_at kind.Mixed p)
+    pub first-mixed : (p : Port) → Has cs p → IsMixed ss cs p → ((q : Port) → Has cs q → port_index cs q < port_index cs p → IsMixed ss cs q → ⊥) → IsFirstBreach ss cs (fault_at kind.Mixed p)
     first-mixed p h m front = record { breach = mixed p h m; first = none }
       where
-        none : (g : PortFault) → IsBreach ss cs g → Before g (fault_at kind.Mixed p) → ⊥
+        none : (g : PortFault) → IsBreach ss cs g → BreachBefore g (fault_at kind.Mixed p) → ⊥
         none g (count d t u k n) b = no_count d t u k n
         none g (unused q k n) b = no_unused q k n
         none g (mixed q k n) (inl l) = omega (arith, l)
@@ -132,10 +132,10 @@ module _ (ss : List Shape) (cs : List Connection) (counted : AllCounted ss cs) w
 
     -- none before the first port that is connected twice
     pub first-twice : NoneMixed ss cs → (p : Port) → Has cs p → IsSingle ss cs p → 1 < uses cs p →
-        ((q : Port) → Has cs q → number_of cs q < number_of cs p → IsSingle ss cs q → 1 < uses cs q → ⊥) → IsFirstBreach ss cs (fault_at kind.Twice p)
+        ((q : Port) → Has cs q → port_index cs q < port_index cs p → IsSingle ss cs q → 1 < uses cs q → ⊥) → IsFirstBreach ss cs (fault_at kind.Twice p)
     first-twice unmixed p h s m front = record { breach = twice p h s m; first = none }
       where
-        none : (g : PortFault) → IsBreach ss cs g → Before g (fault_at kind.Twice p) → ⊥
+        none : (g : PortFault) → IsBreach ss cs g → BreachBefore g (fault_at kind.Twice p) → ⊥
         none g (count d t u k n) b = no_count d t u k n
         none g (unused q k n) b = no_unused q k n
         none g (mixed q k n) b = unmixed q k n
@@ -158,19 +158,19 @@ pub length-far_ends : (cs : List Connection) (p : Port) → length (far_ends cs 
 length-far_ends cs p = is_count_by (λ some. length (far_ends cs some p)) (joins p) refl (λ c some. length_by (joins p c) (far_end cs p c) (far_ends cs some p)) cs
 
 -- what holds of the port at a place and of those below it, holds of those below the next
-pub next-port : (cs : List Connection) (p : Port) (n : ℕ) (P : Port → Type 0) → Has cs p → number_of cs p ≡ n → P p → ((q : Port) → Has cs q → number_of cs q < n → P q) → (q : Port) → Has cs q → number_of cs q < n + 1 → P q
-next-port cs p n P h e here front q k l = elim (cases_lt (number_of cs q) n) [
+pub next-port : (cs : List Connection) (p : Port) (n : ℕ) (P : Port → Type 0) → Has cs p → port_index cs p ≡ n → P p → ((q : Port) → Has cs q → port_index cs q < n → P q) → (q : Port) → Has cs q → port_index cs q < n + 1 → P q
+next-port cs p n P h e here front q k l = elim (cases_lt (port_index cs q) n) [
   | inl b ↦ front q k b
-  | inr b ↦ subst P (number-same cs p q h k (let s : number_of cs q ≡ n = omega (arith, l, b) in e ∙ sym s)) here
+  | inr b ↦ subst P (number-same cs p q h k (let s : port_index cs q ≡ n = omega (arith, l, b) in e ∙ sym s)) here
 ]
 
-pub all-ports : (w : Wiring) (n : ℕ) (P : Port → Type 0) → AreWithin (length w.shapes) w.connections → first w.connections (length w.shapes) ≤ n → ((q : Port) → Has w.connections q → number_of w.connections q < n → P q) →
+pub all-ports : (w : Wiring) (n : ℕ) (P : Port → Type 0) → AreWithin (length w.shapes) w.connections → first w.connections (length w.shapes) ≤ n → ((q : Port) → Has w.connections q → port_index w.connections q < n → P q) →
     (q : Port) → Has w.connections q → P q
 all-ports w n P i l h q k =
     h q k (let b = number-within w.connections (length w.shapes) q k (has-within (length w.shapes) w.connections q i k) in omega (arith, b, l))
 
 -- a row that is read at a port's number
-pub uses-read : (w : Wiring) (ends : List (List ℕ)) (p : Port) (n len : ℕ) (row : List ℕ) → AreEnds w ends → Has w.connections p → number_of w.connections p ≡ n → n < length ends → row ≡ get_or ends n row → len ≡ length row →
+pub uses-read : (w : Wiring) (ends : List (List ℕ)) (p : Port) (n len : ℕ) (row : List ℕ) → AreFarEnds w ends → Has w.connections p → port_index w.connections p ≡ n → n < length ends → row ≡ get_or ends n row → len ≡ length row →
     len ≡ uses w.connections p
 uses-read w ends p n len row e h is l r q =
     q ∙ ap length (r ∙ get_or_default ends n row [] l ∙ ap (λ i. get_or ends i []) (sym is) ∙ e.right p h) ∙ length-far_ends w.connections p
@@ -180,18 +180,18 @@ pub mark-read : (marks : List Bool) (n i : ℕ) (b : Bool) → i ≡ n → n < l
 mark-read marks n i b e l r = ap (λ x. get_or marks x false) e ∙ get_or_default marks n false b l ∙ sym r
 
 single_is : (w : Wiring) (pulls : List Bool) (e : ℕ) (s : Side) (k : ℕ) (b : Bool) → AreMarks w Pull pulls → Has w.connections (record { element = e; side = s; number = k }) →
-    get_or pulls (number_of w.connections (record { element = e; side = s; number = k })) false ≡ b → is_single s b ≡ true → IsSingle w.shapes w.connections (record { element = e; side = s; number = k })
+    get_or pulls (port_index w.connections (record { element = e; side = s; number = k })) false ≡ b → is_single s b ≡ true → IsSingle w.shapes w.connections (record { element = e; side = s; number = k })
 single_is w pulls e Input k b m h r t = pull_input e k ((m.right (input e k) h).0 (r ∙ t))
 single_is w pulls e Output k true m h r t = absurd (cc t)
 single_is w pulls e Output k false m h r t = push_output e k (λ i. let u = (m.right (output e k) h).1 i in let v : false ≡ true = sym r ∙ u in cc v)
 
-pub single-is : (w : Wiring) (pulls : List Bool) (p : Port) (b : Bool) → AreMarks w Pull pulls → Has w.connections p → get_or pulls (number_of w.connections p) false ≡ b → is_single p.side b ≡ true → IsSingle w.shapes w.connections p
+pub single-is : (w : Wiring) (pulls : List Bool) (p : Port) (b : Bool) → AreMarks w Pull pulls → Has w.connections p → get_or pulls (port_index w.connections p) false ≡ b → is_single p.side b ≡ true → IsSingle w.shapes w.connections p
 single-is w pulls p b m h r t = single_is w pulls p.element p.side p.number b m h r t
 
-is_single_by : (w : Wiring) (pulls : List Bool) (p : Port) (b : Bool) → AreMarks w Pull pulls → Has w.connections p → get_or pulls (number_of w.connections p) false ≡ b → IsSingle w.shapes w.connections p → is_single p.side b ≡ true
+is_single_by : (w : Wiring) (pulls : List Bool) (p : Port) (b : Bool) → AreMarks w Pull pulls → Has w.connections p → get_or pulls (port_index w.connections p) false ≡ b → IsSingle w.shapes w.connections p → is_single p.side b ≡ true
 is_single_by w pulls p b m h r (pull_input e k i) = sym r ∙ (m.right (input e k) h).1 i
 is_single_by w pulls p true m h r (push_output e k i) = absurd (i ((m.right (output e k) h).0 r))
 is_single_by w pulls p false m h r (push_output e k i) = refl
 
-pub is-single : (w : Wiring) (pulls : List Bool) (p : Port) (b : Bool) → AreMarks w Pull pulls → Has w.connections p → get_or pulls (number_of w.connections p) false ≡ b → IsSingle w.shapes w.connections p → is_single p.side b ≡ true
+pub is-single : (w : Wiring) (pulls : List Bool) (p : Port) (b : Bool) → AreMarks w Pull pulls → Has w.connections p → get_or pulls (port_index w.connections p) false ≡ b → IsSingle w.shapes w.connections p → is_single p.side b ≡ true
 is-single w pulls p b m h r s = is_single_by w pulls p b m h r s

@@ -4,12 +4,4 @@ pub mod Kinds
 pub mod Lawful
 pub mod Breaches
 pub mod Net
-pub mod Wiring
-pub mod Used
-pub mod Numbered
-pub mod LaidOut
-pub mod Passages
-pub mod Ends
-pub mod Search
-pub mod Marks
-pub mod Kept
+pub mod kept

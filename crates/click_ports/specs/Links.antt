@@ -9,7 +9,7 @@ use Rattle.click_classes.specs.Codes.{code, passes}
 use Rattle.click_expand.specs.declared.flat.Connection.{Connection}
 use Rattle.click_ports.specs.declared.port.Port.{Port}
 use Rattle.click_ports.specs.declared.shape.Shape.{Shape}
-use Rattle.click_ports.specs.Ports.{input, output, end_of, Has}
+use Rattle.click_ports.specs.Ports.{input, output, joined_port, Has}
 
 -- what stands past the last element: an Idle that has no ports
 abbrev pub blank : Shape
@@ -38,7 +38,7 @@ pub record Passes (ss : List Shape) (cs : List Connection) (e i o : ℕ) : Type 
 
 -- two ports are linked by a connection, or inside one element, in both directions
 pub data Linked (ss : List Shape) (cs : List Connection) : Port → Port → Type 0 where
-  along : (c : Connection) → Contains cs c → Linked ss cs (end_of Output c) (end_of Input c)
-  against : (c : Connection) → Contains cs c → Linked ss cs (end_of Input c) (end_of Output c)
+  along : (c : Connection) → Contains cs c → Linked ss cs (joined_port Output c) (joined_port Input c)
+  against : (c : Connection) → Contains cs c → Linked ss cs (joined_port Input c) (joined_port Output c)
   through : (e i o : ℕ) → Passes ss cs e i o → Linked ss cs (input e i) (output e o)
   back : (e i o : ℕ) → Passes ss cs e i o → Linked ss cs (output e o) (input e i)

@@ -43,7 +43,7 @@ abbrev pub AreStatesOf : List FlatElement → List State → Type 0
 AreStatesOf es states = map (λ (e : FlatElement). class_of e.class) es ≡ map (λ (s : State). Some (class s)) states
 
 -- what each net keeps: a name for each element, connections between elements that are there, and the rules of ports
-pub record IsSound (net : Net) : Type 0 where
+pub record IsLawfulNet (net : Net) : Type 0 where
   pub named : length net.names ≡ length net.shapes
   pub within : All (λ (c : Connection). (c.from < length net.shapes) × (c.to < length net.shapes)) net.connections
   pub lawful : Lawful net.shapes net.connections

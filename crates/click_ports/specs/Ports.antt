@@ -12,13 +12,13 @@ abbrev pub output : ℕ → ℕ → Port
 output e n = record { element = e; side = Output; number = n }
 
 -- the port that a connection joins at a side: it leads from an output to an input
-abbrev pub end_of : Side → Connection → Port
-end_of Input c = input c.to c.in_port
-end_of Output c = output c.from c.out_port
+abbrev pub joined_port : Side → Connection → Port
+joined_port Input c = input c.to c.in_port
+joined_port Output c = output c.from c.out_port
 
 -- one more than the number of the element's port that the connection joins at the side, or 0 where it joins none
 abbrev pub past : ℕ → Side → Connection → ℕ
-past e s c = if nat_eq (end_of s c).element e then (end_of s c).number + 1 else 0
+past e s c = if nat_eq (joined_port s c).element e then (joined_port s c).number + 1 else 0
 
 -- how many ports the element has at the side: as many as its highest connected port says
 abbrev pub used : List Connection → ℕ → Side → ℕ
@@ -30,7 +30,7 @@ abbrev pub Has : List Connection → Port → Type 0
 Has cs p = p.number < used cs p.element p.side
 
 abbrev pub joins : Port → Connection → Bool
-joins p c = nat_eq (end_of p.side c).element p.element && nat_eq (end_of p.side c).number p.number
+joins p c = nat_eq (joined_port p.side c).element p.element && nat_eq (joined_port p.side c).number p.number
 
 -- how many connections the port has
 abbrev pub uses : List Connection → Port → ℕ

@@ -2,11 +2,11 @@
 
 ghost use Rattle.std.specs.Prelude.{◌≡◌, MatchOption};
 ghost use Rattle.click_classes.specs.declared.ports.Code.TheVariants.{Push, Pull};
-ghost use Rattle.click_ports.specs.Ends.{AreEnds};
-ghost use Rattle.click_ports.specs.Marks.{AreMarks};
+ghost use Rattle.click_ports.specs.kept.Ends.{AreFarEnds};
+ghost use Rattle.click_ports.specs.kept.Marks.{AreMarks};
 ghost use Rattle.click_ports.specs.Lawful.{AllCounted, AllConnected, NoneMixed, AllSingle};
 ghost use Rattle.click_ports.specs.Breaches as spec;
-ghost use Rattle.click_ports.specs.Marks as table;
+ghost use Rattle.click_ports.specs.kept.Marks as table;
 ghost use Rattle.click_ports.specs.Breaches.{IsFirstBreach};
 
 use crate::fault::{FaultKind, PortFault};
@@ -30,7 +30,7 @@ fn fault_at(kind: FaultKind, port: Port) -> PortFault
 
 /// The first port without a connection.
 pub fn first_unused(layout: &Layout, ends: &[Sequence<usize>]) -> Option<PortFault>
-    requires ends { AreEnds layout.now ends.now }
+    requires ends { AreFarEnds layout.now ends.now }
     requires counted { AllCounted layout.now.shapes layout.now.connections }
     ensures { MatchOption result (AllConnected layout.now.connections) (IsFirstBreach layout.now.shapes layout.now.connections) }
 {
@@ -70,7 +70,7 @@ fn is_single(side: Side, pull: bool) -> bool
 
 /// The first push output or pull input with more than one connection.
 pub fn first_twice(layout: &Layout, ends: &[Sequence<usize>], pulls: &[bool]) -> Option<PortFault>
-    requires ends { AreEnds layout.now ends.now }
+    requires ends { AreFarEnds layout.now ends.now }
     requires pulls { AreMarks layout.now Pull pulls.now }
     requires counted { AllCounted layout.now.shapes layout.now.connections }
     requires connected { AllConnected layout.now.connections }

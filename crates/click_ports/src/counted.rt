@@ -15,7 +15,7 @@ fn is_within(range: (u16, u16), count: u16) -> bool
     range.0 <= count && count <= range.1
 }
 
-/// The side at which numbers of ports are told that are not allowed.
+/// The side at which the number of ports is not allowed.
 fn miscounted(allowed: Counts, inputs: u16, outputs: u16) -> Option<Side>
     ensures { MatchOption result (IsCounted allowed inputs outputs) (IsMiscounted allowed inputs outputs) }
 {

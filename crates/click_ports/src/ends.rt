@@ -1,10 +1,10 @@
 //! Which ports the connections join.
 
 ghost use Rattle.std.specs.Prelude.{◌≡◌, ◌<◌, [], ◌∷◌, ◌++◌, length, IfOk, OnOk, vec_len, slice_set, slice_index_or, replicate};
-ghost use Rattle.click_ports.specs.Ends.{AreEnds};
+ghost use Rattle.click_ports.specs.kept.Ends.{AreFarEnds};
 
 use crate::layout::Layout;
-use crate::sizes::end_of;
+use crate::sizes::joined_port;
 use click_classes::Side;
 use click_text::sequence::Sequence;
 use std::alloc::{AllocError, Global};
@@ -30,12 +30,12 @@ fn add_to(rows: &mut Vec<Sequence<usize>>, row: usize, number: usize) -> Result<
 
 /// For each port the numbers of the ports at the other ends of its connections, one for each connection.
 pub fn ends_of(alloc: Global, layout: &Layout) -> Result<Vec<Sequence<usize>>, AllocError>
-    ensures { IfOk result (λ rows. AreEnds layout.now rows.items) }
+    ensures { IfOk result (λ rows. AreFarEnds layout.now rows.items) }
 {
     let mut rows = empty_rows(alloc, layout.ports().len())?;
     for connection in layout.connections() {
-        let output = end_of(Side::Output, *connection);
-        let input = end_of(Side::Input, *connection);
+        let output = joined_port(Side::Output, *connection);
+        let input = joined_port(Side::Input, *connection);
         let from = layout.number(output);
         let to = layout.number(input);
         add_to(&mut rows, from, to)?;

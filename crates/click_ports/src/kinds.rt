@@ -2,9 +2,9 @@
 
 ghost use Rattle.std.specs.Prelude.{length, IfOk};
 ghost use Rattle.click_classes.specs.declared.ports.Code.TheVariants.{Push, Pull};
-ghost use Rattle.click_ports.specs.Ends.{AreEnds};
-ghost use Rattle.click_ports.specs.Marks.{AreMarks, AreCodes};
-ghost use Rattle.click_ports.specs.Wiring.{AreWithin};
+ghost use Rattle.click_ports.specs.kept.Ends.{AreFarEnds};
+ghost use Rattle.click_ports.specs.kept.Marks.{AreMarks, AreCodes};
+ghost use Rattle.click_ports.specs.kept.Wiring.{AreWithin};
 
 use crate::layout::Layout;
 use crate::passages::all_passages;
@@ -38,7 +38,7 @@ pub fn kinds_of(
     layout: &Layout,
     ends: &[Sequence<usize>],
 ) -> Result<Kinds, AllocError>
-    requires { AreEnds layout.now ends.now }
+    requires { AreFarEnds layout.now ends.now }
     ensures pushes { IfOk result (λ kinds. AreMarks layout.now Push kinds.pushes.items) }
     ensures pulls { IfOk result (λ kinds. AreMarks layout.now Pull kinds.pulls.items) }
 {

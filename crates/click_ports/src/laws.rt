@@ -6,7 +6,7 @@ ghost use Rattle.click_expand.specs.declared.flat.Connection.{Connection};
 ghost use Rattle.click_ports.specs.declared.port.Port.{Port};
 ghost use Rattle.click_ports.specs.declared.shape.Shape.{Shape};
 ghost use Rattle.click_ports.specs.declared.fault.PortFault.{PortFault};
-ghost use Rattle.click_ports.specs.Ports.{end_of};
+ghost use Rattle.click_ports.specs.Ports.{joined_port};
 ghost use Rattle.click_ports.specs.Links.{IsAgnostic, Linked};
 ghost use Rattle.click_ports.specs.Kinds.{Reaches, IsPull, IsPush};
 ghost use Rattle.click_ports.specs.Lawful.{Lawful};
@@ -14,10 +14,10 @@ ghost use Rattle.click_ports.specs.Breaches.{IsBreach, IsFirstBreach};
 
 /// In a lawful net both ends of a connection are push, or both are pull.
 pub fn ends_agree()
-    ensures { (ss : List Shape) (cs : List Connection) (c : Connection) → Lawful ss cs → Contains cs c → IsPull ss cs (end_of Output c) ↔ IsPull ss cs (end_of Input c) }
+    ensures { (ss : List Shape) (cs : List Connection) (c : Connection) → Lawful ss cs → Contains cs c → IsPull ss cs (joined_port Output c) ↔ IsPull ss cs (joined_port Input c) }
 {}
 
-/// A port's kind does not depend on the order of the connections, nor on how often each is told.
+/// A port's kind does not depend on the order of the connections, nor on how often each is written.
 pub fn order_is_free()
     ensures { (ss : List Shape) (cs ds : List Connection) → ((c : Connection) → Contains cs c ↔ Contains ds c) → (p : Port) → IsPull ss cs p ↔ IsPull ss ds p }
 {}

@@ -4,7 +4,7 @@ ghost use Rattle.std.specs.Prelude.{◌≡◌, ◌↔◌, ◌<◌, ◌≤◌, le
 ghost use Rattle.click_ports.specs.Ports as spec;
 ghost use Rattle.click_ports.specs.Ports.{Has};
 ghost use Rattle.click_ports.specs.Links as links;
-ghost use Rattle.click_ports.specs.Wiring.{AreWithin, InPlace, first, number_of};
+ghost use Rattle.click_ports.specs.kept.Wiring.{AreWithin, InPlace, first, port_index};
 
 use crate::numbering::{Block, numbered};
 use crate::port::Port;
@@ -24,8 +24,8 @@ pub struct Layout {
 }
 
 impl Model for Layout {
-    ghost use Rattle.click_ports.specs.Wiring.{Wiring};
-    ghost use Rattle.click_ports.specs.LaidOut.{IsLaidOut};
+    ghost use Rattle.click_ports.specs.kept.Wiring.{Wiring};
+    ghost use Rattle.click_ports.specs.kept.LaidOut.{IsLaidOut};
 
     ghost Value = { Wiring };
 
@@ -89,7 +89,7 @@ impl Layout {
     /// The port's number.
     pub fn number(&self, port: Port) -> usize
         requires { Has self.now.connections port }
-        ensures value { result ≡ number_of self.now.connections port }
+        ensures value { result ≡ port_index self.now.connections port }
         ensures within { result < first self.now.connections (length self.now.shapes) }
     {
         let block = self.blocks[port.element];

@@ -4,17 +4,17 @@
 mod breaches;
 mod counted;
 mod ends;
-pub mod fault;
+mod fault;
 mod kinds;
 pub mod laws;
 mod layout;
-pub mod net;
+mod net;
 mod numbering;
 mod passages;
-pub mod port;
+mod port;
 mod resolving;
 mod search;
-pub mod shape;
+mod shape;
 mod sizes;
 
 pub use fault::{FaultKind, PortFault};

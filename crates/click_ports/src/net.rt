@@ -1,9 +1,9 @@
 //! A lawful net.
 
 ghost use Rattle.std.specs.Prelude.{◌≡◌, ◌↔◌, ◌<◌, ◌≤◌, [], length, IfSome, IsSome, IsTrue, slice_index_or};
-ghost use Rattle.click_ports.specs.Kept.{IsKept};
+ghost use Rattle.click_ports.specs.kept.Nets.{KeepsNet};
 ghost use Rattle.click_ports.specs.Kinds.{IsPull};
-ghost use Rattle.click_ports.specs.Net.{IsSound};
+ghost use Rattle.click_ports.specs.Net.{IsLawfulNet};
 ghost use Rattle.click_ports.specs.Ports as spec;
 ghost use Rattle.click_ports.specs.Ports.{Has};
 
@@ -25,19 +25,19 @@ pub struct Net {
 
 impl Model for Net {
     ghost use Rattle.click_ports.specs.Net.{Net as Seen};
-    ghost use Rattle.click_ports.specs.Kept.{IsKept};
+    ghost use Rattle.click_ports.specs.kept.Nets.{KeepsNet};
 
     ghost Value = { Seen };
 
     ghost view = { λ n. record { names = n.called; shapes = n.layout.shapes; connections = n.layout.connections } };
 
-    ghost invariant = { λ n. IsKept n.called n.layout n.pulling.items };
+    ghost invariant = { λ n. KeepsNet n.called n.layout n.pulling.items };
 }
 
 impl Net {
     /// The net of these parts.
     pub(crate) fn of(called: Sequence<Sequence<u8>>, layout: Layout, pulling: Vec<bool>) -> Net
-        requires { IsKept called layout pulling.items }
+        requires { KeepsNet called layout pulling.items }
         ensures { result ≡ record { names = called; shapes = layout.shapes; connections = layout.connections } }
     {
         Net {
@@ -51,7 +51,7 @@ impl Net {
     pub fn name(&self, element: usize) -> &[u8]
         requires { element < length self.now.names }
         ensures value { result.now ≡ slice_index_or self.now.names element [] }
-        ensures sound { IsSound self.now }
+        ensures sound { IsLawfulNet self.now }
     {
         self.called.as_slice()[element].as_slice()
     }
@@ -59,7 +59,7 @@ impl Net {
     /// What the net knows of the elements' states, in flat order.
     pub fn shapes(&self) -> &[Shape]
         ensures value { result.now ≡ self.now.shapes }
-        ensures sound { IsSound self.now }
+        ensures sound { IsLawfulNet self.now }
     {
         self.layout.shapes()
     }
@@ -67,7 +67,7 @@ impl Net {
     /// The connections, each between two elements of the net.
     pub fn connections(&self) -> &[Connection]
         ensures value { result.now ≡ self.now.connections }
-        ensures sound { IsSound self.now }
+        ensures sound { IsLawfulNet self.now }
     {
         self.layout.connections()
     }

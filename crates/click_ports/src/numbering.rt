@@ -1,8 +1,8 @@
 //! The numbers of ports: element by element, inputs before outputs, in their order.
 
 ghost use Rattle.std.specs.Prelude.{◌≡◌, ◌+◌, ◌<◌, ◌≤◌, ◌++◌, IfOk, OnOk, vec_len};
-ghost use Rattle.click_ports.specs.Numbered.{side_ports};
-ghost use Rattle.click_ports.specs.Wiring.{AreWithin, AreNumbered};
+ghost use Rattle.click_ports.specs.kept.Numbered.{side_ports};
+ghost use Rattle.click_ports.specs.kept.Wiring.{AreWithin, AreNumbered};
 
 use crate::port::Port;
 use crate::sizes::used;
@@ -20,7 +20,7 @@ pub struct Block {
 
 impl Block {
     ghost use Rattle.std.specs.Prelude.{◌≡◌};
-    ghost use Rattle.click_ports.specs.Wiring.{ahead_in, count_in};
+    ghost use Rattle.click_ports.specs.kept.Wiring.{ahead_in, count_in};
 
     /// How many ports of the element stand before those of the side.
     pub fn ahead(self, side: Side) -> u16

@@ -3,8 +3,8 @@
 ghost use Rattle.std.specs.Prelude.{◌≡◌, ℕ, ◌<◌, ◌≤◌, length, true, IfOk};
 ghost use Rattle.click_classes.specs.Codes as codes;
 ghost use Rattle.click_ports.specs.Ports.{Has};
-ghost use Rattle.click_ports.specs.Passages as spec;
-ghost use Rattle.click_ports.specs.Passages.{IsRow, AreRows};
+ghost use Rattle.click_ports.specs.kept.Passages as spec;
+ghost use Rattle.click_ports.specs.kept.Passages.{IsRow, AreRows};
 
 use crate::layout::Layout;
 use crate::port::Port;

@@ -3,7 +3,7 @@
 ghost use Rattle.std.specs.Prelude.{◌≡◌, IfOk, IfErr, map, filter};
 ghost use Rattle.click_ports.specs.Breaches.{IsFirstBreach, IsMemoryOr, no_memory};
 ghost use Rattle.click_ports.specs.Lawful.{Lawful};
-ghost use Rattle.click_ports.specs.Net.{AreStatesOf, IsSound, is_there, joined, names_of, net_of, shape_of};
+ghost use Rattle.click_ports.specs.Net.{AreStatesOf, IsLawfulNet, is_there, joined, names_of, net_of, shape_of};
 
 use crate::breaches::{first_mixed, first_twice, first_unused};
 use crate::counted::first_miscount;
@@ -66,7 +66,7 @@ pub fn resolve(alloc: Global, flat: &Flat, states: &[State]) -> Result<Net, Port
     requires { AreStatesOf flat.now.elements states.now }
     // The net is that of the flat form and the states, and it is lawful.
     ensures net { IfOk result (λ net. net ≡ net_of flat.now states.now) }
-    ensures sound { IfOk result IsSound }
+    ensures sound { IfOk result IsLawfulNet }
     // A lawful net is found, unless memory runs out.
     ensures only { Lawful (net_of flat.now states.now).shapes (net_of flat.now states.now).connections → IfErr result (λ f. f ≡ no_memory) }
     // Which fault it is.

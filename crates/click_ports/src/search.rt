@@ -2,7 +2,7 @@
 
 ghost use Rattle.std.specs.Prelude.{◌≡◌, ◌↔◌, ◌⊎◌, ℕ, ◌<◌, [], length, Contains, IfOk, OnOk, IsTrue, slice_index_or, true, false};
 ghost use Rattle.click_classes.specs.declared.ports.Code.TheVariants.{Agnostic};
-ghost use Rattle.click_ports.specs.Search.{code_of, IsGraph, Spreads, RowMarked, AreMarked};
+ghost use Rattle.click_ports.specs.kept.Search.{code_of, IsGraph, Spreads, RowMarked, AreMarked};
 
 use click_classes::Code;
 use click_text::sequence::Sequence;

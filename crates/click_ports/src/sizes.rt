@@ -2,8 +2,8 @@
 
 ghost use Rattle.std.specs.Prelude.{◌≡◌, ℕ, ◌<◌, ◌≤◌, IfOk, slice_index};
 ghost use Rattle.click_ports.specs.Ports as spec;
-ghost use Rattle.click_ports.specs.Used.{AreUsed};
-ghost use Rattle.click_ports.specs.Wiring.{AreWithin};
+ghost use Rattle.click_ports.specs.kept.Used.{AreUsed};
+ghost use Rattle.click_ports.specs.kept.Wiring.{AreWithin};
 
 use crate::port::Port;
 use click_classes::Side;
@@ -11,8 +11,8 @@ use click_expand::Connection;
 use std::alloc::{AllocError, Global};
 
 /// The port that a connection joins at a side.
-pub fn end_of(side: Side, connection: Connection) -> Port
-    ensures is { result ≡ spec.end_of side connection }
+pub fn joined_port(side: Side, connection: Connection) -> Port
+    ensures is { result ≡ spec.joined_port side connection }
     ensures small { result.number < 256 }
 {
     match side {
@@ -41,7 +41,7 @@ pub fn used(
 {
     let mut counts = vec![in alloc; 0u16; elements]?;
     for connection in connections {
-        let port = end_of(side, *connection);
+        let port = joined_port(side, *connection);
         let count = counts[port.element].max(port.number + 1);
         counts[port.element] = count;
     }

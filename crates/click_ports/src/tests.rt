@@ -31,7 +31,7 @@ fn is_of(element: &FlatElement, state: &State) -> bool
     ensures { IsTrue result → class_of element.now.class ≡ Some (class state.now) }
 {
     match class_of(element.class.as_slice()) {
-        Some(told) => told == state.class(),
+        Some(class) => class == state.class(),
         None => false,
     }
 }
@@ -148,8 +148,8 @@ fn expect_kinds(
 ) -> Result<(), Fail> {
     let net = answer(alloc, lines, joins)?.ok().ok_or("a net")?;
     for (element, side, port, pull) in kinds {
-        let told = net.pulls(*element, *side, *port);
-        assert_eq!(rt; told, *pull, "{element} {port} of {lines}");
+        let answer = net.pulls(*element, *side, *port);
+        assert_eq!(rt; answer, *pull, "{element} {port} of {lines}");
     }
     Ok(())
 }
@@ -395,7 +395,7 @@ fn unequal_sides(rt: HostRuntime) -> Result<(), Fail> {
         FaultKind::Count,
         (2, INPUT, 2),
     )?;
-    // No output is out of range, which is told before the sides are compared.
+    // No output is out of range, which is found before the sides are compared.
     expect_fault(
         &rt,
         alloc,
@@ -578,7 +578,7 @@ fn second_outputs(rt: HostRuntime) -> Result<(), Fail> {
     let alloc = rt.alloc();
     second_output(&rt, alloc, "PaintTee 1")?;
     second_output(&rt, alloc, "CheckIPHeader")?;
-    // A PullTee has the same kinds behind a Queue.
+    // A PullTee has the same kinds after a Queue.
     expect_kinds(
         &rt,
         alloc,
@@ -602,7 +602,7 @@ fn second_outputs(rt: HostRuntime) -> Result<(), Fail> {
 }
 
 #[test]
-fn what_a_net_tells(rt: HostRuntime) -> Result<(), Fail> {
+fn what_a_net_says(rt: HostRuntime) -> Result<(), Fail> {
     let alloc = rt.alloc();
     // A connection to an element that is not there joins nothing.
     let net = answer(
@@ -620,5 +620,49 @@ fn what_a_net_tells(rt: HostRuntime) -> Result<(), Fail> {
     assert_eq!(rt; shapes[1].class, Class::Discard);
     assert_eq!(rt; net.used(0, INPUT), 0);
     assert_eq!(rt; net.used(1, INPUT), 1);
+    Ok(())
+}
+
+/// A fault's text is its kind's number and name, with the place unless memory ran out.
+#[test]
+fn fault_texts(rt: HostRuntime) -> Result<(), Fail> {
+    let rows = [
+        (FaultKind::NoMemory, Side::Input, "7 NoMemory"),
+        (
+            FaultKind::Count,
+            Side::Input,
+            "31 Count at element 3, inputs 1",
+        ),
+        (
+            FaultKind::Count,
+            Side::Output,
+            "31 Count at element 3, outputs 1",
+        ),
+        (
+            FaultKind::Unused,
+            Side::Input,
+            "32 Unused at element 3, input 1",
+        ),
+        (
+            FaultKind::Twice,
+            Side::Output,
+            "33 Twice at element 3, output 1",
+        ),
+        (
+            FaultKind::Mixed,
+            Side::Input,
+            "34 Mixed at element 3, input 1",
+        ),
+    ];
+    for (kind, side, text) in rows {
+        let fault = PortFault {
+            kind,
+            element: 3,
+            side,
+            number: 1,
+        };
+        let shown = format!(in rt.alloc(); "{fault}")?;
+        assert_eq!(rt; shown.as_str(), text);
+    }
     Ok(())
 }

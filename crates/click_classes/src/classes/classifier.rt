@@ -3,7 +3,8 @@
 ghost use Rattle.click_classes.specs.Fresh.{classifier};
 ghost use Rattle.click_classes.specs.Made.{ByWords};
 ghost use Rattle.click_classes.specs.Patterns.{pattern};
-ghost use Rattle.click_classes.specs.Steps.{each, IsOrNoMemory, OrNoMemory};
+ghost use Rattle.click_classes.specs.Steps.{each, OrNoMemory};
+ghost use Rattle.click_classes.specs.kept.Answers.{IsOrNoMemory};
 
 use crate::arguments::Arguments;
 use crate::fault::ArgFault;

@@ -1,7 +1,7 @@
 //! Elements at devices.
 
 ghost use Rattle.click_classes.specs.Fresh.{device, from_device, to_device};
-ghost use Rattle.click_classes.specs.Steps.{IsOrNoMemory};
+ghost use Rattle.click_classes.specs.kept.Answers.{IsOrNoMemory};
 
 use crate::arguments::Arguments;
 use crate::fault::ArgFault;

@@ -2,12 +2,13 @@
 
 ghost use Rattle.std.specs.Prelude.{◌≡◌, ◌==◌, [], Ok, length, slice_index_or, if◌then◌else◌};
 ghost use Rattle.click_classes.specs.Values.{address};
-ghost use Rattle.click_classes.specs.Fresh.{addresses, check_ip_header, plain};
+ghost use Rattle.click_classes.specs.Fresh.{addresses, check_ip_header, without_arguments};
 ghost use Rattle.click_classes.specs.Made.{ByWords};
-ghost use Rattle.click_classes.specs.Steps.{each, IsOrNoMemory, OrNoMemory};
+ghost use Rattle.click_classes.specs.Steps.{each, OrNoMemory};
+ghost use Rattle.click_classes.specs.kept.Answers.{IsOrNoMemory};
 
 use crate::arguments::Arguments;
-use crate::classes::plain::plain;
+use crate::classes::plain::without_arguments;
 use crate::fault::ArgFault;
 use crate::state::State;
 use crate::values::address::address;
@@ -83,7 +84,7 @@ pub fn make_check_ip_header(alloc: Global, arguments: &Arguments) -> Result<Stat
 ///
 /// Example: `FromDevice(a) -> d :: DecIPTTL -> Discard; d [1] -> Discard;`
 pub fn make_dec_ip_ttl(arguments: &Arguments) -> Result<State, ArgFault>
-    ensures { result ≡ plain State.DecIPTTL arguments.now }
+    ensures { result ≡ without_arguments State.DecIPTTL arguments.now }
 {
-    plain(State::DecIPTTL, arguments)
+    without_arguments(State::DecIPTTL, arguments)
 }

@@ -1,16 +1,16 @@
 //! Classes without arguments.
 
 ghost use Rattle.std.specs.Prelude.{◌≡◌};
-ghost use Rattle.click_classes.specs.Fresh.{plain};
+ghost use Rattle.click_classes.specs.Fresh.{without_arguments};
 
 use crate::arguments::Arguments;
 use crate::fault::ArgFault;
 use crate::state::State;
 
 /// This state, where there is no argument.
-#[tactic(auto, unfolding(crate::specs::Fresh::plain))]
-pub fn plain(state: State, arguments: &Arguments) -> Result<State, ArgFault>
-    ensures { result ≡ plain state arguments.now }
+#[tactic(auto, unfolding(crate::specs::Fresh::without_arguments))]
+pub fn without_arguments(state: State, arguments: &Arguments) -> Result<State, ArgFault>
+    ensures { result ≡ without_arguments state arguments.now }
 {
     if arguments.are(0, 0) {
         Ok(state)
@@ -28,9 +28,9 @@ pub fn plain(state: State, arguments: &Arguments) -> Result<State, ArgFault>
 ///
 /// Example: `FromDevice(a) -> Queue -> Unqueue -> Discard;`
 pub fn make_unqueue(arguments: &Arguments) -> Result<State, ArgFault>
-    ensures { result ≡ plain State.Unqueue arguments.now }
+    ensures { result ≡ without_arguments State.Unqueue arguments.now }
 {
-    plain(State::Unqueue, arguments)
+    without_arguments(State::Unqueue, arguments)
 }
 
 /// Counter: counts packets and bytes.
@@ -42,9 +42,9 @@ pub fn make_unqueue(arguments: &Arguments) -> Result<State, ArgFault>
 ///
 /// Example: `FromDevice(a) -> c :: Counter -> Discard;`
 pub fn make_counter(arguments: &Arguments) -> Result<State, ArgFault>
-    ensures { result ≡ plain (State.Counter 0 0) arguments.now }
+    ensures { result ≡ without_arguments (State.Counter 0 0) arguments.now }
 {
-    plain(
+    without_arguments(
         State::Counter {
             count: 0,
             byte_count: 0,
@@ -62,9 +62,9 @@ pub fn make_counter(arguments: &Arguments) -> Result<State, ArgFault>
 ///
 /// Example: `Idle -> Discard;`
 pub fn make_idle(arguments: &Arguments) -> Result<State, ArgFault>
-    ensures { result ≡ plain State.Idle arguments.now }
+    ensures { result ≡ without_arguments State.Idle arguments.now }
 {
-    plain(State::Idle, arguments)
+    without_arguments(State::Idle, arguments)
 }
 
 /// Discard: drops packets.
@@ -76,9 +76,9 @@ pub fn make_idle(arguments: &Arguments) -> Result<State, ArgFault>
 ///
 /// Example: `FromDevice(a) -> Discard;`
 pub fn make_discard(arguments: &Arguments) -> Result<State, ArgFault>
-    ensures { result ≡ plain State.Discard arguments.now }
+    ensures { result ≡ without_arguments State.Discard arguments.now }
 {
-    plain(State::Discard, arguments)
+    without_arguments(State::Discard, arguments)
 }
 
 /// Null: passes packets.
@@ -90,9 +90,9 @@ pub fn make_discard(arguments: &Arguments) -> Result<State, ArgFault>
 ///
 /// Example: `FromDevice(a) -> Null -> Discard;`
 pub fn make_null(arguments: &Arguments) -> Result<State, ArgFault>
-    ensures { result ≡ plain State.Null arguments.now }
+    ensures { result ≡ without_arguments State.Null arguments.now }
 {
-    plain(State::Null, arguments)
+    without_arguments(State::Null, arguments)
 }
 
 /// PushNull: passes packets that are pushed.
@@ -104,9 +104,9 @@ pub fn make_null(arguments: &Arguments) -> Result<State, ArgFault>
 ///
 /// Example: `FromDevice(a) -> PushNull -> Discard;`
 pub fn make_push_null(arguments: &Arguments) -> Result<State, ArgFault>
-    ensures { result ≡ plain State.PushNull arguments.now }
+    ensures { result ≡ without_arguments State.PushNull arguments.now }
 {
-    plain(State::PushNull, arguments)
+    without_arguments(State::PushNull, arguments)
 }
 
 /// PullNull: passes packets that are pulled.
@@ -118,7 +118,7 @@ pub fn make_push_null(arguments: &Arguments) -> Result<State, ArgFault>
 ///
 /// Example: `FromDevice(a) -> Queue -> PullNull -> ToDevice(b);`
 pub fn make_pull_null(arguments: &Arguments) -> Result<State, ArgFault>
-    ensures { result ≡ plain State.PullNull arguments.now }
+    ensures { result ≡ without_arguments State.PullNull arguments.now }
 {
-    plain(State::PullNull, arguments)
+    without_arguments(State::PullNull, arguments)
 }

@@ -2,7 +2,7 @@
 
 ghost use Rattle.std.specs.Prelude.{◌≡◌, ◌≤◌, [], Ok, IfOk};
 ghost use Rattle.click_classes.specs.Fresh.{capacity, queue, front_drop_queue};
-ghost use Rattle.click_classes.specs.Steps.{IsOrNoMemory};
+ghost use Rattle.click_classes.specs.kept.Answers.{IsOrNoMemory};
 
 use crate::arguments::Arguments;
 use crate::fault::ArgFault;

@@ -1,10 +1,10 @@
 //! Elements that choose among their inputs.
 
 ghost use Rattle.std.specs.Prelude.{◌≡◌};
-ghost use Rattle.click_classes.specs.Fresh.{plain};
+ghost use Rattle.click_classes.specs.Fresh.{without_arguments};
 
 use crate::arguments::Arguments;
-use crate::classes::plain::plain;
+use crate::classes::plain::without_arguments;
 use crate::fault::ArgFault;
 use crate::state::State;
 
@@ -18,9 +18,9 @@ use crate::state::State;
 ///
 /// Example: `FromDevice(a) -> Queue -> r :: RoundRobinSched -> ToDevice(c); FromDevice(b) -> Queue -> [1] r;`
 pub fn make_round_robin_sched(arguments: &Arguments) -> Result<State, ArgFault>
-    ensures { result ≡ plain (State.RoundRobinSched 0) arguments.now }
+    ensures { result ≡ without_arguments (State.RoundRobinSched 0) arguments.now }
 {
-    plain(State::RoundRobinSched { next: 0 }, arguments)
+    without_arguments(State::RoundRobinSched { next: 0 }, arguments)
 }
 
 /// PrioSched: pulls from the first of its inputs that has a packet.
@@ -32,7 +32,7 @@ pub fn make_round_robin_sched(arguments: &Arguments) -> Result<State, ArgFault>
 ///
 /// Example: `FromDevice(a) -> Queue -> p :: PrioSched -> ToDevice(c); FromDevice(b) -> Queue -> [1] p;`
 pub fn make_prio_sched(arguments: &Arguments) -> Result<State, ArgFault>
-    ensures { result ≡ plain State.PrioSched arguments.now }
+    ensures { result ≡ without_arguments State.PrioSched arguments.now }
 {
-    plain(State::PrioSched, arguments)
+    without_arguments(State::PrioSched, arguments)
 }

@@ -3,7 +3,8 @@
 ghost use Rattle.std.specs.Prelude.{◌≡◌, ◌-◌, ◌^◌, None, true, slice_get};
 ghost use Rattle.click_classes.specs.Values.{number_in, number_or_minus_one, truth};
 ghost use Rattle.click_classes.specs.Fresh.{optional, infinite_source};
-ghost use Rattle.click_classes.specs.Made.{AreBytes, ByFirst};
+ghost use Rattle.click_classes.specs.Made.{ByFirst};
+ghost use Rattle.click_classes.specs.kept.Answers.{AreBytes};
 ghost use Rattle.click_classes.specs.Steps.{OrNoMemory};
 
 use crate::arguments::Arguments;

@@ -1,18 +1,18 @@
 //! Switches.
 
 ghost use Rattle.std.specs.Prelude.{◌≡◌};
-ghost use Rattle.click_classes.specs.Fresh.{plain, port, suppressor, switch, pull_switch};
+ghost use Rattle.click_classes.specs.Fresh.{without_arguments, switch_port, suppressor, switch, pull_switch};
 
 use crate::arguments::Arguments;
-use crate::classes::plain::plain;
+use crate::classes::plain::without_arguments;
 use crate::fault::ArgFault;
 use crate::state::State;
 use crate::values::number::number_or_minus_one;
 
 /// The port that is used, None for -1.
-#[tactic(auto, unfolding(crate::specs::Fresh::port))]
-fn port(arguments: &Arguments) -> Result<Option<u8>, ArgFault>
-    ensures { result ≡ port arguments.now }
+#[tactic(auto, unfolding(crate::specs::Fresh::switch_port))]
+fn switch_port(arguments: &Arguments) -> Result<Option<u8>, ArgFault>
+    ensures { result ≡ switch_port arguments.now }
 {
     if !arguments.are(0, 1) {
         return Err(ArgFault::ArgumentCount);
@@ -21,7 +21,7 @@ fn port(arguments: &Arguments) -> Result<Option<u8>, ArgFault>
         return Ok(Some(0));
     };
     match number_or_minus_one(bytes, 255)? {
-        Some(port) => Ok(Some(port as u8)),
+        Some(number) => Ok(Some(number as u8)),
         None => Ok(None),
     }
 }
@@ -38,7 +38,7 @@ fn port(arguments: &Arguments) -> Result<Option<u8>, ArgFault>
 pub fn make_switch(arguments: &Arguments) -> Result<State, ArgFault>
     ensures { result ≡ switch arguments.now }
 {
-    let output = port(arguments)?;
+    let output = switch_port(arguments)?;
     Ok(State::Switch { output })
 }
 
@@ -54,7 +54,7 @@ pub fn make_switch(arguments: &Arguments) -> Result<State, ArgFault>
 pub fn make_pull_switch(arguments: &Arguments) -> Result<State, ArgFault>
     ensures { result ≡ pull_switch arguments.now }
 {
-    let input = port(arguments)?;
+    let input = switch_port(arguments)?;
     Ok(State::PullSwitch { input })
 }
 
@@ -67,9 +67,9 @@ pub fn make_pull_switch(arguments: &Arguments) -> Result<State, ArgFault>
 ///
 /// Example: `FromDevice(a) -> r :: RoundRobinSwitch; r -> Discard; r [1] -> Discard;`
 pub fn make_round_robin_switch(arguments: &Arguments) -> Result<State, ArgFault>
-    ensures { result ≡ plain (State.RoundRobinSwitch 0) arguments.now }
+    ensures { result ≡ without_arguments (State.RoundRobinSwitch 0) arguments.now }
 {
-    plain(State::RoundRobinSwitch { next: 0 }, arguments)
+    without_arguments(State::RoundRobinSwitch { next: 0 }, arguments)
 }
 
 /// Suppressor: lets through what comes in at active inputs.
@@ -82,7 +82,7 @@ pub fn make_round_robin_switch(arguments: &Arguments) -> Result<State, ArgFault>
 ///
 /// Example: `FromDevice(a) -> s :: Suppressor -> Discard; FromDevice(b) -> [1] s [1] -> Discard;`
 pub fn make_suppressor(arguments: &Arguments) -> Result<State, ArgFault>
-    ensures { result ≡ plain suppressor arguments.now }
+    ensures { result ≡ without_arguments suppressor arguments.now }
 {
-    plain(State::Suppressor { active: [true; 16] }, arguments)
+    without_arguments(State::Suppressor { active: [true; 16] }, arguments)
 }

@@ -2,7 +2,7 @@
 
 ghost use Rattle.std.specs.Prelude.{◌≡◌, []};
 ghost use Rattle.click_classes.specs.Entries.{entry, table};
-ghost use Rattle.click_classes.specs.Steps.{IsOrNoMemory};
+ghost use Rattle.click_classes.specs.kept.Answers.{IsOrNoMemory};
 
 use crate::fault::ArgFault;
 use crate::values::address::address;

@@ -1,7 +1,7 @@
 //! Groups of digits with a byte between two of them.
 
 ghost use Rattle.std.specs.Prelude.{◌≡◌, ◌==◌, ◌<◌, length, position, Some, None, IfSome, MatchBool};
-ghost use Rattle.click_classes.specs.Values.{group, joined};
+ghost use Rattle.click_classes.specs.Values.{group, separated};
 
 use crate::values::number::{decimal_in, hexadecimal_in};
 
@@ -38,11 +38,11 @@ pub fn place(bytes: &[u8], byte: u8) -> Option<usize>
 }
 
 /// Reads as many groups as `values` has places, with a separator between two of them, and says whether it could.
-pub fn read_joined(bytes: &[u8], separator: u8, kind: Group, values: &mut [u8]) -> bool
+pub fn read_separated(bytes: &[u8], separator: u8, kind: Group, values: &mut [u8]) -> bool
     requires { 0 < length values.old }
     ensures { MatchBool result
-        (joined kind separator (length values.old) bytes.now ≡ Some values.new)
-        (joined kind separator (length values.old) bytes.now ≡ None) }
+        (separated kind separator (length values.old) bytes.now ≡ Some values.new)
+        (separated kind separator (length values.old) bytes.now ≡ None) }
 {
     let mut rest = bytes;
     let last = values.len() - 1;

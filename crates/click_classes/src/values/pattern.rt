@@ -2,8 +2,9 @@
 
 ghost use Rattle.std.specs.Prelude.{◌≡◌, ◌≤◌, length, replicate, Ok};
 ghost use Rattle.std.specs.List.{list_all};
-ghost use Rattle.click_classes.specs.Patterns.{pattern_digit, value_of, kept, mask_of, are_digits, is_mask, clause_of, unsigned, clause, is_dash, pattern};
-ghost use Rattle.click_classes.specs.Steps.{each, IsOrNoMemory};
+ghost use Rattle.click_classes.specs.Patterns.{pattern_digit, value_of, counted_bits, mask_of, are_digits, is_mask, clause_of, unsigned, clause, is_dash, pattern};
+ghost use Rattle.click_classes.specs.Steps.{each};
+ghost use Rattle.click_classes.specs.kept.Answers.{IsOrNoMemory};
 
 use crate::fault::ArgFault;
 use crate::values::groups::place;
@@ -73,8 +74,8 @@ fn value_of(alloc: Global, digits: &[u8]) -> Result<Sequence<u8>, ArgFault>
 }
 
 /// The bits of a mask's digit that count at a digit: none under a `?`.
-fn kept(digit: u8, mask: u8) -> u8
-    ensures value { result ≡ kept digit mask }
+fn counted_bits(digit: u8, mask: u8) -> u8
+    ensures value { result ≡ counted_bits digit mask }
     ensures small { result ≤ 15 }
 {
     if digit == b'?' { 0 } else { digit_value(mask) }
@@ -88,7 +89,8 @@ fn mask_of(alloc: Global, digits: &[u8], mask: &[u8]) -> Result<Sequence<u8>, Ar
     let mut bytes = Sequence::new(alloc);
     for i in 0..digits.len() / 2 {
         bytes.push(
-            16 * kept(digits[2 * i], mask[2 * i]) + kept(digits[2 * i + 1], mask[2 * i + 1]),
+            16 * counted_bits(digits[2 * i], mask[2 * i])
+                + counted_bits(digits[2 * i + 1], mask[2 * i + 1]),
         )?;
     }
     Ok(bytes)
@@ -128,7 +130,7 @@ fn full_clause(alloc: Global, negated: bool, offset: u16, digits: &[u8]) -> Resu
     clause_of(alloc, negated, offset, digits, &FULL_MASK[..digits.len()])
 }
 
-/// A clause behind its `!`.
+/// A clause after its `!`.
 fn unsigned(alloc: Global, negated: bool, text: &[u8]) -> Result<Clause, ArgFault>
     ensures { IsOrNoMemory (unsigned negated text.now) result }
 {

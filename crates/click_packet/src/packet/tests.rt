@@ -120,3 +120,10 @@ fn annotations(rt: HostRuntime) -> Result<(), Fail> {
     assert_eq!(rt; other.destination(), [10, 0, 0, 9]);
     Ok(())
 }
+
+#[test]
+fn fault_text(rt: HostRuntime) -> Result<(), Fail> {
+    let shown = format!(in rt.alloc(); "{}", TooLong)?;
+    assert_eq!(rt; shown.as_str(), "a packet has at most 1600 bytes");
+    Ok(())
+}

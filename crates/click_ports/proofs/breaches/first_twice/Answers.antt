@@ -4,7 +4,7 @@ use Rattle.click_ports.specs.declared.port.Port.{Port}
 use Rattle.click_ports.specs.Kinds.{IsSingle}
 use Rattle.click_ports.specs.Breaches.{IsFirstBreach}
 use Rattle.click_ports.specs.Ports.{uses}
-use Rattle.click_ports.specs.Wiring.{number_of}
+use Rattle.click_ports.specs.kept.Wiring.{port_index}
 use Rattle.click_ports.proofs.Crossing.{read-place}
 use Rattle.click_ports.proofs.Telling.{first-twice, all-single, next-port, all-ports, uses-read, single-is, is-single}
 use Rattle.click_ports.proofs.breaches.first_twice.Goals as goal
@@ -23,7 +23,7 @@ returns-then-len-gt1 c =
     let is : c.len.result ≡ uses cs p = uses-read w c.args.ends.now p n c.len.result c.index-ends-number.result c.requires.ends read.0 read.1 l c.index-ends-number.is c.len.ensures in
     let one : IsSingle w.shapes cs p = single-is w c.args.pulls.now p (get_or c.args.pulls.now n false) c.requires.pulls read.0 (ap (λ x. get_or c.args.pulls.now x false) read.1) (sym c.is_single.ensures ∙ c.if-is_single.true) in
     subst (IsFirstBreach w.shapes cs) (sym c.fault_at.ensures) (first-twice w.shapes cs c.requires.counted c.requires.connected c.requires.unmixed p read.0 one (omega (arith, is, c.if-len-gt1.true))
-    (λ q h b. c.loop-number.invariant q h (subst (λ x. number_of cs q < x) read.1 b)))
+    (λ q h b. c.loop-number.invariant q h (subst (λ x. port_index cs q < x) read.1 b)))
 
 pub loop-number-preserved : goal.loop-number-preserved
 unfolding none

@@ -3,7 +3,7 @@ use Rattle.click_classes.specs.declared.ports.Side.TheVariants.{Input}
 use Rattle.click_ports.specs.declared.port.Port.{Port}
 use Rattle.click_ports.specs.Breaches.{IsFirstBreach}
 use Rattle.click_ports.specs.Ports.{uses}
-use Rattle.click_ports.specs.Wiring.{number_of}
+use Rattle.click_ports.specs.kept.Wiring.{port_index}
 use Rattle.click_ports.proofs.Crossing.{read-place}
 use Rattle.click_ports.proofs.Telling.{first-unused, next-port, all-ports, uses-read}
 use Rattle.click_ports.proofs.breaches.first_unused.Goals as goal
@@ -19,7 +19,7 @@ returns-then-len-eq0 c =
     let read = read-place cs ports n none c.ports-port-items.ensures.right c.loop-number-test.true in
     let l : n < length c.args.ends.now = omega (arith, c.loop-number-test.true, c.ports-port-items.ensures.all, c.requires.ends.all) in
     let is : c.len.result ≡ uses cs p = uses-read w c.args.ends.now p n c.len.result c.index-ends-number.result c.requires.ends read.0 read.1 l c.index-ends-number.is c.len.ensures in
-    subst (IsFirstBreach w.shapes cs) (sym c.fault_at.ensures) (first-unused w.shapes cs c.requires.counted p read.0 (sym is ∙ c.if-len-eq0.true) (λ q h b. c.loop-number.invariant q h (subst (λ x. number_of cs q < x) read.1 b)))
+    subst (IsFirstBreach w.shapes cs) (sym c.fault_at.ensures) (first-unused w.shapes cs c.requires.counted p read.0 (sym is ∙ c.if-len-eq0.true) (λ q h b. c.loop-number.invariant q h (subst (λ x. port_index cs q < x) read.1 b)))
 
 pub loop-number-preserved : goal.loop-number-preserved
 unfolding none

@@ -2,9 +2,9 @@ use Rattle.std.proofs.Common.{◌≡◌, ℕ, ◌<◌, List, [], take, replicate
 use Rattle.std.proofs.lemmas.List.{take_more, take_all}
 use Rattle.click_classes.specs.declared.ports.Side.TheVariants.{Input, Output}
 use Rattle.click_expand.specs.declared.flat.Connection.{Connection}
-use Rattle.click_ports.specs.Ports.{end_of}
-use Rattle.click_ports.specs.Ends.{far_ends}
-use Rattle.click_ports.specs.Wiring.{number_of}
+use Rattle.click_ports.specs.Ports.{joined_port}
+use Rattle.click_ports.specs.kept.Ends.{far_ends}
+use Rattle.click_ports.specs.kept.Wiring.{port_index}
 use Rattle.click_ports.proofs.Rows.{AreEndsOf, ends-more, ends-none, end-has}
 use Rattle.click_ports.proofs.ends.ends_of.Goals as goal
 
@@ -14,14 +14,14 @@ blank = record { from = 0; out_port = 0; to = 0; in_port = 0 }
 pub number-from-requires : goal.number-from-requires
 unfolding blank
 number-from-requires c =
-    end-has c.args.layout.now.connections c.connections-connection-items.result.now c.loop-connection.connection-index blank Output c.end_of-output.result c.connections-connection-items.ensures.value
-    c.loop-connection-test.true c.end_of-output.ensures.is
+    end-has c.args.layout.now.connections c.connections-connection-items.result.now c.loop-connection.connection-index blank Output c.joined_port-output.result c.connections-connection-items.ensures.value
+    c.loop-connection-test.true c.joined_port-output.ensures.is
 
 pub number-to-requires : goal.number-to-requires
 unfolding blank
 number-to-requires c =
-    end-has c.args.layout.now.connections c.connections-connection-items.result.now c.loop-connection.connection-index blank Input c.end_of-input.result c.connections-connection-items.ensures.value
-    c.loop-connection-test.true c.end_of-input.ensures.is
+    end-has c.args.layout.now.connections c.connections-connection-items.result.now c.loop-connection.connection-index blank Input c.joined_port-input.result c.connections-connection-items.ensures.value
+    c.loop-connection-test.true c.joined_port-input.ensures.is
 
 pub loop-connection-init : goal.loop-connection-init
 loop-connection-init c = ends-none c.args.layout.now c.in_ok-rows.rows.items (c.in_ok-rows.ensures ∙ ap (λ n. replicate {A = List ℕ} n []) c.ports.ensures.all)
@@ -37,8 +37,8 @@ loop-connection-preserved c =
     let x = c.number-from.result in let y = c.number-to.result in
     subst (λ part. AreEndsOf w part c.add_to-in-loop-connection.new.rows.items) (sym (take_more xs i blank lt))
     (ends-more w (take i xs) it c.loop-connection.rows.items c.add_to.new.rows.items c.add_to-in-loop-connection.new.rows.items x y
-    (end-has cs xs i blank Output (end_of Output it) same lt refl) (end-has cs xs i blank Input (end_of Input it) same lt refl)
-    (c.number-from.ensures.value ∙ ap (number_of cs) c.end_of-output.ensures.is) (c.number-to.ensures.value ∙ ap (number_of cs) c.end_of-input.ensures.is)
+    (end-has cs xs i blank Output (joined_port Output it) same lt refl) (end-has cs xs i blank Input (joined_port Input it) same lt refl)
+    (c.number-from.ensures.value ∙ ap (port_index cs) c.joined_port-output.ensures.is) (c.number-to.ensures.value ∙ ap (port_index cs) c.joined_port-input.ensures.is)
     (omega (arith, c.number-from.ensures.within, known.all)) (omega (arith, c.number-to.ensures.within, known.all))
     c.in_ok-add_to.ensures c.in_ok-add_to-2.ensures known)
 

@@ -1,20 +1,20 @@
 use Rattle.std.proofs.Common.{◌≡◌, ℕ, List, Bool, length, subst, sym}
 use Rattle.click_classes.specs.declared.ports.Code.{Code}
 use Rattle.click_classes.specs.declared.ports.Code.TheVariants.{Push, Pull, Agnostic}
-use Rattle.click_ports.specs.Ends.{AreEnds}
-use Rattle.click_ports.specs.Marks.{AreCodes, AreMarks}
-use Rattle.click_ports.specs.Passages.{AreRows}
-use Rattle.click_ports.specs.Search.{IsGraph, AreMarked}
-use Rattle.click_ports.specs.Wiring.{Wiring, AreWithin}
+use Rattle.click_ports.specs.kept.Ends.{AreFarEnds}
+use Rattle.click_ports.specs.kept.Marks.{AreCodes, AreMarks}
+use Rattle.click_ports.specs.kept.Passages.{AreRows}
+use Rattle.click_ports.specs.kept.Search.{IsGraph, AreMarked}
+use Rattle.click_ports.specs.kept.Wiring.{Wiring, AreWithin}
 use Rattle.click_ports.proofs.Spreading.{ports-graph, marks-meet}
 use Rattle.click_ports.proofs.kinds.kinds_of.Goals as goal
 
-graph : (w : Wiring) (all codes : List Code) (ends rows inside : List (List ℕ)) → codes ≡ all → inside ≡ rows → AreWithin (length w.shapes) w.connections → AreCodes w all → AreEnds w ends → AreRows w rows →
+graph : (w : Wiring) (all codes : List Code) (ends rows inside : List (List ℕ)) → codes ≡ all → inside ≡ rows → AreWithin (length w.shapes) w.connections → AreCodes w all → AreFarEnds w ends → AreRows w rows →
     IsGraph (length codes) ends inside
 graph w all codes ends rows inside p q i c e r =
     ports-graph w codes ends inside i (subst (AreCodes w) (sym p) c) e (subst (AreRows w) (sym q) r)
 
-told : (w : Wiring) (all codes : List Code) (ends rows inside : List (List ℕ)) (k : Code) (marks : List Bool) → codes ≡ all → inside ≡ rows → AreWithin (length w.shapes) w.connections → AreCodes w all → AreEnds w ends → AreRows w rows →
+told : (w : Wiring) (all codes : List Code) (ends rows inside : List (List ℕ)) (k : Code) (marks : List Bool) → codes ≡ all → inside ≡ rows → AreWithin (length w.shapes) w.connections → AreCodes w all → AreFarEnds w ends → AreRows w rows →
     (k ≡ Agnostic → ⊥) → AreMarked codes ends inside k marks → AreMarks w k marks
 told w all codes ends rows inside k marks p q i c e r f m =
     marks-meet w codes ends inside i (subst (AreCodes w) (sym p) c) e (subst (AreRows w) (sym q) r) k f marks m

@@ -1,4 +1,4 @@
-use Rattle.click_ports.specs.Wiring.{AreNumbered}
+use Rattle.click_ports.specs.kept.Wiring.{AreNumbered}
 use Rattle.click_ports.proofs.numbering.numbered.Given as goal
 
 abbrev pub invariant-loop-element : goal.invariant-loop-element

@@ -1,6 +1,6 @@
 use Rattle.std.proofs.Common.{length, refl, sym, ap, ◌∙◌, subst}
 use Rattle.click_ports.specs.Net.{names_of}
-use Rattle.click_ports.specs.Wiring.{Wiring, AreWithin}
+use Rattle.click_ports.specs.kept.Wiring.{Wiring, AreWithin}
 use Rattle.click_ports.proofs.Resolved.{IsOf, laid-of, joined-within, refuted, kept-made}
 use Rattle.click_ports.proofs.resolving.resolve.Goals as goal
 use Rattle.click_ports.proofs.resolving.resolve.Goals.{In_ok-layout}

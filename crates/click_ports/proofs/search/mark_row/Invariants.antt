@@ -1,5 +1,5 @@
 use Rattle.std.proofs.Common.{take}
-use Rattle.click_ports.specs.Search.{RowMarked}
+use Rattle.click_ports.specs.kept.Search.{RowMarked}
 use Rattle.click_ports.proofs.search.mark_row.Given as goal
 
 abbrev pub invariant-loop-port : goal.invariant-loop-port

@@ -1,5 +1,5 @@
 use Rattle.std.proofs.Common.{inl, inr, ◌<◌, length, sym, ◌∙◌, subst, arith, rules, Contains}
-use Rattle.click_ports.specs.Search.{RowMarked}
+use Rattle.click_ports.specs.kept.Search.{RowMarked}
 use Rattle.click_ports.proofs.Searching.{way-start, way-on, way-end, waits-within, none-left, row-within, row-read}
 use Rattle.click_ports.proofs.search.reaching.Goals as goal
 use Rattle.click_ports.proofs.search.reaching.Goals.{In-Some}

@@ -1,5 +1,5 @@
 use Rattle.std.proofs.Common.{◌+◌, length}
-use Rattle.click_ports.specs.Search.{unmarked}
+use Rattle.click_ports.specs.kept.Search.{unmarked}
 use Rattle.click_ports.proofs.Searching.{IsUnderWay}
 use Rattle.click_ports.proofs.search.reaching.Given as goal
 

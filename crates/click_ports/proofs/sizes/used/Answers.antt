@@ -2,8 +2,8 @@ use Rattle.std.proofs.Common.{◌≡◌, ◌+◌, ◌<◌, max, take, set, get_o
 use Rattle.std.proofs.lemmas.List.{take_more, get_or_default}
 use Rattle.click_expand.specs.declared.flat.Connection.{Connection}
 use Rattle.click_ports.specs.declared.port.Port.{Port}
-use Rattle.click_ports.specs.Used.{AreUsed}
-use Rattle.click_ports.specs.Ports.{end_of}
+use Rattle.click_ports.specs.kept.Used.{AreUsed}
+use Rattle.click_ports.specs.Ports.{joined_port}
 use Rattle.click_ports.proofs.Using.{used-more, within-end}
 use Rattle.click_ports.proofs.sizes.used.Goals as goal
 
@@ -12,10 +12,10 @@ loop-connection-preserved c =
     let cs = c.args.connections.now in let i = c.loop-connection.connection-index in let counts = c.loop-connection.counts.items in let s = c.args.side in
     let d : Connection = record { from = 0; out_port = 0; to = 0; in_port = 0 } in
     let it : Connection = get_or cs i d in
-    let port = c.end_of-port.result in
-    let is : port ≡ end_of s it = c.end_of-port.ensures.is in
+    let port = c.joined_port-port.result in
+    let is : port ≡ joined_port s it = c.joined_port-port.ensures.is in
     let lt : i < length cs = c.loop-connection-test.true in
-    let at : (end_of s it).element < c.args.elements = within-end c.args.elements it s (c.requires i d lt) in
+    let at : (joined_port s it).element < c.args.elements = within-end c.args.elements it s (c.requires i d lt) in
     let there : port.element < c.args.elements = subst (λ (p : Port). p.element < c.args.elements) (sym is) at in
     let known = c.loop-connection.invariant in
     let read : c.index.result.now ≡ get_or counts port.element 0 =
@@ -25,5 +25,5 @@ loop-connection-preserved c =
     (ap (λ (p : Port). p.element) is)
     (c.max-count.ensures ∙ ap (λ n. max n (port.number + 1)) read ∙ ap (λ (p : Port). max (get_or counts port.element 0) (p.number + 1)) is)
     there
-    (subst (λ (p : Port). p.number < 256) is c.end_of-port.ensures.small)
+    (subst (λ (p : Port). p.number < 256) is c.joined_port-port.ensures.small)
     known)

@@ -1,5 +1,5 @@
 use Rattle.std.proofs.Common.{take}
-use Rattle.click_ports.specs.Used.{AreUsed}
+use Rattle.click_ports.specs.kept.Used.{AreUsed}
 use Rattle.click_ports.proofs.sizes.used.Given as goal
 
 abbrev pub invariant-loop-connection : goal.invariant-loop-connection

@@ -1,4 +1,3 @@
-use Rattle.std.proofs.Common.{◌≡◌, List, ◌∷◌, ◌++◌, [], map, Some, Option, sym, ap, ◌∙◌, rules}
 use Rattle.click_ports.proofs.Resolved.{states-more}
 use Rattle.click_ports.proofs.tests.add_element.Goals as goal
 

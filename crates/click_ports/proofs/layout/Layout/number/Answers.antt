@@ -1,6 +1,6 @@
 use Rattle.std.proofs.Common.{◌≡◌, ◌+◌, ◌<◌, length, arith}
-use Rattle.click_ports.specs.Wiring.{number_of}
-use Rattle.click_ports.specs.LaidOut.{IsLaidOut}
+use Rattle.click_ports.specs.kept.Wiring.{port_index}
+use Rattle.click_ports.specs.kept.LaidOut.{IsLaidOut}
 use Rattle.click_ports.proofs.Using.{has-within}
 use Rattle.click_ports.proofs.Places.{laid-seen, number-read}
 use Rattle.click_ports.proofs.layout.Layout.number.Goals as goal
@@ -16,8 +16,8 @@ index-block-requires c =
     omega (arith, l, k.numbered.all_blocks, c.self.inside.blocks.ok.0)
 
 -- the number, and that it is a place among the ports
-told : (c : After-ahead) → (c.index-block.result.now.first + c.ahead.result + c.args.port.number ≡ number_of c.args.self.now.connections c.args.port)
-    × (number_of c.args.self.now.connections c.args.port < length c.self.inside.ports.items)
+told : (c : After-ahead) → (c.index-block.result.now.first + c.ahead.result + c.args.port.number ≡ port_index c.args.self.now.connections c.args.port)
+    × (port_index c.args.self.now.connections c.args.port < length c.self.inside.ports.items)
 told c =
     let i = c.self.inside in let w = c.args.self.now in
     number-read w.shapes w.connections i.blocks.items i.ports.items c.args.port c.index-block.result.now c.ahead.result

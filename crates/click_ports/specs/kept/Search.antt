@@ -6,12 +6,12 @@ use Rattle.click_classes.specs.declared.ports.Code.TheVariants.{Agnostic}
 abbrev pub code_of : List Code → ℕ → Code
 code_of codes x = slice_index_or codes x Agnostic
 
-abbrev pub row_of : List (List ℕ) → ℕ → List ℕ
-row_of rows x = slice_index_or rows x []
+abbrev pub row_at : List (List ℕ) → ℕ → List ℕ
+row_at rows x = slice_index_or rows x []
 
 -- a row of the port has the other one
 abbrev pub IsNext : List (List ℕ) → List (List ℕ) → ℕ → ℕ → Type 0
-IsNext outside inside x y = Contains (row_of outside x) y ⊎ Contains (row_of inside x) y
+IsNext outside inside x y = Contains (row_at outside x) y ⊎ Contains (row_at inside x) y
 
 -- so many ports, each with its rows, in which only such ports are
 pub record IsGraph (n : ℕ) (outside inside : List (List ℕ)) : Type 0 where

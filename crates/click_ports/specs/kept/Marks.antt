@@ -7,8 +7,8 @@ use Rattle.click_ports.specs.declared.port.Port.{Port}
 use Rattle.click_ports.specs.Ports.{Has}
 use Rattle.click_ports.specs.Links.{code_at}
 use Rattle.click_ports.specs.Kinds.{Meets}
-use Rattle.click_ports.specs.Search.{IsMarked, code_of}
-use Rattle.click_ports.specs.Wiring.{Wiring, number_of, first}
+use Rattle.click_ports.specs.kept.Search.{IsMarked, code_of}
+use Rattle.click_ports.specs.kept.Wiring.{Wiring, port_index, first}
 
 -- pull inputs and push outputs
 abbrev pub is_single : Side → Bool → Bool
@@ -18,9 +18,9 @@ is_single Output pull = not pull
 -- each port's code, at its number
 pub record AreCodes (w : Wiring) (codes : List Code) : Type 0 where
   pub all : length codes ≡ first w.connections (length w.shapes)
-  pub right : (p : Port) → Has w.connections p → code_of codes (number_of w.connections p) ≡ code_at w.shapes p
+  pub right : (p : Port) → Has w.connections p → code_of codes (port_index w.connections p) ≡ code_at w.shapes p
 
 -- each port has a mark at its number exactly if it reaches a port of the code
 pub record AreMarks (w : Wiring) (k : Code) (marks : List Bool) : Type 0 where
   pub all : length marks ≡ first w.connections (length w.shapes)
-  pub right : (p : Port) → Has w.connections p → IsMarked marks (number_of w.connections p) ↔ Meets w.shapes w.connections k p
+  pub right : (p : Port) → Has w.connections p → IsMarked marks (port_index w.connections p) ↔ Meets w.shapes w.connections k p

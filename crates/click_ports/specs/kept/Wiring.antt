@@ -27,8 +27,8 @@ abbrev pub ahead : List Connection → ℕ → Side → ℕ
 ahead cs e Input = 0
 ahead cs e Output = used cs e Input
 
-abbrev pub number_of : List Connection → Port → ℕ
-number_of cs p = first cs p.element + ahead cs p.element p.side + p.number
+abbrev pub port_index : List Connection → Port → ℕ
+port_index cs p = first cs p.element + ahead cs p.element p.side + p.number
 
 abbrev pub block_of : List Connection → ℕ → Block
 block_of cs e = record { first = first cs e; inputs = used cs e Input; outputs = used cs e Output }
@@ -44,7 +44,7 @@ count_in b Output = b.outputs
 
 -- each of these ports is there, under its place as its number
 abbrev pub InPlace : List Connection → List Port → Type 0
-InPlace cs ports = (x : ℕ) (p : Port) → slice_get ports x ≡ Some p → Has cs p × (number_of cs p ≡ x)
+InPlace cs ports = (x : ℕ) (p : Port) → slice_get ports x ≡ Some p → Has cs p × (port_index cs p ≡ x)
 
 -- the blocks of so many elements, and all their ports
 pub record AreNumbered (cs : List Connection) (n : ℕ) (blocks : List Block) (ports : List Port) : Type 0 where

@@ -9,7 +9,7 @@ use Rattle.click_ports.specs.declared.port.Port.{Port}
 use Rattle.click_ports.specs.declared.shape.Shape.{Shape}
 use Rattle.click_ports.specs.Ports.{Has}
 use Rattle.click_ports.specs.Links.{class_at, IsAgnostic}
-use Rattle.click_ports.specs.Wiring.{Wiring, number_of, first}
+use Rattle.click_ports.specs.kept.Wiring.{Wiring, port_index, first}
 
 abbrev pub opposite : Side → Side
 opposite Input = Output
@@ -34,9 +34,9 @@ pub record Crosses (ss : List Shape) (cs : List Connection) (p : Port) (n : ℕ)
 
 -- the numbers of the ports that the port is linked with inside its element
 pub record IsRow (w : Wiring) (p : Port) (row : List ℕ) : Type 0 where
-  pub sound : (y : ℕ) → Contains row y → (n : ℕ) × Crosses w.shapes w.connections p n × (number_of w.connections (across p n) ≡ y)
-  pub complete : (n : ℕ) → Crosses w.shapes w.connections p n → Contains row (number_of w.connections (across p n))
+  pub sound : (y : ℕ) → Contains row y → (n : ℕ) × Crosses w.shapes w.connections p n × (port_index w.connections (across p n) ≡ y)
+  pub complete : (n : ℕ) → Crosses w.shapes w.connections p n → Contains row (port_index w.connections (across p n))
 
 pub record AreRows (w : Wiring) (rows : List (List ℕ)) : Type 0 where
   pub all : length rows ≡ first w.connections (length w.shapes)
-  pub right : (p : Port) → Has w.connections p → IsRow w p (slice_index_or rows (number_of w.connections p) [])
+  pub right : (p : Port) → Has w.connections p → IsRow w p (slice_index_or rows (port_index w.connections p) [])

@@ -1,0 +1,9 @@
+pub mod Wiring
+pub mod Used
+pub mod Numbered
+pub mod LaidOut
+pub mod Passages
+pub mod Ends
+pub mod Search
+pub mod Marks
+pub mod Nets
