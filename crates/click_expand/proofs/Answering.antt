@@ -2,18 +2,18 @@
 use Rattle.std.proofs.Common.{◌≡◌, inl, inr, ℕ, ◌+◌, ◌<◌, ◌≤◌, List, length, Some, None, refl, sym, ◌∙◌, subst, arith}
 use Rattle.std.specs.Prelude.{min}
 use Rattle.click_text.specs.declared.syntax.Config.{Config}
-use Rattle.click_expand.specs.Nesting.{IsNested}
-use Rattle.click_expand.specs.Faults.{IsSound}
+use Rattle.click_expand.specs.kept.Nesting.{IsNested}
+use Rattle.click_expand.specs.Faults.{IsFaultless}
 use Rattle.click_expand.specs.Instances.{Leaf, LeavesOf}
-use Rattle.click_expand.specs.Sizes.{IsSizeOf}
+use Rattle.click_expand.specs.kept.Sizes.{IsSizeOf}
 use Rattle.click_expand.specs.Flat.{most_elements, most_paths, Exceeds, many_elements, many_paths, Meant, IsFlat, IsFlatFault, wrong, too_many, repeated, broken, no_memory, IsMemoryOr}
-use Rattle.click_expand.specs.Tabled.{IsFirst, IsExpanded, IsRefused, IsRefusedOf, fault_for}
+use Rattle.click_expand.specs.kept.Tabled.{IsFirst, IsExpanded, IsRefused, IsRefusedOf, fault_for}
 use Rattle.click_expand.specs.declared.fault.FaultKind.TheVariants as kind
 use Rattle.click_expand.specs.declared.flat.Flat.{Flat}
-use Rattle.click_expand.specs.declared.flattening.Refused.{Refused}
-use Rattle.click_expand.specs.declared.flattening.Refused.TheVariants as refused
+use Rattle.click_expand.specs.declared.flattening.Refusal.{Refusal}
+use Rattle.click_expand.specs.declared.flattening.Refusal.TheVariants as refused
 use Rattle.click_expand.specs.declared.sizes.Size.{Size}
-use Rattle.click_expand.specs.declared.wrong.Wrong.{Wrong}
+use Rattle.click_expand.specs.declared.first_fault.TokenFault.{TokenFault}
 use Rattle.click_expand.proofs.Leaves.{leaves-exist}
 use Rattle.click_expand.proofs.FlatOnce.{flat-no-fault}
 
@@ -23,12 +23,12 @@ min-over n k l = omega (arith, l)
 min-under : (n k : ℕ) → min n (k + 1) ≤ k → min n (k + 1) ≡ n
 min-under n k l = omega (arith, l)
 
-pub too-many-elements : (c : Config) → IsNested c → IsSound c → (size : Size) → IsSizeOf c size → most_elements < size.elements → IsRefused c refused.TooMany
+pub too-many-elements : (c : Config) → IsNested c → IsFaultless c → (size : Size) → IsSizeOf c size → most_elements < size.elements → IsRefused c refused.TooMany
 too-many-elements c nested sound size h l =
     let e = leaves-exist c nested sound in
     too_many e.0 e.1 sound e.2 (many_elements (min-over (length e.0) most_elements (subst (λ n. most_elements < n) (h e.0 e.1 e.2).elements l)))
 
-pub too-many-paths : (c : Config) → IsNested c → IsSound c → (size : Size) → IsSizeOf c size → most_paths < size.paths → IsRefused c refused.TooMany
+pub too-many-paths : (c : Config) → IsNested c → IsFaultless c → (size : Size) → IsSizeOf c size → most_paths < size.paths → IsRefused c refused.TooMany
 too-many-paths c nested sound size h l =
     let e = leaves-exist c nested sound in
     too_many e.0 e.1 sound e.2 (many_paths (min-over e.1 most_paths (subst (λ n. most_paths < n) (h e.0 e.1 e.2).all_paths l)))
@@ -39,7 +39,7 @@ pub record IsCounted (c : Config) (size : Size) : Type 0 where
   pub are : LeavesOf c leaves size.paths
   pub few : length leaves ≤ most_elements
 
-pub counted : (c : Config) → IsNested c → IsSound c → (size : Size) → IsSizeOf c size → size.elements ≤ most_elements → size.paths ≤ most_paths → IsCounted c size
+pub counted : (c : Config) → IsNested c → IsFaultless c → (size : Size) → IsSizeOf c size → size.elements ≤ most_elements → size.paths ≤ most_paths → IsCounted c size
 counted c nested sound size h l k =
     let e = leaves-exist c nested sound in
     let s = h e.0 e.1 e.2 in
@@ -47,13 +47,13 @@ counted c nested sound size h l k =
     let m : min (length e.0) (most_elements + 1) ≡ length e.0 = min-under (length e.0) most_elements (subst (λ x. x ≤ most_elements) s.elements l) in
     record { leaves = e.0; are = subst (LeavesOf c e.0) (sym n) e.2; few = subst (λ x. x ≤ most_elements) (s.elements ∙ m) l }
 
-pub too-many : (c : Config) (leaves : List Leaf) (paths : ℕ) → IsSound c → LeavesOf c leaves paths → Exceeds c leaves paths → IsRefused c refused.TooMany
+pub too-many : (c : Config) (leaves : List Leaf) (paths : ℕ) → IsFaultless c → LeavesOf c leaves paths → Exceeds c leaves paths → IsRefused c refused.TooMany
 too-many c leaves paths sound l e = too_many leaves paths sound l e
 
-meant : (c : Config) (leaves : List Leaf) (paths : ℕ) (f : Flat) → IsSound c → LeavesOf c leaves paths → IsExpanded c leaves paths f → Meant c leaves paths f.connections
+meant : (c : Config) (leaves : List Leaf) (paths : ℕ) (f : Flat) → IsFaultless c → LeavesOf c leaves paths → IsExpanded c leaves paths f → Meant c leaves paths f.connections
 meant c leaves paths f sound l e = record { sound = sound; elements = l; connections = e.connections }
 
-pub answered : (c : Config) (leaves : List Leaf) (paths : ℕ) (f : Flat) → IsSound c → LeavesOf c leaves paths → IsExpanded c leaves paths f → IsRefusedOf leaves None → IsFlat c f
+pub answered : (c : Config) (leaves : List Leaf) (paths : ℕ) (f : Flat) → IsFaultless c → LeavesOf c leaves paths → IsExpanded c leaves paths f → IsRefusedOf leaves None → IsFlat c f
 answered c leaves paths f sound l e h = record {
   leaves = leaves;
   paths = paths;
@@ -64,7 +64,7 @@ answered c leaves paths f sound l e h = record {
   elements = e.elements;
 }
 
-pub refused-by : (c : Config) (leaves : List Leaf) (paths : ℕ) (f : Flat) → IsSound c → LeavesOf c leaves paths → IsExpanded c leaves paths f → (why : Refused) →
+pub refused-by : (c : Config) (leaves : List Leaf) (paths : ℕ) (f : Flat) → IsFaultless c → LeavesOf c leaves paths → IsExpanded c leaves paths f → (why : Refusal) →
     IsRefusedOf leaves (Some why) → IsRefused c why
 refused-by c leaves paths f sound l e refused.NoMemory h = absurd h
 refused-by c leaves paths f sound l e refused.TooMany h = absurd h
@@ -78,17 +78,17 @@ refused-by c leaves paths f sound l e (refused.Broken name) h =
     subst (λ n. IsRefused c (refused.Broken n)) (sym r.6)
     (broken leaves r.0 r.1 r.2 paths f.connections (meant c leaves paths f sound l e) e.limits h.0 r.3 r.4 r.5)
 
-pub first-refused : (c : Config) (w : Wrong) → IsFirst c (Some w) → IsRefused c (refused.At w.kind w.span)
+pub first-refused : (c : Config) (w : TokenFault) → IsFirst c (Some w) → IsRefused c (refused.At w.kind w.span)
 first-refused c w h = wrong w.kind w.span h
 
-pub told : (c : Config) (why : Refused) → IsRefused c why → IsMemoryOr (fault_for why) (IsFlatFault c (fault_for why))
+pub told : (c : Config) (why : Refusal) → IsRefused c why → IsMemoryOr (fault_for why) (IsFlatFault c (fault_for why))
 told c refused.NoMemory h = inl refl
 told c (refused.At k s) h = inr h
 told c refused.TooMany h = inr h
 told c (refused.Broken name) h = inr h
 
--- what has a flat form is refused for want of memory alone
-pub refused-for-memory : (c : Config) → IsNested c → (f : Flat) → IsFlat c f → (why : Refused) → IsRefused c why → fault_for why ≡ no_memory
+-- what has a flat form is refused for out of memory alone
+pub refused-for-memory : (c : Config) → IsNested c → (f : Flat) → IsFlat c f → (why : Refusal) → IsRefused c why → fault_for why ≡ no_memory
 refused-for-memory c nested f is refused.NoMemory h = refl
 refused-for-memory c nested f is (refused.At k s) h = absurd (flat-no-fault c nested f (fault_for (refused.At k s)) is h)
 refused-for-memory c nested f is refused.TooMany h = absurd (flat-no-fault c nested f (fault_for refused.TooMany) is h)

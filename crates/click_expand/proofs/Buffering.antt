@@ -14,18 +14,18 @@ use Rattle.click_text.proofs.ItemReading.{items_once}
 use Rattle.click_text.proofs.ItemsExist.{reading}
 use Rattle.click_expand.specs.Parameters.{replaced, value_in, IsReplaced}
 use Rattle.click_expand.specs.Instances.{Leaf}
-use Rattle.click_expand.specs.Uses.{Used, the_whole, AreUses}
-use Rattle.click_expand.specs.Values.{IsRead, IsOwn, own_arguments}
-use Rattle.click_expand.specs.Spread.{IsReadAt, Parts}
-use Rattle.click_expand.specs.Buffered.{same_argument, IsKept, AreKept, IsStep, AreSteps, BeginWithin, IsRest, costs, price, step_weight, weight}
-use Rattle.click_expand.specs.declared.uses.Place.{Place}
-use Rattle.click_expand.specs.declared.uses.Use.{Use as UseKept}
-use Rattle.click_expand.specs.declared.readings.Argument.{Argument}
-use Rattle.click_expand.specs.declared.readings.Reading.{Reading}
-use Rattle.click_expand.specs.declared.readings.Value.{Value}
-use Rattle.click_expand.specs.declared.texts.Part.TheVariants as part
-use Rattle.click_expand.specs.declared.texts.Step.{Step}
-use Rattle.click_expand.specs.declared.texts.Step.TheVariants as step
+use Rattle.click_expand.specs.kept.KnownInstances.{KnownInstance, the_whole, AreInstances}
+use Rattle.click_expand.specs.kept.ParameterValues.{IsRead, IsOwn, own_arguments}
+use Rattle.click_expand.specs.kept.Spread.{IsReadAt, Parts}
+use Rattle.click_expand.specs.kept.Buffered.{same_argument, IsArgumentKept, AreKept, IsTextStep, AreSteps, BeginWithin, IsRest, costs, price, step_weight, weight}
+use Rattle.click_expand.specs.declared.instances.Place.{Place}
+use Rattle.click_expand.specs.declared.instances.Instance.{Instance as InstanceKept}
+use Rattle.click_expand.specs.declared.parameter_values.Argument.{Argument}
+use Rattle.click_expand.specs.declared.parameter_values.UnreadText.{UnreadText}
+use Rattle.click_expand.specs.declared.parameter_values.ParameterValue.{ParameterValue}
+use Rattle.click_expand.specs.declared.texts.TextPart.TheVariants as part
+use Rattle.click_expand.specs.declared.texts.TextStep.{TextStep}
+use Rattle.click_expand.specs.declared.texts.TextStep.TheVariants as step
 use Rattle.click_expand.specs.declared.text_buffer.TextBuffer.{TextBuffer}
 
 pub no-length : (xs : List ℕ) → length xs ≡ 0 → xs ≡ []
@@ -67,29 +67,29 @@ price-more text v u l =
     let e : u - suc v + suc v ≡ u = omega (arith, l) in
     subst (λ w. 2 + costs (price text v) text ≤ price text w) e (price-from text v (u - suc v))
 
-weight-push : (text : List ℕ) (ss : List Step) (s : Step) → weight text (ss ++ s ∷ []) ≡ weight text ss + step_weight text s
+weight-push : (text : List ℕ) (ss : List TextStep) (s : TextStep) → weight text (ss ++ s ∷ []) ≡ weight text ss + step_weight text s
 weight-push text [] s = omega arith
 weight-push text (q ∷ ss) s = let h = weight-push text ss s in omega (arith, h)
 
-abbrev cost : List ℕ → Reading → ℕ
+abbrev cost : List ℕ → UnreadText → ℕ
 cost text r = costs (price text r.within) r.rest.now
 
-rest-less : (text : List ℕ) (r q : Reading) (n : ℕ) → IsRest r n q → 0 < n → n ≤ length r.rest.now → cost text q + price text r.within ≤ cost text r
+rest-less : (text : List ℕ) (r q : UnreadText) (n : ℕ) → IsRest r n q → 0 < n → n ≤ length r.rest.now → cost text q + price text r.within ≤ cost text r
 rest-less text r q n i l m =
     subst (λ z. z + price text r.within ≤ cost text r) (sym (ap (λ z. costs (price text z) q.rest.now) i.0 ∙ ap (costs (price text r.within)) i.1)) (costs-less (price text r.within) n r.rest.now l m)
 
-pub ends-empty : (text : List ℕ) (ss : List Step) (r : Reading) → weight text ss < weight text (ss ++ step.Read r ∷ [])
+pub ends-empty : (text : List ℕ) (ss : List TextStep) (r : UnreadText) → weight text ss < weight text (ss ++ step.Read r ∷ [])
 ends-empty text ss r = let k = costs-least (price text r.within) r.rest.now in let p = price-some text r.within in omega (arith, weight-push text ss (step.Read r), k, p)
 
-pub ends-keep : (text : List ℕ) (ss : List Step) (a : Argument) (start : ℕ) → weight text ss < weight text (ss ++ step.Keep a start ∷ [])
+pub ends-keep : (text : List ℕ) (ss : List TextStep) (a : Argument) (start : ℕ) → weight text ss < weight text (ss ++ step.Keep a start ∷ [])
 ends-keep text ss a start = omega (arith, weight-push text ss (step.Keep a start))
 
-pub ends-rest : (text : List ℕ) (ss new : List Step) (r q : Reading) (n : ℕ) → new ≡ ss ++ step.Read q ∷ [] → IsRest r n q → 0 < n → n ≤ length r.rest.now → weight text new < weight text (ss ++ step.Read r ∷ [])
+pub ends-rest : (text : List ℕ) (ss new : List TextStep) (r q : UnreadText) (n : ℕ) → new ≡ ss ++ step.Read q ∷ [] → IsRest r n q → 0 < n → n ≤ length r.rest.now → weight text new < weight text (ss ++ step.Read r ∷ [])
 ends-rest text ss new r q n f i l m =
     let k = ap (weight text) f in let s = rest-less text r q n i l m in let p = price-some text r.within in
     omega (arith, k, s, p, weight-push text ss (step.Read r), weight-push text ss (step.Read q))
 
-pub ends-value : (text : List ℕ) (ss new more most : List Step) (r q v : Reading) (a : Argument) (start n : ℕ) →
+pub ends-value : (text : List ℕ) (ss new more most : List TextStep) (r q v : UnreadText) (a : Argument) (start n : ℕ) →
     new ≡ ss ++ step.Read q ∷ [] → more ≡ new ++ step.Keep a start ∷ [] → most ≡ more ++ step.Read v ∷ [] → IsRest r n q → 0 < n → n ≤ length r.rest.now →
     v.within < r.within → length v.rest.now ≤ length text → weight text most < weight text (ss ++ step.Read r ∷ [])
 ends-value text ss new more most r q v a start n f g h i l m b w =
@@ -97,96 +97,96 @@ ends-value text ss new more most r q v a start n f g h i l m b w =
     let p = price-more text v.within r.within b in let o = costs-longer (price text v.within) v.rest.now text w in
     omega (arith, k, j, y, s, p, o, weight-push text ss (step.Read r), weight-push text ss (step.Read q), weight-push text new (step.Keep a start), weight-push text more (step.Read v))
 
-begin-more : (n m : ℕ) (ss : List Step) → n ≤ m → BeginWithin n ss → BeginWithin m ss
+begin-more : (n m : ℕ) (ss : List TextStep) → n ≤ m → BeginWithin n ss → BeginWithin m ss
 begin-more n m [] l h = tt
 begin-more n m (step.Read r ∷ ss) l h = begin-more n m ss l h
 begin-more n m (step.Keep a start ∷ ss) l h = let i = h.0 in (omega (arith, i, l), begin-more n m ss l h.1)
 
-begin-read : (n : ℕ) (ss : List Step) (r : Reading) → BeginWithin n ss → BeginWithin n (ss ++ step.Read r ∷ [])
+begin-read : (n : ℕ) (ss : List TextStep) (r : UnreadText) → BeginWithin n ss → BeginWithin n (ss ++ step.Read r ∷ [])
 begin-read n [] r h = tt
 begin-read n (step.Read q ∷ ss) r h = begin-read n ss r h
 begin-read n (step.Keep a start ∷ ss) r h = (h.0, begin-read n ss r h.1)
 
-begin-keep : (n : ℕ) (ss : List Step) (a : Argument) (start : ℕ) → start ≤ n → BeginWithin n ss → BeginWithin n (ss ++ step.Keep a start ∷ [])
+begin-keep : (n : ℕ) (ss : List TextStep) (a : Argument) (start : ℕ) → start ≤ n → BeginWithin n ss → BeginWithin n (ss ++ step.Keep a start ∷ [])
 begin-keep n [] a start l h = (l, tt)
 begin-keep n (step.Read q ∷ ss) a start l h = begin-keep n ss a start l h
 begin-keep n (step.Keep b place ∷ ss) a start l h = (h.0, begin-keep n ss a start l h.1)
 
-pub begin-pop : (n : ℕ) (ss : List Step) (s : Step) → BeginWithin n (ss ++ s ∷ []) → BeginWithin n ss
+pub begin-pop : (n : ℕ) (ss : List TextStep) (s : TextStep) → BeginWithin n (ss ++ s ∷ []) → BeginWithin n ss
 begin-pop n [] s h = tt
 begin-pop n (step.Read q ∷ ss) s h = begin-pop n ss s h
 begin-pop n (step.Keep b place ∷ ss) s h = (h.0, begin-pop n ss s h.1)
 
-pub begin-last : (n : ℕ) (ss : List Step) (a : Argument) (start : ℕ) → BeginWithin n (ss ++ step.Keep a start ∷ []) → start ≤ n
+pub begin-last : (n : ℕ) (ss : List TextStep) (a : Argument) (start : ℕ) → BeginWithin n (ss ++ step.Keep a start ∷ []) → start ≤ n
 begin-last n [] a start h = h.0
 begin-last n (step.Read q ∷ ss) a start h = begin-last n ss a start h
 begin-last n (step.Keep b place ∷ ss) a start h = begin-last n ss a start h.1
 
-pub begin-rest : (old new more : List ℕ) (ss most : List Step) (q : Reading) → most ≡ ss ++ step.Read q ∷ [] → new ≡ old ++ more → BeginWithin (length old) ss → BeginWithin (length new) most
+pub begin-rest : (old new more : List ℕ) (ss most : List TextStep) (q : UnreadText) → most ≡ ss ++ step.Read q ∷ [] → new ≡ old ++ more → BeginWithin (length old) ss → BeginWithin (length new) most
 begin-rest old new more ss most q e f h =
     let l = ap length f in subst (BeginWithin (length new)) (sym e) (begin-read (length new) ss q (begin-more (length old) (length new) ss (omega (arith, l, length-append old more)) h))
 
-pub begin-value : (n : ℕ) (ss new more most : List Step) (q v : Reading) (a : Argument) (start : ℕ) →
+pub begin-value : (n : ℕ) (ss new more most : List TextStep) (q v : UnreadText) (a : Argument) (start : ℕ) →
     new ≡ ss ++ step.Read q ∷ [] → more ≡ new ++ step.Keep a start ∷ [] → most ≡ more ++ step.Read v ∷ [] → start ≤ n → BeginWithin n ss → BeginWithin n most
 begin-value n ss new more most q v a start e f g l h =
     subst (BeginWithin n) (sym g) (begin-read n more v (subst (BeginWithin n) (sym f) (begin-keep n new a start l (subst (BeginWithin n) (sym e) (begin-read n ss q h)))))
 
-own-once : (known : List Used) (a : Argument) (v w : List ℕ) → IsOwn known a v → IsOwn known a w → v ≡ w
+own-once : (known : List KnownInstance) (a : Argument) (v w : List ℕ) → IsOwn known a v → IsOwn known a w → v ≡ w
 own-once known a v w h k =
     let e : h.0 ≡ k.0 = same_Some _ _ (sym h.1 ∙ k.1) in
-    same_Some _ _ (sym h.2 ∙ ap (λ (x : Used). slice_get (own_arguments x.bindings) a.place) e ∙ k.2)
+    same_Some _ _ (sym h.2 ∙ ap (λ (x : KnownInstance). slice_get (own_arguments x.bindings) a.place) e ∙ k.2)
 
-module _ (c : Config) (known : List Used) where
-  steps-push : (ss : List Step) (s : Step) (before between whole : List ℕ) → AreSteps c known ss between whole → IsStep c known s before between → AreSteps c known (ss ++ s ∷ []) before whole
-  steps-push [] s before between whole h k = (before, refl, subst (λ z. IsStep c known s before z) (sym h) k)
+module _ (c : Config) (known : List KnownInstance) where
+  steps-push : (ss : List TextStep) (s : TextStep) (before between whole : List ℕ) → AreSteps c known ss between whole → IsTextStep c known s before between → AreSteps c known (ss ++ s ∷ []) before whole
+  steps-push [] s before between whole h k = (before, refl, subst (λ z. IsTextStep c known s before z) (sym h) k)
   steps-push (q ∷ ss) s before between whole h k = (h.0, steps-push ss s before between h.0 h.1 k, h.2)
 
-  steps-pop : (ss : List Step) (s : Step) (before whole : List ℕ) → AreSteps c known (ss ++ s ∷ []) before whole → (between : List ℕ) × AreSteps c known ss between whole × IsStep c known s before between
-  steps-pop [] s before whole h = (whole, refl, subst (λ z. IsStep c known s z whole) h.1 h.2)
+  steps-pop : (ss : List TextStep) (s : TextStep) (before whole : List ℕ) → AreSteps c known (ss ++ s ∷ []) before whole → (between : List ℕ) × AreSteps c known ss between whole × IsTextStep c known s before between
+  steps-pop [] s before whole h = (whole, refl, subst (λ z. IsTextStep c known s z whole) h.1 h.2)
   steps-pop (q ∷ ss) s before whole h = let k = steps-pop ss s before h.0 h.1 in (k.0, (h.0, k.1, h.2), k.2)
 
-  steps-longer : (ss : List Step) (before whole : List ℕ) → AreSteps c known ss before whole → length before ≤ length whole
+  steps-longer : (ss : List TextStep) (before whole : List ℕ) → AreSteps c known ss before whole → length before ≤ length whole
   steps-longer [] before whole h = let e = ap length h in omega (arith, e)
   steps-longer (step.Read r ∷ ss) before whole h =
       let l = steps-longer ss before h.0 h.1 in let e = ap length h.2.1 in omega (arith, l, e, length-append h.0 h.2.0)
   steps-longer (step.Keep a start ∷ ss) before whole h = let l = steps-longer ss before h.0 h.1 in let e = ap length h.2.0 in omega (arith, l, e)
 
-  read-as : (r q : Reading) (n : ℕ) (out : List ℕ) → IsRest r n q → IsReadAt c known r.within (drop n r.rest.now) out → IsRead c known q out
+  read-as : (r q : UnreadText) (n : ℕ) (out : List ℕ) → IsRest r n q → IsReadAt c known r.within (drop n r.rest.now) out → IsRead c known q out
   read-as r q n out i h =
       (h.0, ap (slice_get known) i.0 ∙ h.1, subst (λ z. IsReplaced c h.0.bindings (h.0.scope ∷ h.0.around) z out) (sym i.1) h.2)
 
-  read-none : (r : Reading) (out : List ℕ) → r.rest.now ≡ [] → IsRead c known r out → out ≡ []
+  read-none : (r : UnreadText) (out : List ℕ) → r.rest.now ≡ [] → IsRead c known r out → out ≡ []
   unfolding replaced
   read-none r out e h =
       let i = h.2 in
       i.replaces ∙ ap (replaced (value_in c h.0.bindings (h.0.scope ∷ h.0.around)) 0) (items_once i.read (subst (λ z. AreItems z []) (sym e) ended))
 
-  module _ (ss : List Step) (r : Reading) (text whole : List ℕ) (led : AreSteps c known (ss ++ step.Read r ∷ []) text whole) where
+  module _ (ss : List TextStep) (r : UnreadText) (text whole : List ℕ) (led : AreSteps c known (ss ++ step.Read r ∷ []) text whole) where
     pub led-empty : r.rest.now ≡ [] → AreSteps c known ss text whole
     led-empty e =
         let k = steps-pop ss (step.Read r) text whole led in
         subst (λ z. AreSteps c known ss z whole) (k.2.1 ∙ ap (λ z. text ++ z) (read-none r k.2.0 e k.2.2) ∙ append-nil text) k.1
 
     -- what the reading begins with is written, and the rest of it is to be read
-    led-first : (n : ℕ) (q : Reading) (new : List Step) (more first rest : List ℕ) → IsRest r n q → new ≡ ss ++ step.Read q ∷ [] → more ≡ text ++ first →
+    led-first : (n : ℕ) (q : UnreadText) (new : List TextStep) (more first rest : List ℕ) → IsRest r n q → new ≡ ss ++ step.Read q ∷ [] → more ≡ text ++ first →
         (between : List ℕ) → AreSteps c known ss between whole → between ≡ text ++ (first ++ rest) → IsReadAt c known r.within (drop n r.rest.now) rest → AreSteps c known new more whole
     led-first n q new more first rest i e f between h g k =
         subst (λ z. AreSteps c known z more whole) (sym e)
         (steps-push ss (step.Read q) more between whole h (rest, g ∙ sym (append_assoc text first rest) ∙ ap (λ z. z ++ rest) (sym f), read-as r q n rest i k))
 
-    pub led-bytes : (n : ℕ) (q : Reading) (new : List Step) (more : List ℕ) → ((p : List ℕ) → IsRead c known r p → Parts c known r.within r.rest.now p (part.Bytes n)) → IsRest r n q →
+    pub led-bytes : (n : ℕ) (q : UnreadText) (new : List TextStep) (more : List ℕ) → ((p : List ℕ) → IsRead c known r p → Parts c known r.within r.rest.now p (part.Bytes n)) → IsRest r n q →
         new ≡ ss ++ step.Read q ∷ [] → more ≡ text ++ take n r.rest.now → AreSteps c known new more whole
     led-bytes n q new more parts i e f =
         let k = steps-pop ss (step.Read r) text whole led in let p = parts k.2.0 k.2.2 in
         led-first n q new more (take n r.rest.now) p.0 i e f k.0 k.1 (k.2.1 ∙ ap (λ z. text ++ z) p.1) p.2
 
-    module _ (n : ℕ) (v : Value) (parts : (p : List ℕ) → IsRead c known r p → Parts c known r.within r.rest.now p (part.Value n v)) where
-      pub led-kept : (q : Reading) (new : List Step) (own more : List ℕ) → IsOwn known v.argument own → IsRest r n q → new ≡ ss ++ step.Read q ∷ [] → more ≡ text ++ own → AreSteps c known new more whole
+    module _ (n : ℕ) (v : ParameterValue) (parts : (p : List ℕ) → IsRead c known r p → Parts c known r.within r.rest.now p (part.Value n v)) where
+      pub led-kept : (q : UnreadText) (new : List TextStep) (own more : List ℕ) → IsOwn known v.argument own → IsRest r n q → new ≡ ss ++ step.Read q ∷ [] → more ≡ text ++ own → AreSteps c known new more whole
       led-kept q new own more o i e f =
           let k = steps-pop ss (step.Read r) text whole led in let p = parts k.2.0 k.2.2 in
           led-first n q new more p.0 p.1 i e (f ∙ ap (λ z. text ++ z) (own-once known v.argument own p.0 o p.4)) k.0 k.1 (k.2.1 ∙ ap (λ z. text ++ z) p.2) p.5
 
-      pub led-value : (q : Reading) (new more most : List Step) (start : ℕ) → IsRest r n q → new ≡ ss ++ step.Read q ∷ [] → more ≡ new ++ step.Keep v.argument start ∷ [] → most ≡ more ++ step.Read v.reading ∷ [] →
+      pub led-value : (q : UnreadText) (new more most : List TextStep) (start : ℕ) → IsRest r n q → new ≡ ss ++ step.Read q ∷ [] → more ≡ new ++ step.Keep v.argument start ∷ [] → most ≡ more ++ step.Read v.reading ∷ [] →
           start ≡ length text → AreSteps c known most text whole
       led-value q new more most start i e f g begins =
           let k = steps-pop ss (step.Read r) text whole led in let p = parts k.2.0 k.2.2 in
@@ -210,30 +210,30 @@ module _ (c : Config) (known : List Used) where
         let m = steps-longer ss k.0 whole k.1 in let b = ap length (k.2.1 ∙ ap (λ z. text ++ z) p.1) in
         omega (arith, l, m, b, length-append text (take n r.rest.now ++ p.0), length-append (take n r.rest.now) p.0)
 
-  led-keep : (ss : List Step) (a : Argument) (start : ℕ) (text whole : List ℕ) → AreSteps c known (ss ++ step.Keep a start ∷ []) text whole → AreSteps c known ss text whole × IsOwn known a (drop start text)
+  led-keep : (ss : List TextStep) (a : Argument) (start : ℕ) (text whole : List ℕ) → AreSteps c known (ss ++ step.Keep a start ∷ []) text whole → AreSteps c known ss text whole × IsOwn known a (drop start text)
   led-keep ss a start text whole h =
       let k = steps-pop ss (step.Keep a start) text whole h in
       (subst (λ z. AreSteps c known ss z whole) k.2.0 k.1, k.2.2)
 
--- these steps are left of writing what is read first behind what stood before
-abbrev pub AreLeft : Config → List UseKept → Reading → List ℕ → List Step → List ℕ → Type 0
-AreLeft c uses first before ss text = (places : List Place) (known : List Used) (leaves : List Leaf) (whole : List ℕ) → AreUses c uses places known leaves → IsRead c known first whole → AreSteps c known ss text (before ++ whole)
+-- these steps are left of writing what is read first after what stood before
+abbrev pub AreLeft : Config → List InstanceKept → UnreadText → List ℕ → List TextStep → List ℕ → Type 0
+AreLeft c instances first before ss text = (places : List Place) (known : List KnownInstance) (leaves : List Leaf) (whole : List ℕ) → AreInstances c instances places known leaves → IsRead c known first whole → AreSteps c known ss text (before ++ whole)
 
 -- each text can be read
-read-any : (c : Config) (known : List Used) (r : Reading) → r.within < length known → (whole : List ℕ) × IsRead c known r whole
+read-any : (c : Config) (known : List KnownInstance) (r : UnreadText) → r.within < length known → (whole : List ℕ) × IsRead c known r whole
 read-any c known r l =
     let i = reading r.rest.now in let x = get_or known r.within the_whole in
     (replaced (value_in c x.bindings (x.scope ∷ x.around)) 0 i.0, (x, slice_get-get_or known r.within the_whole l, record { items = i.0; read = i.1; replaces = refl }))
 
-pub left-own : (c : Config) (uses : List UseKept) (first : Reading) (before : List ℕ) (all ss : List Step) (a : Argument) (start : ℕ) (text : List ℕ) → first.within < length uses → all ≡ ss ++ step.Keep a start ∷ [] →
-    AreLeft c uses first before all text → (places : List Place) (known : List Used) (leaves : List Leaf) → AreUses c uses places known leaves → IsOwn known a (drop start text)
-left-own c uses first before all ss a start text l is left places known leaves are =
+pub left-own : (c : Config) (instances : List InstanceKept) (first : UnreadText) (before : List ℕ) (all ss : List TextStep) (a : Argument) (start : ℕ) (text : List ℕ) → first.within < length instances → all ≡ ss ++ step.Keep a start ∷ [] →
+    AreLeft c instances first before all text → (places : List Place) (known : List KnownInstance) (leaves : List Leaf) → AreInstances c instances places known leaves → IsOwn known a (drop start text)
+left-own c instances first before all ss a start text l is left places known leaves are =
     let m = are.as_many in let r = read-any c known first (omega (arith, l, m)) in
     (led-keep c known ss a start text (before ++ r.0) (subst (λ z. AreSteps c known z text (before ++ r.0)) is (left places known leaves r.0 are r.1))).1
 
-pub left-keep : (c : Config) (uses : List UseKept) (first : Reading) (before : List ℕ) (all ss : List Step) (a : Argument) (start : ℕ) (text new : List ℕ) → all ≡ ss ++ step.Keep a start ∷ [] → new ≡ text →
-    AreLeft c uses first before all text → AreLeft c uses first before ss new
-left-keep c uses first before all ss a start text new is e left places known leaves whole are h =
+pub left-keep : (c : Config) (instances : List InstanceKept) (first : UnreadText) (before : List ℕ) (all ss : List TextStep) (a : Argument) (start : ℕ) (text new : List ℕ) → all ≡ ss ++ step.Keep a start ∷ [] → new ≡ text →
+    AreLeft c instances first before all text → AreLeft c instances first before ss new
+left-keep c instances first before all ss a start text new is e left places known leaves whole are h =
     subst (λ z. AreSteps c known ss z (before ++ whole)) (sym e)
     (led-keep c known ss a start text (before ++ whole) (subst (λ z. AreSteps c known z text (before ++ whole)) is (left places known leaves whole are h))).0
 
@@ -247,8 +247,8 @@ argument-exact a b h =
     let p = and_parts (nat_eq a.within b.within) (nat_eq a.place b.place) h in
     ap (λ n. record { within = n; place = a.place }) (eqb-true a.within b.within p.0) ∙ ap (λ n. record { within = b.within; place = n }) (eqb-true a.place b.place p.1)
 
-module _ (c : Config) (uses : List UseKept) where
-  pub kept-more : (old new : TextBuffer) (more : List ℕ) → new.text.items ≡ old.text.items ++ more → new.values.entries ≡ old.values.entries → AreKept c uses old → AreKept c uses new
+module _ (c : Config) (instances : List InstanceKept) where
+  pub kept-more : (old new : TextBuffer) (more : List ℕ) → new.text.items ≡ old.text.items ++ more → new.values.entries ≡ old.values.entries → AreKept c instances old → AreKept c instances new
   kept-more old new more e f kept a s h =
       let k = kept a s (ap (lookup (same_argument a)) (sym f) ∙ h) in
       record {
@@ -257,20 +257,20 @@ module _ (c : Config) (uses : List UseKept) where
         value = λ places known leaves are. subst (IsOwn known a) (sym (bytes-more old.text.items more s k.ordered k.within) ∙ ap (λ z. bytes_at z s) (sym e)) (k.value places known leaves are);
       }
 
-  pub kept-same : (old new : TextBuffer) → new.text.items ≡ old.text.items → new.values.entries ≡ old.values.entries → AreKept c uses old → AreKept c uses new
+  pub kept-same : (old new : TextBuffer) → new.text.items ≡ old.text.items → new.values.entries ≡ old.values.entries → AreKept c instances old → AreKept c instances new
   kept-same old new e f kept = kept-more old new [] (e ∙ sym (append-nil old.text.items)) f kept
 
   pub kept-put : (old new : TextBuffer) (b : Argument) (start : ℕ) → new.text.items ≡ old.text.items →
       ((a : Argument) → lookup (same_argument a) new.values.entries ≡ (if same_argument a b then Some (record { start = start; end = length old.text.items }) else lookup (same_argument a) old.values.entries)) →
-      start ≤ length old.text.items → ((places : List Place) (known : List Used) (leaves : List Leaf) → AreUses c uses places known leaves → IsOwn known b (drop start old.text.items)) →
-      AreKept c uses old → AreKept c uses new
+      start ≤ length old.text.items → ((places : List Place) (known : List KnownInstance) (leaves : List Leaf) → AreInstances c instances places known leaves → IsOwn known b (drop start old.text.items)) →
+      AreKept c instances old → AreKept c instances new
   kept-put old new b start e f l own kept a s h =
       let span : Span = record { start = start; end = length old.text.items } in
       let was = lookup (same_argument a) old.values.entries in
       elim (cases_Bool (same_argument a b)) [
         | inl y ↦
             let is : span ≡ s = same_Some _ _ (ap (λ t. if t then Some span else was) (sym y) ∙ sym (f a) ∙ h) in
-            subst (λ z. IsKept c uses new.text.items a z) is (record {
+            subst (λ z. IsArgumentKept c instances new.text.items a z) is (record {
               ordered = l;
               within = let m = ap length e in omega (arith, m);
               value = λ places known leaves are.
@@ -279,7 +279,7 @@ module _ (c : Config) (uses : List UseKept) where
             })
         | inr n ↦
             let k = kept a s (ap (λ t. if t then Some span else was) (sym n) ∙ sym (f a) ∙ h) in
-            subst (λ z. IsKept c uses z a s) (sym e) k
+            subst (λ z. IsArgumentKept c instances z a s) (sym e) k
       ]
 
 -- whether there was room or not

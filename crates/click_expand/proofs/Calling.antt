@@ -8,11 +8,11 @@ use Rattle.click_text.specs.declared.syntax.Span.{Span}
 use Rattle.click_text.specs.declared.syntax.Config.{Config}
 use Rattle.click_text.specs.Arguments.{AreArguments}
 use Rattle.click_expand.specs.Classes.{compound}
-use Rattle.click_expand.specs.Elements.{Local, string_by}
-use Rattle.click_expand.specs.Tables.{meaning_by, local_of}
-use Rattle.click_expand.specs.Called.{AreArgumentsOf, AreAllArguments}
-use Rattle.click_expand.specs.Located.{AreAllLocals}
-use Rattle.click_expand.specs.declared.members.Local.{Local as LocalKept}
+use Rattle.click_expand.specs.Elements.{Local, string_or_empty}
+use Rattle.click_expand.specs.kept.Tables.{meaning_by, local_of}
+use Rattle.click_expand.specs.kept.CompoundArguments.{AreArgumentsOf, AreAllArguments}
+use Rattle.click_expand.specs.kept.ScopeElements.{AreAllLocals}
+use Rattle.click_expand.specs.declared.scope_elements.Local.{Local as LocalKept}
 use Rattle.click_expand.proofs.Keeping.{slice_get-more, slice_get-last}
 
 -- So many parts of a list have their partners in another.
@@ -40,7 +40,7 @@ module _ {X Y : Type 0} (P : X → Y → Type 0) (xs : List X) (ys more : List Y
 
 -- the element's arguments, where it is a compound
 abbrev pub AreCalled : List ℕ → LocalKept → List Span → Type 0
-AreCalled text l spans = (b : ℕ) → meaning_by text l.class ≡ Some (compound b) → AreArguments (string_by text l.text) spans
+AreCalled text l spans = (b : ℕ) → meaning_by text l.class ≡ Some (compound b) → AreArguments (string_or_empty text l.text) spans
 
 pub unmapped : (text : List ℕ) (ls : List LocalKept) (i : ℕ) (l : Local) → slice_get (map (local_of text) ls) i ≡ Some l → (k : LocalKept) × (slice_get ls i ≡ Some k) × (local_of text k ≡ l)
 unmapped text [] i l h = absurd (cc h)

@@ -13,15 +13,15 @@ use Rattle.click_text.specs.declared.syntax.Statement.TheVariants as statement
 use Rattle.click_text.specs.declared.syntax.Config.{Config}
 use Rattle.click_expand.specs.Scopes.{Scope, whole, inside, is_body, body_statements, bodies_in, statement_elements, statements_of, Stands, at_top, nested}
 use Rattle.click_expand.specs.Elements.{Placed, place, placed, declared_names, Role, pseudo, refers, makes, input_name, output_name, Local}
-use Rattle.click_expand.specs.Faults.{Names, End, end_of, Joint, number_behind, number_after, joints_behind, joints_from, statement_joints, scope_joints, input_ports, output_ports, inputs_of, outputs_of}
-use Rattle.click_expand.specs.Nesting.{direct, Nests, no_bodies, next_body, IsNested}
-use Rattle.click_expand.specs.Joined.{IsOwner, AreJoints, AreAllJoints}
-use Rattle.click_expand.specs.Joining.{placed_elements}
-use Rattle.click_expand.specs.Tables.{names_of}
-use Rattle.click_expand.specs.Misused.{from_input, to_output, inputs_kept, outputs_kept, HasGap, IsPorts, ports_or, row_of, ArePorts}
-use Rattle.click_expand.specs.declared.joints.Owner.{Owner}
-use Rattle.click_expand.specs.declared.joints.Owner.TheVariants as owner
-use Rattle.click_expand.specs.declared.joints.Joint.{Joint as JointKept}
+use Rattle.click_expand.specs.Faults.{ScopeNames, End, written_end, WrittenConnection, number_behind, number_after_all, joints_behind, joints_from, statement_joints, scope_joints, input_ports, output_ports, inputs_of, outputs_of}
+use Rattle.click_expand.specs.kept.Nesting.{direct, Nests, no_bodies, next_body, IsNested}
+use Rattle.click_expand.specs.kept.WrittenConnections.{IsOwner, AreJoints, AreAllJoints}
+use Rattle.click_expand.specs.kept.ConnectionEnds.{placed_elements}
+use Rattle.click_expand.specs.kept.Tables.{names_declared}
+use Rattle.click_expand.specs.kept.CompoundFaults.{from_input, to_output, inputs_kept, outputs_kept, HasGap, IsPorts, ports_or, list_or_empty, ArePorts}
+use Rattle.click_expand.specs.declared.written_connections.Owner.{Owner}
+use Rattle.click_expand.specs.declared.written_connections.Owner.TheVariants as owner
+use Rattle.click_expand.specs.declared.written_connections.WrittenConnection.{WrittenConnection as ConnectionKept}
 use Rattle.click_expand.specs.declared.ports.Ports.{Ports}
 use Rattle.click_expand.proofs.Keeping.{slice_get-more, slice_get-last}
 use Rattle.click_expand.proofs.Contained.{contains-here, contains-behind}
@@ -99,14 +99,14 @@ module _ (ls : List Local) where
       by_role refers k = refl
       by_role makes k = refl
 
-  inputs-said : (ks : List JointKept) (js : List Joint) → AreJoints ls ks js → inputs_kept ks ≡ input_ports js
+  inputs-said : (ks : List ConnectionKept) (js : List WrittenConnection) → AreJoints ls ks js → inputs_kept ks ≡ input_ports js
   inputs-said [] [] h = refl
   inputs-said [] (j ∷ js) h = absurd h
   inputs-said (k ∷ ks) [] h = absurd h
   inputs-said (k ∷ ks) (j ∷ js) h =
       ap (from_input k.from.owner k.out_port) (inputs-said ks js h.1) ∙ input-owner k.from.owner j.from h.0.from.owner k.out_port j.out_port h.0.out_port (input_ports js)
 
-  outputs-said : (ks : List JointKept) (js : List Joint) → AreJoints ls ks js → outputs_kept ks ≡ output_ports js
+  outputs-said : (ks : List ConnectionKept) (js : List WrittenConnection) → AreJoints ls ks js → outputs_kept ks ≡ output_ports js
   outputs-said [] [] h = refl
   outputs-said [] (j ∷ js) h = absurd h
   outputs-said (k ∷ ks) [] h = absurd h
@@ -117,19 +117,19 @@ module _ (ls : List Local) where
 abbrev IsAlike : End → End → Type 0
 IsAlike e f = (w : List ℕ) → is_by w e.name e.role ≡ is_by w f.name f.role
 
-abbrev AreAlike : List Joint → List Joint → Type 0
+abbrev AreAlike : List WrittenConnection → List WrittenConnection → Type 0
 AreAlike [] [] = Unit {0}
 AreAlike [] (k ∷ ks) = ⊥
 AreAlike (j ∷ js) [] = ⊥
 AreAlike (j ∷ js) (k ∷ ks) = IsAlike j.from k.from × (j.out_port ≡ k.out_port) × IsAlike j.to k.to × (j.in_port ≡ k.in_port) × AreAlike js ks
 
-alike-append : (js ks us vs : List Joint) → AreAlike js ks → AreAlike us vs → AreAlike (js ++ us) (ks ++ vs)
+alike-append : (js ks us vs : List WrittenConnection) → AreAlike js ks → AreAlike us vs → AreAlike (js ++ us) (ks ++ vs)
 alike-append [] [] us vs h i = i
 alike-append [] (k ∷ ks) us vs h i = absurd h
 alike-append (j ∷ js) [] us vs h i = absurd h
 alike-append (j ∷ js) (k ∷ ks) us vs h i = (h.0, h.1, h.2, h.3, alike-append js ks us vs h.4 i)
 
-alike-inputs : (js ks : List Joint) → AreAlike js ks → input_ports js ≡ input_ports ks
+alike-inputs : (js ks : List WrittenConnection) → AreAlike js ks → input_ports js ≡ input_ports ks
 alike-inputs [] [] h = refl
 alike-inputs [] (k ∷ ks) h = absurd h
 alike-inputs (j ∷ js) [] h = absurd h
@@ -138,7 +138,7 @@ alike-inputs (j ∷ js) (k ∷ ks) h =
     ∙ ap (λ b. cond b (j.out_port ∷ input_ports ks) (input_ports ks)) (h.0 input_name)
     ∙ ap (λ p. cond (is_by input_name k.from.name k.from.role) (p ∷ input_ports ks) (input_ports ks)) h.1
 
-alike-outputs : (js ks : List Joint) → AreAlike js ks → output_ports js ≡ output_ports ks
+alike-outputs : (js ks : List WrittenConnection) → AreAlike js ks → output_ports js ≡ output_ports ks
 alike-outputs [] [] h = refl
 alike-outputs [] (k ∷ ks) h = absurd h
 alike-outputs (j ∷ js) [] h = absurd h
@@ -148,14 +148,14 @@ alike-outputs (j ∷ js) (k ∷ ks) h =
     ∙ ap (λ p. cond (is_by output_name k.to.name k.to.role) (p ∷ output_ports ks) (output_ports ks)) h.3
 
 module _ (c : Config) (b : Bool) (d : List (List ℕ)) (ps qs : List Placed) where
-  abbrev these : Names
+  abbrev these : ScopeNames
   these = record { in_body = b; declared = d; written = ps }
 
-  abbrev those : Names
+  abbrev those : ScopeNames
   those = record { in_body = b; declared = d; written = qs }
 
-  number-same : (v w : List Statement) (n : ℕ) (es : List Element) → number_after c these n (map (place v) es) ≡ number_after c those n (map (place w) es)
-  unfolding number_after
+  number-same : (v w : List Statement) (n : ℕ) (es : List Element) → number_after_all c these n (map (place v) es) ≡ number_after_all c those n (map (place w) es)
+  unfolding number_after_all
   number-same v w n [] = refl
   number-same v w n (e ∷ es) = number-same v w (number_behind c these n (place v e)) es
 
@@ -167,12 +167,12 @@ module _ (c : Config) (b : Bool) (d : List (List ℕ)) (ps qs : List Placed) whe
     refl,
     (λ x. refl),
     refl,
-    alike-links v w (number_behind c these n (place v l.element)) (end_of c these n (place v l.element)) (end_of c those n (place w l.element)) ls (λ x. refl),
+    alike-links v w (number_behind c these n (place v l.element)) (written_end c these n (place v l.element)) (written_end c those n (place w l.element)) ls (λ x. refl),
   )
 
   alike-statement : (v w : List Statement) (n : ℕ) (st : Statement) → AreAlike (statement_joints c these v n st) (statement_joints c those w n st)
   alike-statement v w n (statement.Chain k) =
-      alike-links v w (number_behind c these n (place v k.first)) (end_of c these n (place v k.first)) (end_of c those n (place w k.first)) k.links (λ x. refl)
+      alike-links v w (number_behind c these n (place v k.first)) (written_end c these n (place v k.first)) (written_end c those n (place w k.first)) k.links (λ x. refl)
   alike-statement v w n (statement.Declaration k) = tt
   alike-statement v w n (statement.Definition m k) = tt
   alike-statement v w n (statement.Synonym m k) = tt
@@ -183,8 +183,8 @@ module _ (c : Config) (b : Bool) (d : List (List ℕ)) (ps qs : List Placed) whe
   alike-all v w n [] = tt
   alike-all v w n (st ∷ ss) =
       alike-append (statement_joints c these v n st) (statement_joints c those w n st) _ _ (alike-statement v w n st)
-      (subst (λ m. AreAlike (joints_from c these (st ∷ v) (number_after c these n (map (place v) (statement_elements st))) ss) (joints_from c those (st ∷ w) m ss))
-      (number-same v w n (statement_elements st)) (alike-all (st ∷ v) (st ∷ w) (number_after c these n (map (place v) (statement_elements st))) ss))
+      (subst (λ m. AreAlike (joints_from c these (st ∷ v) (number_after_all c these n (map (place v) (statement_elements st))) ss) (joints_from c those (st ∷ w) m ss))
+      (number-same v w n (statement_elements st)) (alike-all (st ∷ v) (st ∷ w) (number_after_all c these n (map (place v) (statement_elements st))) ss))
 
 elements-placed : (v w : List Statement) (es : List Element) → placed_elements (map (place v) es) ≡ placed_elements (map (place w) es)
 elements-placed v w [] = refl
@@ -203,7 +203,7 @@ module _ (c : Config) (s : Scope) (v w : List Statement) where
   scopes-alike =
       let ss = statements_of c s in
       let same : declared_names c.text (placed v ss) ≡ declared_names c.text (placed w ss) =
-      sym (names-placed c.text (placed v ss)) ∙ ap (names_of c.text) (elements-same v w ss) ∙ names-placed c.text (placed w ss) in
+      sym (names-placed c.text (placed v ss)) ∙ ap (names_declared c.text) (elements-same v w ss) ∙ names-placed c.text (placed w ss) in
       subst (λ (d : List (List ℕ)). AreAlike (scope_joints c s v) (joints_from c (record { in_body = is_body s; declared = d; written = placed w ss }) w 0 ss)) same
       (alike-all c (is_body s) (declared_names c.text (placed v ss)) (placed v ss) (placed w ss) v w 0 ss)
 
@@ -213,20 +213,20 @@ module _ (c : Config) (s : Scope) (v w : List Statement) where
   pub outputs-same : output_ports (scope_joints c s v) ≡ output_ports (scope_joints c s w)
   outputs-same = alike-outputs (scope_joints c s v) (scope_joints c s w) scopes-alike
 
-module _ (c : Config) (n : IsNested c) (joints : List (List JointKept)) (h : AreAllJoints c joints) where
-  pub body-ports : (b : ℕ) (p : Ports) → b < length c.bodies → IsPorts (inputs_kept (row_of (slice_get joints b))) (outputs_kept (row_of (slice_get joints b))) p →
+module _ (c : Config) (n : IsNested c) (joints : List (List ConnectionKept)) (h : AreAllJoints c joints) where
+  pub body-ports : (b : ℕ) (p : Ports) → b < length c.bodies → IsPorts (inputs_kept (list_or_empty (slice_get joints b))) (outputs_kept (list_or_empty (slice_get joints b))) p →
       IsPorts (inputs_of c b) (outputs_of c b) p
   body-ports b p l i =
       let st = body-stands c n b l in
       let r = h (inside b) st.visible st.around st.stands in
-      let row : row_of (slice_get joints b) ≡ r.0 = ap row_of r.1 in
+      let row : list_or_empty (slice_get joints b) ≡ r.0 = ap list_or_empty r.1 in
       subst (λ xs. IsPorts xs (outputs_of c b) p) (ap inputs_kept row ∙ inputs-said _ r.0 _ r.2 ∙ inputs-same c (inside b) st.visible [])
-      (subst (λ xs. IsPorts (inputs_kept (row_of (slice_get joints b))) xs p) (ap outputs_kept row ∙ outputs-said _ r.0 _ r.2 ∙ outputs-same c (inside b) st.visible []) i)
+      (subst (λ xs. IsPorts (inputs_kept (list_or_empty (slice_get joints b))) xs p) (ap outputs_kept row ∙ outputs-said _ r.0 _ r.2 ∙ outputs-same c (inside b) st.visible []) i)
 
 no-gap : HasGap [] → ⊥
 no-gap g = let b = g.below in omega (arith, b)
 
-none-from : (c : Config) (names : Names) (v : List Statement) (n : ℕ) → joints_from c names v n [] ≡ []
+none-from : (c : Config) (names : ScopeNames) (v : List Statement) (n : ℕ) → joints_from c names v n [] ≡ []
 unfolding joints_from
 none-from c names v n = refl
 

@@ -6,11 +6,11 @@ use Rattle.std.proofs.lemmas.List.{take_more, take_all, map_push, length_push}
 use Rattle.std.proofs.lemmas.Iterator.Adapters.{position_from-zero}
 use Rattle.std.proofs.lemmas.Slice.Eq.{bytes_eq-Decides}
 use Rattle.click_text.specs.declared.syntax.Element.{Element}
-use Rattle.click_expand.specs.declared.scopes.Written.{Written}
+use Rattle.click_expand.specs.declared.scopes.WrittenElement.{WrittenElement}
 use Rattle.click_expand.specs.Elements.{has_name, head_name}
 use Rattle.click_expand.specs.Faults.{is_declared_as}
-use Rattle.click_expand.specs.Tables.{elements_of}
-use Rattle.click_expand.specs.Joining.{at, declares, AreDeclared}
+use Rattle.click_expand.specs.kept.Tables.{elements_of}
+use Rattle.click_expand.specs.kept.ConnectionEnds.{at, declares, AreDeclared}
 use Rattle.click_expand.proofs.Keeping.{slice_get-more, slice_get-last}
 
 module _ {X : Type 0} (p : X → Bool) where
@@ -173,34 +173,34 @@ module _ (text : List ℕ) where
           by_test false k = record { declared = record { first = declaring-new k }; as_many = length_push firsts (length es) ∙ ap (λ x. x + 1) h.as_many ∙ sym (length_push names n) }
 
 -- the first so many elements as written
-abbrev pub elements_by : List Written → ℕ → List Element
+abbrev pub elements_by : List WrittenElement → ℕ → List Element
 elements_by ws i = elements_of (take i ws)
 
-pub elements-more : (ws : List Written) (i : ℕ) (d w : Written) → i < length ws → w ≡ get_or ws i d → elements_by ws (i + 1) ≡ elements_by ws i ++ w.element ∷ []
+pub elements-more : (ws : List WrittenElement) (i : ℕ) (d w : WrittenElement) → i < length ws → w ≡ get_or ws i d → elements_by ws (i + 1) ≡ elements_by ws i ++ w.element ∷ []
 elements-more ws i d w l is =
-    ap elements_of (take_more ws i d l) ∙ map_push (λ (x : Written). x.element) (take i ws) (get_or ws i d)
-    ∙ ap (λ (x : Written). elements_by ws i ++ x.element ∷ []) (sym is)
+    ap elements_of (take_more ws i d l) ∙ map_push (λ (x : WrittenElement). x.element) (take i ws) (get_or ws i d)
+    ∙ ap (λ (x : WrittenElement). elements_by ws i ++ x.element ∷ []) (sym is)
 
-pub elements-length : (ws : List Written) (i : ℕ) → i < length ws → length (elements_by ws i) ≡ i
+pub elements-length : (ws : List WrittenElement) (i : ℕ) → i < length ws → length (elements_by ws i) ≡ i
 elements-length ws i l = count ws i (omega (arith, l))
   where
-    count : (xs : List Written) (j : ℕ) → j ≤ length xs → length (elements_of (take j xs)) ≡ j
+    count : (xs : List WrittenElement) (j : ℕ) → j ≤ length xs → length (elements_of (take j xs)) ≡ j
     count xs zero m = nothing xs
       where
-        nothing : (ys : List Written) → length (elements_of (take zero ys)) ≡ zero
+        nothing : (ys : List WrittenElement) → length (elements_of (take zero ys)) ≡ zero
         nothing [] = refl
         nothing (y ∷ ys) = refl
     count [] (suc j) m = absurd (omega (arith, m))
     count (x ∷ xs) (suc j) m = ap suc (count xs j (omega (arith, m)))
 
-pub elements-all : (ws : List Written) (i : ℕ) → length ws ≤ i → elements_by ws i ≡ elements_of ws
+pub elements-all : (ws : List WrittenElement) (i : ℕ) → length ws ≤ i → elements_by ws i ≡ elements_of ws
 elements-all ws i l = ap elements_of (take_all i ws l)
 
 module _ (text : List ℕ) where
   pub declaring-as : (es : List Element) (names more : List (List ℕ)) (firsts places : List ℕ) → names ≡ more → firsts ≡ places → Declaring text es names firsts → Declaring text es more places
   declaring-as es names more firsts places p q h = subst (λ n. Declaring text es n places) p (subst (Declaring text es names) q h)
 
-  module _ (ws : List Written) (i : ℕ) (d w : Written) (names : List (List ℕ)) (firsts : List ℕ) where
+  module _ (ws : List WrittenElement) (i : ℕ) (d w : WrittenElement) (names : List (List ℕ)) (firsts : List ℕ) where
     pub declaring-next : (more : List (List ℕ)) (places : List ℕ) (n : List ℕ) → i < length ws → w ≡ get_or ws i d → head_name text w.element.head ≡ Some n →
         more ≡ cond (has_name n names) names (names ++ n ∷ []) → places ≡ cond (has_name n names) firsts (firsts ++ i ∷ []) →
         Declaring text (elements_by ws i) names firsts → Declaring text (elements_by ws (i + 1)) more places
@@ -213,5 +213,5 @@ module _ (text : List ℕ) where
     declaring-other l is k h =
         subst (λ es. Declaring text es names firsts) (sym (elements-more ws i d w l is)) (declaring-no text (elements_by ws i) names firsts h w.element k)
 
-  pub declaring-all : (ws : List Written) (i : ℕ) (names : List (List ℕ)) (firsts : List ℕ) → length ws ≤ i → Declaring text (elements_by ws i) names firsts → AreDeclared text (elements_of ws) names firsts
+  pub declaring-all : (ws : List WrittenElement) (i : ℕ) (names : List (List ℕ)) (firsts : List ℕ) → length ws ≤ i → Declaring text (elements_by ws i) names firsts → AreDeclared text (elements_of ws) names firsts
   declaring-all ws i names firsts l h = subst (λ es. AreDeclared text es names firsts) (elements-all ws i l) h.declared

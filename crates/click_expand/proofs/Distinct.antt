@@ -12,8 +12,8 @@ use Rattle.click_text.specs.declared.syntax.Config.{Config}
 use Rattle.click_text.specs.Spans.{bytes_at}
 use Rattle.click_expand.specs.Scopes.{Scope, inside, is_body, formals_of, Stands}
 use Rattle.click_expand.specs.Classes.{Meaning, compound, class_meaning}
-use Rattle.click_expand.specs.Elements.{Placed, has_name, Role, pseudo, refers, makes, role, made_name, counts, head_class, element_meaning, Local, local, local_by, locals_from}
-use Rattle.click_expand.specs.Faults.{scope_placed, scope_declared, scope_locals, role_in, unknown_name, unknown_class, unknown_declared, named_twice, formal_twice, first_token, IsSound}
+use Rattle.click_expand.specs.Elements.{Placed, has_name, Role, pseudo, refers, makes, role, made_name, count_with, head_class, element_meaning, Local, local, local_by, locals_from}
+use Rattle.click_expand.specs.Faults.{scope_placed, scope_declared, scope_locals, role_in, unknown_name, unknown_class, unknown_declared, named_twice, formal_twice, first_token, IsFaultless}
 use Rattle.click_expand.specs.declared.fault.FaultKind.TheVariants as kind
 use Rattle.click_expand.proofs.Founded.{local-made}
 use Rattle.click_expand.proofs.Contained.{contains-behind, map-contains, contains-split, contains-at, at-place}
@@ -27,7 +27,7 @@ name-has (m ∷ names) n h =
       | inr i ↦ or_right _ _ (name-has names n i)
     ]
 
-module _ (c : Config) (sound : IsSound c) (s : Scope) (visible : List Statement) (around : List Scope) (stands : Stands c s visible around) where
+module _ (c : Config) (sound : IsFaultless c) (s : Scope) (visible : List Statement) (around : List Scope) (stands : Stands c s visible around) where
   unknown-by : (p : Placed) (h : Head) (t : Option Span) → Contains (scope_placed c s visible) p → role_in c s visible p ≡ makes → p.element.head ≡ h → p.element.text ≡ t →
       element_meaning c.text p ≡ None → ⊥
   unknown-by p (head.Word w) None i m e f n =
@@ -71,9 +71,9 @@ pub record IsNth (text : List ℕ) (in_body : Bool) (declared : List (List ℕ))
 
 module _ (text : List ℕ) (in_body : Bool) (declared : List (List ℕ)) where
   pub locals-cons : (n : ℕ) (p : Placed) (ps : List Placed) (r : Role) → role text in_body declared p.element ≡ r →
-      locals_from text in_body declared n (p ∷ ps) ≡ local_by r (local text n p) (locals_from text in_body declared (counts r n) ps)
+      locals_from text in_body declared n (p ∷ ps) ≡ local_by r (local text n p) (locals_from text in_body declared (count_with r n) ps)
   unfolding locals_from
-  locals-cons n p ps r e = ap (λ x. local_by x (local text n p) (locals_from text in_body declared (counts x n) ps)) e
+  locals-cons n p ps r e = ap (λ x. local_by x (local text n p) (locals_from text in_body declared (count_with x n) ps)) e
 
   locals-none : (n : ℕ) → locals_from text in_body declared n [] ≡ []
   unfolding locals_from
@@ -126,7 +126,7 @@ module _ (text : List ℕ) (in_body : Bool) (declared : List (List ℕ)) where
   }
 
   nth-by : (n j : ℕ) (p : Placed) (ps : List Placed) (l : Local) (r : Role) → role text in_body declared p.element ≡ r →
-      slice_get (local_by r (local text n p) (locals_from text in_body declared (counts r n) ps)) j ≡ Some l →
+      slice_get (local_by r (local text n p) (locals_from text in_body declared (count_with r n) ps)) j ≡ Some l →
       ((m k : ℕ) → slice_get (locals_from text in_body declared m ps) k ≡ Some l → IsNth text in_body declared m ps k l) → IsNth text in_body declared n (p ∷ ps) j l
   nth-by n zero p ps l makes e h f = nth-first n p ps l e (cc)
   nth-by n (suc j) p ps l makes e h f = nth-behind n j p ps l e (f (n + 1) j h)
@@ -139,7 +139,7 @@ module _ (text : List ℕ) (in_body : Bool) (declared : List (List ℕ)) where
       let r = role text in_body declared p.element in
       nth-by n j p ps l r refl (sym (ap (λ x. slice_get x j) (locals-cons n p ps r refl)) ∙ h) (λ m k i. nth-local m k ps l i)
 
-module _ (c : Config) (sound : IsSound c) (s : Scope) (visible : List Statement) (around : List Scope) (stands : Stands c s visible around) where
+module _ (c : Config) (sound : IsFaultless c) (s : Scope) (visible : List Statement) (around : List Scope) (stands : Stands c s visible around) where
   -- no element has the name of one before it
   pub not-twice : (i j : ℕ) (l m : Local) → i < j → slice_get (scope_locals c s visible) i ≡ Some l → slice_get (scope_locals c s visible) j ≡ Some m → l.name ≡ m.name → ⊥
   not-twice i j l m less a b e =
@@ -172,7 +172,7 @@ module _ (c : Config) (sound : IsSound c) (s : Scope) (visible : List Statement)
         | inr (inr h) ↦ absurd (not-twice j i m l h b a (sym e))
       ]
 
-module _ (c : Config) (sound : IsSound c) (b : ℕ) (visible : List Statement) (around : List Scope) (stands : Stands c (inside b) visible around) where
+module _ (c : Config) (sound : IsFaultless c) (b : ℕ) (visible : List Statement) (around : List Scope) (stands : Stands c (inside b) visible around) where
   formal-not-twice : (i j : ℕ) (f g : Span) → i < j → slice_get (formals_of c (inside b)) i ≡ Some f → slice_get (formals_of c (inside b)) j ≡ Some g →
       bytes_at c.text f ≡ bytes_at c.text g → ⊥
   formal-not-twice i j f g less h k e =

@@ -12,21 +12,21 @@ use Rattle.click_text.specs.declared.syntax.Config.{Config}
 use Rattle.click_expand.specs.Scopes.{Scope, Stands}
 use Rattle.click_expand.specs.Classes.{primitive}
 use Rattle.click_expand.specs.Elements.{Local}
-use Rattle.click_expand.specs.Tables.{meaning_by}
+use Rattle.click_expand.specs.kept.Tables.{meaning_by}
 use Rattle.click_expand.specs.Faults.{scope_locals}
 use Rattle.click_expand.specs.Parameters.{IsReplaced}
 use Rattle.click_expand.specs.Instances.{Leaf}
-use Rattle.click_expand.specs.Scoped.{place_of}
-use Rattle.click_expand.specs.Located.{AreAllLocals}
-use Rattle.click_expand.specs.Uses.{Used, AreUses, IsLeaf}
-use Rattle.click_expand.specs.Values.{string_found, IsRead}
-use Rattle.click_expand.specs.Classed.{class_kept, class_by, class_found}
+use Rattle.click_expand.specs.kept.Scoped.{table_place}
+use Rattle.click_expand.specs.kept.ScopeElements.{AreAllLocals}
+use Rattle.click_expand.specs.kept.KnownInstances.{KnownInstance, AreInstances, IsLeaf}
+use Rattle.click_expand.specs.kept.ParameterValues.{string_found, IsRead}
+use Rattle.click_expand.specs.kept.Classed.{class_kept, class_by, class_found}
 use Rattle.click_expand.specs.declared.classes.ClassOf.{ClassOf}
 use Rattle.click_expand.specs.declared.classes.ClassOf.TheVariants as class
-use Rattle.click_expand.specs.declared.members.Local.{Local as LocalKept}
-use Rattle.click_expand.specs.declared.uses.Place.{Place}
-use Rattle.click_expand.specs.declared.uses.Use.{Use as UseKept}
-use Rattle.click_expand.specs.declared.readings.Reading.{Reading}
+use Rattle.click_expand.specs.declared.scope_elements.Local.{Local as LocalKept}
+use Rattle.click_expand.specs.declared.instances.Place.{Place}
+use Rattle.click_expand.specs.declared.instances.Instance.{Instance as InstanceKept}
+use Rattle.click_expand.specs.declared.parameter_values.UnreadText.{UnreadText}
 use Rattle.std.specs.Prelude.{MatchOption}
 use Rattle.click_expand.proofs.Ways.{match-none, match-some}
 use Rattle.click_expand.proofs.Calling.{unmapped}
@@ -38,28 +38,28 @@ primitive-kept text (Some (class.Primitive s)) w e = cc
 primitive-kept text (Some (class.Compound b)) w e = absurd (cc e)
 
 class-is : (c : Config) (locals : List (Vec LocalKept Global)) → AreAllLocals c locals → (s : Scope) (visible : List Statement) (around : List Scope) → Stands c s visible around →
-    (i : ℕ) (l : Local) (w : List ℕ) → slice_get (scope_locals c s visible) i ≡ Some l → l.meaning ≡ Some (primitive w) → class_found c.text (slice_get locals (place_of c s)) i ≡ w
+    (i : ℕ) (l : Local) (w : List ℕ) → slice_get (scope_locals c s visible) i ≡ Some l → l.meaning ≡ Some (primitive w) → class_found c.text (slice_get locals (table_place c s)) i ≡ w
 class-is c locals known s visible around st i l w there m =
     let r = known s visible around st in
     let k = unmapped c.text r.0.items i l (ap (λ z. slice_get z i) r.2 ∙ there) in
     ap (λ o. class_found c.text o i) r.1 ∙ ap (class_by c.text) k.1 ∙ primitive-kept c.text k.0.class w (ap (λ (x : Local). x.meaning) k.2 ∙ m)
 
-module _ (c : Config) (uses : List UseKept) (places : List Place) (known : List Used) (leaves : List Leaf) (are : AreUses c uses places known leaves)
-    (locals : List (Vec LocalKept Global)) (all : AreAllLocals c locals) (n : ℕ) (p : Place) (f : Leaf) (k : UseKept)
-    (there : slice_get places n ≡ Some p) (leaf-there : slice_get leaves n ≡ Some f) (kept : slice_get uses p.within ≡ Some k) where
-  leaf-is : IsLeaf c uses known n p f
-  leaf-is = let r = are.leaf n p there in subst (λ z. IsLeaf c uses known n p z) (some-same (sym r.1 ∙ leaf-there)) r.2
+module _ (c : Config) (instances : List InstanceKept) (places : List Place) (known : List KnownInstance) (leaves : List Leaf) (are : AreInstances c instances places known leaves)
+    (locals : List (Vec LocalKept Global)) (all : AreAllLocals c locals) (n : ℕ) (p : Place) (f : Leaf) (k : InstanceKept)
+    (there : slice_get places n ≡ Some p) (leaf-there : slice_get leaves n ≡ Some f) (kept : slice_get instances p.within ≡ Some k) where
+  leaf-is : IsLeaf c instances known n p f
+  leaf-is = let r = are.leaf n p there in subst (λ z. IsLeaf c instances known n p z) (some-same (sym r.1 ∙ leaf-there)) r.2
 
   pub leaf-class : class_found c.text (slice_get locals k.scope) p.element ≡ f.class
   leaf-class =
       let i = leaf-is in
-      let u = use-at c uses places known leaves are p.within k i.used kept i.used_there in
+      let u = use-at c instances places known leaves are p.within k i.used kept i.used_there in
       ap (λ z. class_found c.text (slice_get locals z) p.element) u.scope ∙ class-is c locals all i.used.scope i.used.visible i.used.around u.stands p.element i.local f.class i.local_there i.meaning
 
-  pub leaf-read : (r : Reading) → r.within ≡ p.within → r.rest.now ≡ string_found c.text (slice_get locals k.scope) p.element → IsRead c known r f.text
+  pub leaf-read : (r : UnreadText) → r.within ≡ p.within → r.rest.now ≡ string_found c.text (slice_get locals k.scope) p.element → IsRead c known r f.text
   leaf-read r e g =
       let i = leaf-is in
-      let u = use-at c uses places known leaves are p.within k i.used kept i.used_there in
+      let u = use-at c instances places known leaves are p.within k i.used kept i.used_there in
       let s = g ∙ ap (λ z. string_found c.text (slice_get locals z) p.element) u.scope ∙ string-is c locals all i.used.scope i.used.visible i.used.around u.stands p.element i.local i.local_there in
       (i.used, ap (slice_get known) e ∙ i.used_there, subst (λ z. IsReplaced c i.used.bindings (i.used.scope ∷ i.used.around) z f.text) (sym s) i.text)
 
@@ -70,7 +70,7 @@ pub element-same : (f : Leaf) (name kind text : List ℕ) → name ≡ flat_name
 element-same f name kind text e g h =
     ap (λ (z : List ℕ). the-element z kind text) e ∙ ap (λ (z : List ℕ). the-element (flat_name f.path) z text) g ∙ ap (λ (z : List ℕ). the-element (flat_name f.path) f.class z) h
 
--- What is written behind the old text.
+-- What is written after the old text.
 module _ (old text new : List ℕ) where
   pub text-behind : (n : ℕ) → n ≡ length old → new ≡ old ++ text → drop n new ≡ text
   text-behind n e h = ap (λ m. drop m new) e ∙ front_rest new old text h
@@ -118,11 +118,11 @@ made-all leaves i made room l h =
     let e = take_all i leaves l in let t = ap text_size e in let k = h.left in
     (h.is ∙ ap (map flat_element) e, omega (arith, t, k))
 
-pub place-within : (c : Config) (uses : List UseKept) (places : List Place) (known : List Used) (leaves : List Leaf) → AreUses c uses places known leaves → (n : ℕ) (p : Place) → slice_get places n ≡ Some p → p.within < length uses
-place-within c uses places known leaves are n p there = let r = are.leaf n p there in slice_get_within uses p.within r.2.use_kept r.2.use_there
+pub place-within : (c : Config) (instances : List InstanceKept) (places : List Place) (known : List KnownInstance) (leaves : List Leaf) → AreInstances c instances places known leaves → (n : ℕ) (p : Place) → slice_get places n ≡ Some p → p.within < length instances
+place-within c instances places known leaves are n p there = let r = are.leaf n p there in slice_get_within instances p.within r.2.use_kept r.2.use_there
 
-pub leaf-at : (c : Config) (uses : List UseKept) (places : List Place) (known : List Used) (leaves : List Leaf) → AreUses c uses places known leaves → (n : ℕ) (p : Place) → slice_get places n ≡ Some p → (f : Leaf) × (slice_get leaves n ≡ Some f)
-leaf-at c uses places known leaves are n p there = let r = are.leaf n p there in (r.0, r.1)
+pub leaf-at : (c : Config) (instances : List InstanceKept) (places : List Place) (known : List KnownInstance) (leaves : List Leaf) → AreInstances c instances places known leaves → (n : ℕ) (p : Place) → slice_get places n ≡ Some p → (f : Leaf) × (slice_get leaves n ≡ Some f)
+leaf-at c instances places known leaves are n p there = let r = are.leaf n p there in (r.0, r.1)
 
 pub some-at : {X : Type 0} (xs : List X) (i : ℕ) (d : X) → i < length xs → slice_get xs i ≡ Some (get_or xs i d)
 some-at [] i d l = absurd (omega (arith, l))
@@ -130,25 +130,25 @@ some-at (x ∷ xs) zero d l = refl
 some-at (x ∷ xs) (suc i) d l = some-at xs i d (omega (arith, l))
 
 -- The element at a place is made, and so much room is left, or there is no room for it.
-abbrev pub IsElement : Config → List UseKept → Place → ℕ → ℕ → Option FlatElement → Type 0
-IsElement c uses p room left o =
-    (places : List Place) (known : List Used) (leaves : List Leaf) (n : ℕ) (f : Leaf) → AreUses c uses places known leaves → slice_get places n ≡ Some p → slice_get leaves n ≡ Some f →
+abbrev pub IsElement : Config → List InstanceKept → Place → ℕ → ℕ → Option FlatElement → Type 0
+IsElement c instances p room left o =
+    (places : List Place) (known : List KnownInstance) (leaves : List Leaf) (n : ℕ) (f : Leaf) → AreInstances c instances places known leaves → slice_get places n ≡ Some p → slice_get leaves n ≡ Some f →
     MatchOption o (room < length f.text) (λ e. (e ≡ flat_element f) × (left + length f.text ≡ room))
 
-module _ (c : Config) (uses us : List UseKept) (places ps : List Place) (i : ℕ) (d : Place) (same-uses : us ≡ uses) (same : ps ≡ places) (l : i < length ps)
-    (known : List Used) (leaves : List Leaf) (are : AreUses c uses places known leaves) where
+module _ (c : Config) (instances us : List InstanceKept) (places ps : List Place) (i : ℕ) (d : Place) (same-instances : us ≡ instances) (same : ps ≡ places) (l : i < length ps)
+    (known : List KnownInstance) (leaves : List Leaf) (are : AreInstances c instances places known leaves) where
   here : slice_get places i ≡ Some (get_or ps i d)
   here = ap (λ z. slice_get z i) (sym same) ∙ some-at ps i d l
 
   pub step-within : (get_or ps i d).within < length us
-  step-within = let w = place-within c uses places known leaves are i (get_or ps i d) here in let e = ap length same-uses in omega (arith, w, e)
+  step-within = let w = place-within c instances places known leaves are i (get_or ps i d) here in let e = ap length same-instances in omega (arith, w, e)
 
   its-leaf : (f : Leaf) × (slice_get leaves i ≡ Some f)
-  its-leaf = leaf-at c uses places known leaves are i (get_or ps i d) here
+  its-leaf = leaf-at c instances places known leaves are i (get_or ps i d) here
 
   module _ (room left : ℕ) (made : List FlatElement) (o : Option FlatElement) (is : IsElement c us (get_or ps i d) room left o) (h : AreMade leaves i made room) where
     found : MatchOption o (room < length its-leaf.0.text) (λ e. (e ≡ flat_element its-leaf.0) × (left + length its-leaf.0.text ≡ room))
-    found = is places known leaves i its-leaf.0 (subst (λ z. AreUses c z places known leaves) (sym same-uses) are) here its-leaf.1
+    found = is places known leaves i its-leaf.0 (subst (λ z. AreInstances c z places known leaves) (sym same-instances) are) here its-leaf.1
 
     pub step-none : o ≡ None → most_text < text_size leaves
     step-none e = made-long leaves i made room its-leaf.0 its-leaf.1 h (match-none o _ _ e found)

@@ -12,26 +12,26 @@ use Rattle.click_text.specs.declared.syntax.Head.TheVariants as head
 use Rattle.click_text.specs.declared.syntax.Element.{Element}
 use Rattle.click_text.specs.declared.syntax.Config.{Config}
 use Rattle.click_text.specs.Spans.{bytes_at}
-use Rattle.click_expand.specs.Elements.{Placed, Role, pseudo, refers, makes, role, role_by, word_of, is_port_name, input_name, output_name, counts, has_name, head_name, declared_names, element_meaning, made_name, Local, local, locals_from}
-use Rattle.click_expand.specs.Faults.{Names, end_by, end_of, first_token, number_behind, number_after, is_declared_as, declared_meaning}
-use Rattle.click_expand.specs.Tables.{elements_of, names_of, numbers_from}
-use Rattle.click_expand.specs.Joined.{IsOwner, IsEnd}
-use Rattle.click_expand.specs.Wrongs.{first_in}
+use Rattle.click_expand.specs.Elements.{Placed, Role, pseudo, refers, makes, role, role_of_head, word_of, is_port_name, input_name, output_name, count_with, has_name, head_name, declared_names, element_meaning, made_name, Local, local, locals_from}
+use Rattle.click_expand.specs.Faults.{ScopeNames, end_by, written_end, first_token, number_behind, number_after_all, is_declared_as, declared_meaning}
+use Rattle.click_expand.specs.kept.Tables.{elements_of, names_declared, numbers_from}
+use Rattle.click_expand.specs.kept.WrittenConnections.{IsOwner, IsEndKept}
+use Rattle.click_expand.specs.kept.FirstFault.{first_in}
 use Rattle.click_text.specs.declared.syntax.Body.{Body}
-use Rattle.click_expand.specs.Joining.{placed_elements, names_in, locals_in, at, declares, AreDeclared, IsKnown, IsHere, AreEnds}
-use Rattle.click_expand.specs.declared.joints.Owner.TheVariants as owner
-use Rattle.click_expand.specs.declared.joints.End.{End as EndKept}
-use Rattle.click_expand.specs.declared.scopes.Written.{Written}
+use Rattle.click_expand.specs.kept.ConnectionEnds.{placed_elements, names_among, locals_in, at, declares, AreDeclared, AreNamesKnown, IsHere, AreEndsKept}
+use Rattle.click_expand.specs.declared.written_connections.Owner.TheVariants as owner
+use Rattle.click_expand.specs.declared.written_connections.End.{End as EndKept}
+use Rattle.click_expand.specs.declared.scopes.WrittenElement.{WrittenElement}
 use Rattle.click_expand.proofs.Locating.{role-same}
 use Rattle.click_expand.proofs.Declaring.{position-from, some-within}
 
 pub some_same : {X : Type 0} {x y : X} → Some x ≡ Some y → x ≡ y
 some_same h = cc h
 
-module _ (c : Config) (names : Names) where
+module _ (c : Config) (names : ScopeNames) where
   pub numbers-after : (n : ℕ) (ps : List Placed) (i : ℕ) (p : Placed) → slice_get ps i ≡ Some p →
-      slice_get (numbers_from c.text names.in_body names.declared n (placed_elements ps)) i ≡ Some (number_after c names n (take i ps))
-  unfolding numbers_from number_after
+      slice_get (numbers_from c.text names.in_body names.declared n (placed_elements ps)) i ≡ Some (number_after_all c names n (take i ps))
+  unfolding numbers_from number_after_all
   numbers-after n [] i p h = absurd (cc h)
   numbers-after n (q ∷ ps) zero p h = refl
   numbers-after n (q ∷ ps) (suc i) p h = numbers-after (number_behind c names n q) ps i p h
@@ -43,7 +43,7 @@ module _ (text : List ℕ) (b : Bool) (d : List (List ℕ)) where
     pub is : m ≡ n + place
     pub there : slice_get (locals_from text b d n ps) place ≡ Some (local text m p)
 
-  made-behind : (n : ℕ) (q : Placed) (ps : List Placed) (m : ℕ) (p : Placed) (r : Role) → role text b d q.element ≡ r → IsMade (counts r n) ps m p → IsMade n (q ∷ ps) m p
+  made-behind : (n : ℕ) (q : Placed) (ps : List Placed) (m : ℕ) (p : Placed) (r : Role) → role text b d q.element ≡ r → IsMade (count_with r n) ps m p → IsMade n (q ∷ ps) m p
   unfolding locals_from
   made-behind n q ps m p pseudo e h = record { place = h.place; is = h.is; there = rw e h.there }
   made-behind n q ps m p refers e h = record { place = h.place; is = h.is; there = rw e h.there }
@@ -59,9 +59,9 @@ module _ (text : List ℕ) (b : Bool) (d : List (List ℕ)) where
       let g : role text b d q.element ≡ makes = ap (λ (x : Placed). role text b d x.element) e ∙ r in
       record { place = 0; is = omega (arith, f); there = rw g (ap (λ x. Some (local text x q)) f ∙ ap (λ x. Some (local text m x)) e) }
   made-there n (q ∷ ps) (suc i) p m h k r =
-      made-behind n q ps m p (role text b d q.element) refl (made-there (counts (role text b d q.element) n) ps i p m h k r)
+      made-behind n q ps m p (role text b d q.element) refl (made-there (count_with (role text b d q.element) n) ps i p m h k r)
 
-  pub refers-declared : (h : Head) (t : Option Span) → role_by text b d h t ≡ refers → has_name (word_of text h) d ≡ true
+  pub refers-declared : (h : Head) (t : Option Span) → role_of_head text b d h t ≡ refers → has_name (word_of text h) d ≡ true
   refers-declared (head.Word s) None e = by_tests (b && is_port_name (bytes_at text s)) (has_name (bytes_at text s) d) e
     where
       by_tests : (x y : Bool) → cond x pseudo (cond y refers makes) ≡ refers → y ≡ true
@@ -72,7 +72,7 @@ module _ (text : List ℕ) (b : Bool) (d : List (List ℕ)) where
   refers-declared (head.Declared s g) t e = absurd (cc e)
   refers-declared (head.Compound g) t e = absurd (cc e)
 
-  pub pseudo-port : (h : Head) (t : Option Span) → role_by text b d h t ≡ pseudo → is_port_name (word_of text h) ≡ true
+  pub pseudo-port : (h : Head) (t : Option Span) → role_of_head text b d h t ≡ pseudo → is_port_name (word_of text h) ≡ true
   pseudo-port (head.Word s) None e = by_tests b (is_port_name (bytes_at text s)) (has_name (bytes_at text s) d) e
     where
       by_tests : (x y z : Bool) → cond (x && y) pseudo (cond z refers makes) ≡ pseudo → y ≡ true
@@ -85,7 +85,7 @@ module _ (text : List ℕ) (b : Bool) (d : List (List ℕ)) where
   pseudo-port (head.Declared s g) t e = absurd (cc e)
   pseudo-port (head.Compound g) t e = absurd (cc e)
 
-  pub declared-makes : (q : List ℕ) (h : Head) (t : Option Span) → is_declared_as text q (head_name text h) ≡ true → role_by text b d h t ≡ makes
+  pub declared-makes : (q : List ℕ) (h : Head) (t : Option Span) → is_declared_as text q (head_name text h) ≡ true → role_of_head text b d h t ≡ makes
   declared-makes q (head.Word s) t e = absurd (cc e)
   declared-makes q (head.Declared s g) t e = refl
   declared-makes q (head.Compound g) t e = absurd (cc e)
@@ -134,10 +134,10 @@ module _ (text : List ℕ) where
       by_part (inl r) = absurd (cc (r, h))
       by_part (inr r) = (r.0, position-from (declares text q) (placed_elements ps) ∙ r.1 ∙ ap Some (omega arith), r.2)
 
-module _ (c : Config) (b : Bool) (ps : List Placed) (d : List (List ℕ)) (firsts numbers : List ℕ) (known : IsKnown c.text b d firsts numbers ps)
+module _ (c : Config) (b : Bool) (ps : List Placed) (d : List (List ℕ)) (firsts numbers : List ℕ) (known : AreNamesKnown c.text b d firsts numbers ps)
     (number : ℕ) (e : Element) (p : Placed) (here : IsHere numbers number e ps p) where
-  abbrev pub said : Names
-  said = names_in c.text b ps
+  abbrev pub said : ScopeNames
+  said = names_among c.text b ps
 
   abbrev pub ls : List Local
   ls = locals_in c.text b ps
@@ -152,22 +152,22 @@ module _ (c : Config) (b : Bool) (ps : List Placed) (d : List (List ℕ)) (first
       let at_m : m ≡ made.place = (let z = made.is in omega (arith, z)) in
       ap (slice_get (locals_in c.text b ps)) at_m ∙ made.there
 
-  pub owner-makes : role c.text b d e ≡ makes → IsOwner (locals_in c.text b ps) (owner.Element number) (end_of c (names_in c.text b ps) number p)
+  pub owner-makes : role c.text b d e ≡ makes → IsOwner (locals_in c.text b ps) (owner.Element number) (written_end c (names_among c.text b ps) number p)
   owner-makes h =
       let r = same-role makes h in
-      subst (λ o. IsOwner (locals_in c.text b ps) (owner.Element number) (end_by c (names_in c.text b ps) number p o)) (sym r)
+      subst (λ o. IsOwner (locals_in c.text b ps) (owner.Element number) (end_by c (names_among c.text b ps) number p o)) (sym r)
       ((λ z. cc z), (local c.text number p, made-number here.place p number here.there here.before r, refl, refl))
 
   pub owner-input : (w : List ℕ) → w ≡ word_of c.text e.head → role c.text b d e ≡ pseudo → bytes_eq w input_name ≡ true →
-      IsOwner (locals_in c.text b ps) owner.Input (end_of c (names_in c.text b ps) number p)
+      IsOwner (locals_in c.text b ps) owner.Input (written_end c (names_among c.text b ps) number p)
   owner-input w is h k =
-      subst (λ o. IsOwner (locals_in c.text b ps) owner.Input (end_by c (names_in c.text b ps) number p o)) (sym (same-role pseudo h))
+      subst (λ o. IsOwner (locals_in c.text b ps) owner.Input (end_by c (names_among c.text b ps) number p o)) (sym (same-role pseudo h))
       (refl, ap (λ (x : Element). word_of c.text x.head) here.element ∙ sym is ∙ (bytes_eq-Decides w input_name).0 k)
 
   pub owner-output : (w : List ℕ) → w ≡ word_of c.text e.head → role c.text b d e ≡ pseudo → bytes_eq w input_name ≡ false →
-      IsOwner (locals_in c.text b ps) owner.Output (end_of c (names_in c.text b ps) number p)
+      IsOwner (locals_in c.text b ps) owner.Output (written_end c (names_among c.text b ps) number p)
   owner-output w is h k =
-      subst (λ o. IsOwner (locals_in c.text b ps) owner.Output (end_by c (names_in c.text b ps) number p o)) (sym (same-role pseudo h))
+      subst (λ o. IsOwner (locals_in c.text b ps) owner.Output (end_by c (names_among c.text b ps) number p o)) (sym (same-role pseudo h))
       (refl, ap (λ (x : Element). word_of c.text x.head) here.element ∙ sym is ∙ (bytes_eq-Decides w output_name).0 (other (bytes_eq w input_name) (bytes_eq w output_name) k (ap is_port_name is ∙ pseudo-port c.text b d e.head e.text h)))
     where
       other : (x y : Bool) → x ≡ false → (x || y) ≡ true → y ≡ true
@@ -175,18 +175,18 @@ module _ (c : Config) (b : Bool) (ps : List Placed) (d : List (List ℕ)) (first
       other false y f g = g
 
   pub owner-refers : (w : List ℕ) → w ≡ word_of c.text e.head → role c.text b d e ≡ refers →
-      (m : ℕ) × (at numbers (at firsts (position (bytes_eq w) d)) ≡ Some m) × IsOwner (locals_in c.text b ps) (owner.Element m) (end_of c (names_in c.text b ps) number p)
+      (m : ℕ) × (at numbers (at firsts (position (bytes_eq w) d)) ≡ Some m) × IsOwner (locals_in c.text b ps) (owner.Element m) (written_end c (names_among c.text b ps) number p)
   owner-refers w is h =
       let word : w ≡ word_of c.text p.element.head = is ∙ sym (ap (λ (x : Element). word_of c.text x.head) here.element) in
       let has : has_name w (declared_names c.text ps) ≡ true = sym (known.has w) ∙ ap (λ x. has_name x d) is ∙ refers-declared c.text b d e.head e.text h in
       let f = first-there c.text w ps has in
       let q = f.2.element in
-      let m = number_after c (names_in c.text b ps) 0 (take f.0 ps) in
-      let counted : slice_get numbers f.0 ≡ Some m = ap (λ ns. slice_get ns f.0) known.counts ∙ numbers-after c (names_in c.text b ps) 0 ps f.0 q f.2.there in
+      let m = number_after_all c (names_among c.text b ps) 0 (take f.0 ps) in
+      let counted : slice_get numbers f.0 ≡ Some m = ap (λ ns. slice_get ns f.0) known.counts ∙ numbers-after c (names_among c.text b ps) 0 ps f.0 q f.2.there in
       let r : role c.text b (declared_names c.text ps) q.element ≡ makes = declared-makes c.text b (declared_names c.text ps) w q.element.head q.element.text f.2.declared in (
         m,
         ap (at numbers) (known.declared.first w ∙ f.1) ∙ counted,
-        subst (λ o. IsOwner (locals_in c.text b ps) (owner.Element m) (end_by c (names_in c.text b ps) number p o)) (sym (same-role refers h)) (
+        subst (λ o. IsOwner (locals_in c.text b ps) (owner.Element m) (end_by c (names_among c.text b ps) number p o)) (sym (same-role refers h)) (
           (λ z. cc z),
           (
             local c.text m q,
@@ -212,46 +212,46 @@ some-there xs i l = by_part (slice_get xs i) refl
 take-there : {X : Type 0} (xs : List X) (i : ℕ) (x : X) → i < length xs → slice_get xs i ≡ Some x → take (i + 1) xs ≡ take i xs ++ x ∷ []
 take-there xs i x l h = take_more xs i x l ∙ ap (λ y. take i xs ++ y ∷ []) (get_or_from_slice_get xs i x x h)
 
-module _ (ls : List Local) (c : Config) (names : Names) where
-  ends-push : (n : ℕ) (ks : List EndKept) (ps : List Placed) (k : EndKept) (p : Placed) → AreEnds ls c names n ks ps → IsEnd ls k (end_of c names (number_after c names n ps) p) →
-      AreEnds ls c names n (ks ++ k ∷ []) (ps ++ p ∷ [])
-  unfolding number_after
+module _ (ls : List Local) (c : Config) (names : ScopeNames) where
+  ends-push : (n : ℕ) (ks : List EndKept) (ps : List Placed) (k : EndKept) (p : Placed) → AreEndsKept ls c names n ks ps → IsEndKept ls k (written_end c names (number_after_all c names n ps) p) →
+      AreEndsKept ls c names n (ks ++ k ∷ []) (ps ++ p ∷ [])
+  unfolding number_after_all
   ends-push n [] [] k p h e = (e, tt)
   ends-push n [] (q ∷ ps) k p h e = absurd h
   ends-push n (j ∷ ks) [] k p h e = absurd h
   ends-push n (j ∷ ks) (q ∷ ps) k p h e = (h.0, ends-push (number_behind c names n q) ks ps k p h.1 e)
 
-  pub ends-none : (ps : List Placed) → AreEnds ls c names 0 [] (take 0 ps)
+  pub ends-none : (ps : List Placed) → AreEndsKept ls c names 0 [] (take 0 ps)
   ends-none [] = tt
   ends-none (p ∷ ps) = tt
 
-module _ (c : Config) (b : Bool) (ps : List Placed) (d : List (List ℕ)) (firsts numbers : List ℕ) (known : IsKnown c.text b d firsts numbers ps)
-    (ws : List Written) (same : placed_elements ps ≡ elements_of ws) where
+module _ (c : Config) (b : Bool) (ps : List Placed) (d : List (List ℕ)) (firsts numbers : List ℕ) (known : AreNamesKnown c.text b d firsts numbers ps)
+    (ws : List WrittenElement) (same : placed_elements ps ≡ elements_of ws) where
   as_many : length ps ≡ length ws
-  as_many = sym (length-map ps (λ (p : Placed). p.element)) ∙ ap length same ∙ length-map ws (λ (w : Written). w.element)
+  as_many = sym (length-map ps (λ (p : Placed). p.element)) ∙ ap length same ∙ length-map ws (λ (w : WrittenElement). w.element)
 
-  pub ends-next : (i : ℕ) (dw w : Written) (dn number : ℕ) (k : EndKept) (ks new : List EndKept) → i < length ws → w ≡ get_or ws i dw → i < length numbers → number ≡ get_or numbers i dn →
-      ((q : Placed) → IsHere numbers number w.element ps q → IsEnd (locals_in c.text b ps) k (end_of c (names_in c.text b ps) number q)) → new ≡ ks ++ k ∷ [] →
-      AreEnds (locals_in c.text b ps) c (names_in c.text b ps) 0 ks (take i ps) → AreEnds (locals_in c.text b ps) c (names_in c.text b ps) 0 new (take (i + 1) ps)
+  pub ends-next : (i : ℕ) (dw w : WrittenElement) (dn number : ℕ) (k : EndKept) (ks new : List EndKept) → i < length ws → w ≡ get_or ws i dw → i < length numbers → number ≡ get_or numbers i dn →
+      ((q : Placed) → IsHere numbers number w.element ps q → IsEndKept (locals_in c.text b ps) k (written_end c (names_among c.text b ps) number q)) → new ≡ ks ++ k ∷ [] →
+      AreEndsKept (locals_in c.text b ps) c (names_among c.text b ps) 0 ks (take i ps) → AreEndsKept (locals_in c.text b ps) c (names_among c.text b ps) 0 new (take (i + 1) ps)
   ends-next i dw w dn number k ks new l is ln counted h e a =
-      let names = names_in c.text b ps in
+      let names = names_among c.text b ps in
       let within : i < length ps = omega (arith, l, as_many) in
       let p = some-there ps i within in
       let there : slice_get numbers i ≡ Some number = slice_get-get_or numbers i dn ln ∙ ap Some (sym counted) in
-      let after : number ≡ number_after c names 0 (take i ps) = some_same (sym there ∙ ap (λ ns. slice_get ns i) known.counts ∙ numbers-after c names 0 ps i p.0 p.1) in
+      let after : number ≡ number_after_all c names 0 (take i ps) = some_same (sym there ∙ ap (λ ns. slice_get ns i) known.counts ∙ numbers-after c names 0 ps i p.0 p.1) in
       let element : p.0.element ≡ w.element =
       some_same (sym (slice_get-map (λ (x : Placed). x.element) ps i ∙ ap (option_map (λ (x : Placed). x.element)) p.1) ∙ ap (λ es. slice_get es i) same
-      ∙ slice_get-map (λ (x : Written). x.element) ws i ∙ ap (option_map (λ (x : Written). x.element)) (slice_get-get_or ws i dw l) ∙ ap (λ (x : Written). Some x.element) (sym is)) in
+      ∙ slice_get-map (λ (x : WrittenElement). x.element) ws i ∙ ap (option_map (λ (x : WrittenElement). x.element)) (slice_get-get_or ws i dw l) ∙ ap (λ (x : WrittenElement). Some x.element) (sym is)) in
       let end = h p.0 (record { place = i; there = p.1; before = there; element = element }) in
-      subst (λ xs. AreEnds (locals_in c.text b ps) c names 0 xs (take (i + 1) ps)) (sym e)
-      (subst (AreEnds (locals_in c.text b ps) c names 0 (ks ++ k ∷ [])) (sym (take-there ps i p.0 within p.1))
-      (ends-push (locals_in c.text b ps) c names 0 ks (take i ps) k p.0 a (subst (λ n. IsEnd (locals_in c.text b ps) k (end_of c names n p.0)) after end)))
+      subst (λ xs. AreEndsKept (locals_in c.text b ps) c names 0 xs (take (i + 1) ps)) (sym e)
+      (subst (AreEndsKept (locals_in c.text b ps) c names 0 (ks ++ k ∷ [])) (sym (take-there ps i p.0 within p.1))
+      (ends-push (locals_in c.text b ps) c names 0 ks (take i ps) k p.0 a (subst (λ n. IsEndKept (locals_in c.text b ps) k (written_end c names n p.0)) after end)))
 
-  pub ends-all : (i : ℕ) (ks : List EndKept) → length ws ≤ i → AreEnds (locals_in c.text b ps) c (names_in c.text b ps) 0 ks (take i ps) →
-      AreEnds (locals_in c.text b ps) c (names_in c.text b ps) 0 ks ps
-  ends-all i ks l = subst (AreEnds (locals_in c.text b ps) c (names_in c.text b ps) 0 ks) (take_all i ps (omega (arith, l, as_many)))
+  pub ends-all : (i : ℕ) (ks : List EndKept) → length ws ≤ i → AreEndsKept (locals_in c.text b ps) c (names_among c.text b ps) 0 ks (take i ps) →
+      AreEndsKept (locals_in c.text b ps) c (names_among c.text b ps) 0 ks ps
+  ends-all i ks l = subst (AreEndsKept (locals_in c.text b ps) c (names_among c.text b ps) 0 ks) (take_all i ps (omega (arith, l, as_many)))
 
-pub names-placed : (text : List ℕ) (ps : List Placed) → names_of text (placed_elements ps) ≡ declared_names text ps
+pub names-placed : (text : List ℕ) (ps : List Placed) → names_declared text (placed_elements ps) ≡ declared_names text ps
 names-placed text [] = refl
 names-placed text (p ∷ ps) = ap (cons_option (head_name text p.element.head)) (names-placed text ps)
 
@@ -259,20 +259,20 @@ module _ (text : List ℕ) (b : Bool) where
   pub numbers-length : (d : List (List ℕ)) (n : ℕ) (es : List Element) → length (numbers_from text b d n es) ≡ length es
   unfolding numbers_from
   numbers-length d n [] = refl
-  numbers-length d n (e ∷ es) = ap suc (numbers-length d (counts (role text b d e) n) es)
+  numbers-length d n (e ∷ es) = ap suc (numbers-length d (count_with (role text b d e) n) es)
 
   numbers-same : (d e : List (List ℕ)) (same : (q : List ℕ) → has_name q d ≡ has_name q e) (n : ℕ) (es : List Element) → numbers_from text b d n es ≡ numbers_from text b e n es
   unfolding numbers_from
   numbers-same d e same n [] = refl
   numbers-same d e same n (x ∷ xs) =
-      ap (λ r. n ∷ numbers_from text b d (counts r n) xs) (role-same text b d e same x.head x.text)
-      ∙ ap (λ ns. n ∷ ns) (numbers-same d e same (counts (role text b e x) n) xs)
+      ap (λ r. n ∷ numbers_from text b d (count_with r n) xs) (role-same text b d e same x.head x.text)
+      ∙ ap (λ ns. n ∷ ns) (numbers-same d e same (count_with (role text b e x) n) xs)
 
-  pub known-by : (ws : List Written) (d : List (List ℕ)) (firsts numbers : List ℕ) (ps : List Placed) → AreDeclared text (elements_of ws) d firsts →
-      ((q : List ℕ) → has_name q d ≡ has_name q (names_of text (elements_of ws))) → numbers ≡ numbers_from text b d 0 (elements_of ws) → placed_elements ps ≡ elements_of ws →
-      IsKnown text b d firsts numbers ps
+  pub known-by : (ws : List WrittenElement) (d : List (List ℕ)) (firsts numbers : List ℕ) (ps : List Placed) → AreDeclared text (elements_of ws) d firsts →
+      ((q : List ℕ) → has_name q d ≡ has_name q (names_declared text (elements_of ws))) → numbers ≡ numbers_from text b d 0 (elements_of ws) → placed_elements ps ≡ elements_of ws →
+      AreNamesKnown text b d firsts numbers ps
   known-by ws d firsts numbers ps h has counted same =
-      let names : names_of text (elements_of ws) ≡ declared_names text ps = ap (names_of text) (sym same) ∙ names-placed text ps in
+      let names : names_declared text (elements_of ws) ≡ declared_names text ps = ap (names_declared text) (sym same) ∙ names-placed text ps in
       let known : (q : List ℕ) → has_name q d ≡ has_name q (declared_names text ps) = λ q. has q ∙ ap (has_name q) names in
       record {
         declared = subst (λ es. AreDeclared text es d firsts) (sym same) h;

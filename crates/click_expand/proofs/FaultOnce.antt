@@ -16,9 +16,9 @@ use Rattle.click_text.specs.Grammar.{element}
 use Rattle.click_text.specs.Spelling.{Spells}
 use Rattle.click_expand.specs.Scopes.{Scope, whole, inside, body_statements, statements_of, body_formals, formals_of, statement_elements, Stands, nested}
 use Rattle.click_expand.specs.Elements.{Placed, place, head_class}
-use Rattle.click_expand.specs.Faults.{scope_placed, brace_by, brace_of, first_token, End, Joint, Names, names_of, end_of, number_behind, number_after, joints_behind, joints_from, statement_joints, scope_joints, IsWrong, unknown_name, unknown_class, unknown_declared, unknown_original, named_twice, port_declared, formal_twice, wrong_parameters, no_output, no_input, output_as_source, input_as_target, input_gap, output_gap}
-use Rattle.click_expand.specs.Nesting.{IsNested}
-use Rattle.click_expand.specs.Standing.{Each}
+use Rattle.click_expand.specs.Faults.{scope_placed, brace_by, brace_of, first_token, End, WrittenConnection, ScopeNames, scope_names, written_end, number_behind, number_after_all, joints_behind, joints_from, statement_joints, scope_joints, IsWrong, unknown_name, unknown_class, unknown_declared, unknown_original, named_twice, port_declared, formal_twice, wrong_parameters, no_output, no_input, output_as_source, input_as_target, input_gap, output_gap}
+use Rattle.click_expand.specs.kept.Nesting.{IsNested}
+use Rattle.click_expand.specs.kept.Standing.{Each}
 use Rattle.click_expand.specs.Flat.{IsFlatFault}
 use Rattle.click_expand.specs.declared.fault.FaultKind.{FaultKind}
 use Rattle.click_expand.specs.declared.fault.ExpandFault.{ExpandFault}
@@ -114,13 +114,13 @@ module _ (text : List ℕ) (c : Config) (nests : IsNested c) (h : StandsAtTokens
         first-has r.statement p.element (split-has r.before r.statement r.after (statements_of c s) r.splits) r.there
 
   -- both ends of a connection as written
-  abbrev OfJoint : Joint → Type 0
+  abbrev OfJoint : WrittenConnection → Type 0
   OfJoint j = P j.from.first × P j.to.first
 
   abbrev FirstsOf : List Element → Type 0
   FirstsOf es = (e : Element) → Contains es e → P (first_token c e.head)
 
-  behind-joints : (names : Names) (visible : List Statement) (n : ℕ) (a : End) (ls : List Link) (j : Joint) → P a.first → FirstsOf (map (λ l. l.element) ls) →
+  behind-joints : (names : ScopeNames) (visible : List Statement) (n : ℕ) (a : End) (ls : List Link) (j : WrittenConnection) → P a.first → FirstsOf (map (λ l. l.element) ls) →
       Contains (joints_behind c names visible n a ls) j → OfJoint j
   unfolding joints_behind
   behind-joints names visible n a [] j p f i = absurd (contains-nil j i)
@@ -128,32 +128,32 @@ module _ (text : List ℕ) (c : Config) (nests : IsNested c) (h : StandsAtTokens
       let q = f l.element (contains-here l.element (map (λ l. l.element) ls)) in
       elim (contains-cons _ _ j i) [
         | inl e ↦ subst OfJoint e (p, q)
-        | inr k ↦ behind-joints names visible (number_behind c names n (place visible l.element)) (end_of c names n (place visible l.element)) ls j q
+        | inr k ↦ behind-joints names visible (number_behind c names n (place visible l.element)) (written_end c names n (place visible l.element)) ls j q
             (λ e m. f e (contains-behind l.element (map (λ l. l.element) ls) e m)) k
       ]
 
-  of-statement : (names : Names) (visible : List Statement) (n : ℕ) (st : Statement) (j : Joint) → FirstsOf (statement_elements st) → Contains (statement_joints c names visible n st) j → OfJoint j
+  of-statement : (names : ScopeNames) (visible : List Statement) (n : ℕ) (st : Statement) (j : WrittenConnection) → FirstsOf (statement_elements st) → Contains (statement_joints c names visible n st) j → OfJoint j
   of-statement names visible n (statement.Chain k) j f i =
-      behind-joints names visible (number_behind c names n (place visible k.first)) (end_of c names n (place visible k.first)) k.links j
+      behind-joints names visible (number_behind c names n (place visible k.first)) (written_end c names n (place visible k.first)) k.links j
       (f k.first (contains-here k.first (map (λ l. l.element) k.links))) (λ e m. f e (contains-behind k.first (map (λ l. l.element) k.links) e m)) i
   of-statement names visible n (statement.Declaration d) j f i = absurd (contains-nil j i)
   of-statement names visible n (statement.Definition m b) j f i = absurd (contains-nil j i)
   of-statement names visible n (statement.Synonym m d) j f i = absurd (contains-nil j i)
   of-statement names visible n (statement.Requirement t) j f i = absurd (contains-nil j i)
 
-  of-statements : (names : Names) (visible : List Statement) (n : ℕ) (ss : List Statement) (j : Joint) →
+  of-statements : (names : ScopeNames) (visible : List Statement) (n : ℕ) (ss : List Statement) (j : WrittenConnection) →
       ((st : Statement) → Contains ss st → FirstsOf (statement_elements st)) → Contains (joints_from c names visible n ss) j → OfJoint j
   unfolding joints_from
   of-statements names visible n [] j f i = absurd (contains-nil j i)
   of-statements names visible n (st ∷ ss) j f i =
       elim (Contains-append_cases (statement_joints c names visible n st) _ j i) [
         | inl k ↦ of-statement names visible n st j (f st (contains-here st ss)) k
-        | inr k ↦ of-statements names (st ∷ visible) (number_after c names n (map (place visible) (statement_elements st))) ss j (λ x m. f x (contains-behind st ss x m)) k
+        | inr k ↦ of-statements names (st ∷ visible) (number_after_all c names n (map (place visible) (statement_elements st))) ss j (λ x m. f x (contains-behind st ss x m)) k
       ]
 
-  joint-tokens : (s : Scope) (visible : List Statement) (around : List Scope) (j : Joint) → Stands c s visible around → Contains (scope_joints c s visible) j → OfJoint j
+  joint-tokens : (s : Scope) (visible : List Statement) (around : List Scope) (j : WrittenConnection) → Stands c s visible around → Contains (scope_joints c s visible) j → OfJoint j
   joint-tokens s visible around j st i =
-      of-statements (names_of c s visible) visible 0 (statements_of c s) j (λ x m e k. first-has s visible around st x e m k) i
+      of-statements (scope_names c s visible) visible 0 (statements_of c s) j (λ x m e k. first-has s visible around st x e m k) i
 
   -- a wrong use stands at a token
   wrong-token : (k : FaultKind) (w : Span) → IsWrong c k w → P w

@@ -12,7 +12,7 @@ use Rattle.click_text.specs.Strings.{closes}
 use Rattle.click_text.proofs.Closing.{closes_once}
 use Rattle.click_expand.specs.Elements.{has_name}
 use Rattle.click_expand.specs.Flat.{AreDistinct, is_whole}
-use Rattle.click_expand.specs.Found.{names_in, IsRepeated}
+use Rattle.click_expand.specs.kept.FinalChecks.{flat_names_in, IsRepeated}
 use Rattle.click_expand.specs.declared.flat.FlatElement.{FlatElement}
 
 contains-here : {X : Type 0} (x : X) (xs : List X) → Contains (x ∷ xs) x
@@ -50,19 +50,19 @@ distinct-push (m ∷ ns) n h k = (
     push_cases ns n m c = Contains-push_cases ns n m c
 
 -- the names of the elements so far
-pub names-more : (es : List FlatElement) (i : ℕ) (d e : FlatElement) (ns new : List (List ℕ)) → i < length es → e ≡ get_or es i d → ns ≡ names_in (take i es) →
-    has_name e.name ns ≡ false → new ≡ cond (has_name e.name ns) ns (ns ++ e.name ∷ []) → AreDistinct ns → (new ≡ names_in (take (i + 1) es)) × AreDistinct new
+pub names-more : (es : List FlatElement) (i : ℕ) (d e : FlatElement) (ns new : List (List ℕ)) → i < length es → e ≡ get_or es i d → ns ≡ flat_names_in (take i es) →
+    has_name e.name ns ≡ false → new ≡ cond (has_name e.name ns) ns (ns ++ e.name ∷ []) → AreDistinct ns → (new ≡ flat_names_in (take (i + 1) es)) × AreDistinct new
 names-more es i d e ns new l is p h q k =
     let t : new ≡ ns ++ e.name ∷ [] = q ∙ ap (λ b. cond b ns (ns ++ e.name ∷ [])) h in (
-      t ∙ ap (λ x. x ++ e.name ∷ []) p ∙ ap (λ (x : FlatElement). names_in (take i es) ++ x.name ∷ []) is
-          ∙ sym (map_push (λ (x : FlatElement). x.name) (take i es) (get_or es i d)) ∙ ap names_in (sym (take_more es i d l)),
+      t ∙ ap (λ x. x ++ e.name ∷ []) p ∙ ap (λ (x : FlatElement). flat_names_in (take i es) ++ x.name ∷ []) is
+          ∙ sym (map_push (λ (x : FlatElement). x.name) (take i es) (get_or es i d)) ∙ ap flat_names_in (sym (take_more es i d l)),
       subst AreDistinct (sym t) (distinct-push ns e.name k (unnamed e.name ns h)),
     )
 
-pub names-all : (es : List FlatElement) (i : ℕ) (ns : List (List ℕ)) → length es ≤ i → ns ≡ names_in (take i es) → AreDistinct ns → AreDistinct (names_in es)
-names-all es i ns l p k = subst AreDistinct (p ∙ ap names_in (take_all i es l)) k
+pub names-all : (es : List FlatElement) (i : ℕ) (ns : List (List ℕ)) → length es ≤ i → ns ≡ flat_names_in (take i es) → AreDistinct ns → AreDistinct (flat_names_in es)
+names-all es i ns l p k = subst AreDistinct (p ∙ ap flat_names_in (take_all i es l)) k
 
-pub repeated : (es : List FlatElement) (i : ℕ) (e : FlatElement) (ns : List (List ℕ)) → slice_get es i ≡ Some e → ns ≡ names_in (take i es) → AreDistinct ns → has_name e.name ns ≡ true → IsRepeated es i
+pub repeated : (es : List FlatElement) (i : ℕ) (e : FlatElement) (ns : List (List ℕ)) → slice_get es i ≡ Some e → ns ≡ flat_names_in (take i es) → AreDistinct ns → has_name e.name ns ≡ true → IsRepeated es i
 repeated es i e ns t p k h = record {
   element = e;
   there = t;

@@ -6,9 +6,9 @@ use Rattle.std.proofs.lemmas.List.{map-append}
 use Rattle.std.proofs.lemmas.List.Elements.{All-contains, Contains-append_right}
 use Rattle.click_text.specs.declared.syntax.Span.{Span}
 use Rattle.click_text.specs.declared.syntax.Config.{Config}
-use Rattle.click_expand.specs.Faults.{IsWrong, IsFirstWrong, number_of}
+use Rattle.click_expand.specs.Faults.{IsWrong, IsFirstWrong, fault_number}
 use Rattle.click_expand.specs.Instances.{Leaf, LeavesOf}
-use Rattle.click_expand.specs.Nesting.{IsNested}
+use Rattle.click_expand.specs.kept.Nesting.{IsNested}
 use Rattle.click_expand.specs.Flat.{AreConnections, WithinLimits, Meant, IsFlat, IsFlatFault, wrong, too_many, repeated, broken, Exceeds, many_elements, many_paths, much_text, many_connections, flat_name, flat_names, flat_element, is_whole, AreDistinct, expand_fault}
 use Rattle.click_expand.specs.declared.flat.FlatElement.{FlatElement}
 use Rattle.click_expand.specs.declared.flat.Connection.{Connection}
@@ -119,7 +119,7 @@ broken-once leaves xs ys zs ws x z e f a b k j =
       | inr (inr r) ↦ absurd (leaf-broken xs zs r.0 z r.1 a j)
     ]
 
-number-once : (k j : FaultKind) → number_of k ≡ number_of j → k ≡ j
+number-once : (k j : FaultKind) → fault_number k ≡ fault_number j → k ≡ j
 number-once kind.NoMemory kind.NoMemory e = refl
 number-once kind.UnknownName kind.UnknownName e = refl
 number-once kind.DeclaredTwice kind.DeclaredTwice e = refl

@@ -11,8 +11,8 @@ use Rattle.click_text.specs.declared.items.ItemKind.TheVariants as kind
 use Rattle.click_text.specs.Pieces.{white, name_byte}
 use Rattle.click_text.specs.Items.{IsItem, LongestItem, Item, item, AreItems, ended, next, bytes_of}
 use Rattle.click_text.proofs.ItemForms.{no_bytes}
-use Rattle.click_expand.specs.Parameters.{Formal, byte_of, passes, is_byte, is_name_item, name_run, formal, is_closed, formal_behind, formal_at, value_by, found_bytes, found_size, replaced}
-use Rattle.click_expand.specs.Texts.{formal_run, begins, formal_after, formal_in}
+use Rattle.click_expand.specs.Parameters.{Formal, byte_of, byte_passes, is_byte, is_name_item, name_run, formal, is_closed, formal_behind, formal_at, value_by, found_bytes, found_size, replaced}
+use Rattle.click_expand.specs.kept.Texts.{formal_run, begins_with, formal_after, formal_in}
 
 -- A test that no byte passes which begins an item of another kind.
 pub record Plain (T : ℕ → Bool) : Type 0 where
@@ -48,7 +48,7 @@ plain-close = record { double = refl; single = refl; slash = refl; back = refl; 
 
 module _ (T : ℕ → Bool) (p : Plain T) where
   -- the test on the item is that on its first byte
-  same-head : (k : ItemKind) (b : ℕ) (r : List ℕ) → IsItem k (b ∷ r) → passes T (byte_of k) ≡ T b
+  same-head : (k : ItemKind) (b : ℕ) (r : List ℕ) → IsItem k (b ∷ r) → byte_passes T (byte_of k) ≡ T b
   same-head kind.White b r (x, w, e) = let f : x ≡ b = cc in sym (p.blank b (subst (λ y. white y ≡ true) f w))
   same-head kind.Comment b r (inl (q, e, a)) = let f : 47 ≡ b = cc in sym p.slash ∙ ap T f
   same-head kind.Comment b r (inr (q, e, a)) = let f : 47 ≡ b = cc in sym p.slash ∙ ap T f
@@ -61,7 +61,7 @@ module _ (T : ℕ → Bool) (p : Plain T) where
   alone-by x b r e = cc
 
   -- an item that passes is one byte
-  alone : (k : ItemKind) (b : ℕ) (r : List ℕ) → IsItem k (b ∷ r) → passes T (byte_of k) ≡ true → r ≡ []
+  alone : (k : ItemKind) (b : ℕ) (r : List ℕ) → IsItem k (b ∷ r) → byte_passes T (byte_of k) ≡ true → r ≡ []
   alone kind.White b r i h = absurd (false≢true h)
   alone kind.Comment b r i h = absurd (false≢true h)
   alone kind.Double b r i h = absurd (false≢true h)
@@ -74,7 +74,7 @@ pub record First (text : List ℕ) (i : Item) (items : List Item) : Type 0 where
   pub byte : ℕ
   pub rest : List ℕ
   pub is : text ≡ byte ∷ rest
-  pub same : (T : ℕ → Bool) → Plain T → passes T (byte_of i.kind) ≡ T byte
+  pub same : (T : ℕ → Bool) → Plain T → byte_passes T (byte_of i.kind) ≡ T byte
   pub alone : (T : ℕ → Bool) → Plain T → T byte ≡ true → (i.bytes ≡ byte ∷ []) × AreItems rest items
 
 one-long : (n : ℕ) (t : List ℕ) → n ≤ length t → take n t ≡ [] → n ≡ 0
@@ -169,7 +169,7 @@ pub record SameFormal (text : List ℕ) (items : List Item) (f g : Option Formal
   pub same : f ≡ g
   pub skips : (x : Formal) → g ≡ Some x → (0 < x.size) × AreItems (drop x.size text) (drop x.size items)
 
--- behind the run of a name, so many more bytes that are items
+-- after the run of a name, so many more bytes that are items
 run-formal : (text : List ℕ) (items : List Item) (extra : ℕ) → Run text items → formal (name_run items) extra ≡ formal_run text extra
 run-formal text items extra r =
     named-by items (prefix_len is_name_item items) extra (prefix_len-le-length is_name_item items)
@@ -201,16 +201,16 @@ bare a text j items h =
           );
     }
 
--- behind the run of a name stands `}`
-closed-same : (text : List ℕ) (items : List Item) → AreItems text items → is_closed items ≡ begins 125 text
-closed-same text [] h = sym (ap (begins 125) (none-of h refl))
-closed-same text (i ∷ items) h = let s = first-of h i items refl in s.same (eqb 125) plain-close ∙ sym (ap (begins 125) s.is)
+-- after the run of a name stands `}`
+closed-same : (text : List ℕ) (items : List Item) → AreItems text items → is_closed items ≡ begins_with 125 text
+closed-same text [] h = sym (ap (begins_with 125) (none-of h refl))
+closed-same text (i ∷ items) h = let s = first-of h i items refl in s.same (eqb 125) plain-close ∙ sym (ap (begins_with 125) s.is)
 
-closed-rest : (text : List ℕ) (items : List Item) → AreItems text items → begins 125 text ≡ true → AreItems (drop 1 text) (drop 1 items)
-closed-rest text [] h e = absurd (false≢true (sym (ap (begins 125) (none-of h refl)) ∙ e))
+closed-rest : (text : List ℕ) (items : List Item) → AreItems text items → begins_with 125 text ≡ true → AreItems (drop 1 text) (drop 1 items)
+closed-rest text [] h e = absurd (false≢true (sym (ap (begins_with 125) (none-of h refl)) ∙ e))
 closed-rest text (i ∷ items) h e =
     let s = first-of h i items refl in
-    subst (λ t. AreItems (drop 1 t) items) (sym s.is) (s.alone (eqb 125) plain-close (sym (ap (begins 125) s.is) ∙ e)).1
+    subst (λ t. AreItems (drop 1 t) items) (sym s.is) (s.alone (eqb 125) plain-close (sym (ap (begins_with 125) s.is) ∙ e)).1
 
 -- `${x}`
 braced-by : (a b : ℕ) (text : List ℕ) (j k : Item) (items : List Item) (closed : Bool) → Run text items → (closed ≡ true → AreItems (drop (suc (prefix_len name_byte text)) text) (drop (suc (prefix_len name_byte text)) items)) →
@@ -233,21 +233,21 @@ one-further (suc n) (x ∷ xs) = one-further n xs
 
 braced : (a b : ℕ) (text : List ℕ) (j k : Item) (items : List Item) → AreItems text items →
     SameFormal (a ∷ b ∷ text) (j ∷ k ∷ items) (if is_closed (drop (length (name_run items)) items) then formal (name_run items) 3 else None)
-    (if begins 125 (drop (prefix_len name_byte text) text) then formal_run text 3 else None)
+    (if begins_with 125 (drop (prefix_len name_byte text) text) then formal_run text 3 else None)
 braced a b text j k items h =
     let r = run text items h in
     let m = prefix_len name_byte text in
     let rest : AreItems (drop m text) (drop m items) = subst (λ n. AreItems (drop m text) (drop n items)) r.same r.rest in
     let l : length (name_run items) ≡ m = length-prefix_len is_name_item items ∙ r.same in
-    let e : is_closed (drop (length (name_run items)) items) ≡ begins 125 (drop m text) = ap (λ n. is_closed (drop n items)) l ∙ closed-same (drop m text) (drop m items) rest in
-    subst (λ z. SameFormal (a ∷ b ∷ text) (j ∷ k ∷ items) (if z then formal (name_run items) 3 else None) (if begins 125 (drop m text) then formal_run text 3 else None)) (sym e)
-    (braced-by a b text j k items (begins 125 (drop m text)) r
+    let e : is_closed (drop (length (name_run items)) items) ≡ begins_with 125 (drop m text) = ap (λ n. is_closed (drop n items)) l ∙ closed-same (drop m text) (drop m items) rest in
+    subst (λ z. SameFormal (a ∷ b ∷ text) (j ∷ k ∷ items) (if z then formal (name_run items) 3 else None) (if begins_with 125 (drop m text) then formal_run text 3 else None)) (sym e)
+    (braced-by a b text j k items (begins_with 125 (drop m text)) r
     (λ c. subst (λ x. AreItems x (drop (suc m) items)) (one-further m text) (subst (λ x. AreItems (drop 1 (drop m text)) x) (one-further m items) (closed-rest (drop m text) (drop m items) rest c))))
 
 behind-by : (a b : ℕ) (text : List ℕ) (j i : Item) (items : List Item) (test : Bool) → AreItems (b ∷ text) (i ∷ items) → (test ≡ true → AreItems text items) →
     SameFormal (a ∷ b ∷ text) (j ∷ i ∷ items)
     (if test then (if is_closed (drop (length (name_run items)) items) then formal (name_run items) 3 else None) else formal (name_run (i ∷ items)) 1)
-    (if test then (if begins 125 (drop (prefix_len name_byte text) text) then formal_run text 3 else None) else formal_run (b ∷ text) 1)
+    (if test then (if begins_with 125 (drop (prefix_len name_byte text) text) then formal_run text 3 else None) else formal_run (b ∷ text) 1)
 behind-by a b text j i items true h k = braced a b text j i items (k refl)
 behind-by a b text j i items false h k = bare a (b ∷ text) j (i ∷ items) h
 
@@ -278,7 +278,7 @@ formal-here text (i ∷ items) h =
 one-less : (n : ℕ) → suc n - 1 ≡ n
 one-less n = omega arith
 
--- what stands behind a value's items
+-- what stands after a value's items
 pub replaced-skips : (value : List ℕ → Option (List ℕ)) (n : ℕ) (items : List Item) → replaced value n items ≡ replaced value 0 (drop n items)
 unfolding replaced
 replaced-skips value zero items = refl

@@ -19,10 +19,10 @@ use Rattle.click_text.specs.Spans.{bytes_at}
 use Rattle.click_text.specs.Grammar.{element}
 use Rattle.click_expand.specs.Scopes.{Scope, inside, is_body, statements_of, statement_elements, class_bodies, head_bodies, link_bodies, bodies_in, Stands, at_top, nested}
 use Rattle.click_expand.specs.Classes.{Meaning, primitive, compound, class_names, meaning, class_meaning}
-use Rattle.click_expand.specs.Elements.{Placed, place, placed, Role, pseudo, refers, makes, role, counts, head_class, element_meaning, Local, local, local_by, locals_from}
+use Rattle.click_expand.specs.Elements.{Placed, place, placed, Role, pseudo, refers, makes, role, count_with, head_class, element_meaning, Local, local, local_by, locals_from}
 use Rattle.click_expand.specs.Faults.{scope_placed, scope_declared, scope_locals}
-use Rattle.click_expand.specs.Nesting.{direct, Nests, no_bodies, next_body, IsNested}
-use Rattle.click_expand.specs.Scoped.{place_of}
+use Rattle.click_expand.specs.kept.Nesting.{direct, Nests, no_bodies, next_body, IsNested}
+use Rattle.click_expand.specs.kept.Scoped.{table_place}
 use Rattle.click_expand.proofs.Once.{contains-nil, contains-cons, inner, nests-order, root-range, direct-has}
 use Rattle.click_expand.proofs.Contained.{contains-here, contains-behind, contains-map, reverse-cons, contains-reverse, contains-split, contains-at}
 
@@ -88,7 +88,7 @@ module _ (text : List ℕ) (in_body : Bool) (declared : List (List ℕ)) where
   local-made n [] l h = absurd (contains-nil l h)
   local-made n (p ∷ ps) l h =
       let r = role text in_body declared p.element in
-      made-by n p ps (locals_from text in_body declared (counts r n) ps) l r refl h (λ i. local-made (counts r n) ps l i)
+      made-by n p ps (locals_from text in_body declared (count_with r n) ps) l r refl h (λ i. local-made (count_with r n) ps l i)
 
 -- the bodies that an element is of
 module _ (b : ℕ) where
@@ -166,7 +166,7 @@ direct-append [] ys = refl
 direct-append (x ∷ xs) ys = ap (λ z. bodies_in x ++ z) (direct-append xs ys) ∙ sym (append_assoc (bodies_in x) (direct xs) (direct ys))
 
 module _ (bodies : List Body) where
-  -- the bodies in a body stand behind those that stand before it
+  -- the bodies in a body stand after those that stand before it
   record StartsAt (a : ℕ) (xs : List ℕ) (p : ℕ) : Type 0 where
     pub start : ℕ
     pub nests : Nests bodies start (inner bodies p) p
@@ -195,10 +195,10 @@ module _ (bodies : List Body) where
         behind = λ b j. elim (contains-cons x xs b j) [ inl e ↦ omega (arith, e, f) | inr l ↦ r.behind b l ];
       }
 
--- The bodies of a scope begin behind all that is defined before it.
+-- The bodies of a scope begin after all that is defined before it.
 record IsStarted (c : Config) (s : Scope) (visible : List Statement) (around : List Scope) : Type 0 where
   pub start : ℕ
-  pub nests : Nests c.bodies start (direct (statements_of c s)) (place_of c s)
+  pub nests : Nests c.bodies start (direct (statements_of c s)) (table_place c s)
   pub each : (n : Span) (b : ℕ) → Contains visible (statement.Definition n b) → IsKnown c around b start
 
 known-more : (c : Config) (s : Scope) (scopes : List Scope) (b limit more : ℕ) → limit ≤ more → IsKnown c scopes b limit → IsKnown c (s ∷ scopes) b more
@@ -232,8 +232,8 @@ started : (c : Config) → IsNested c → (s : Scope) (visible : List Statement)
 started c m s visible around at_top = record { start = 0; nests = m; each = λ n b h. absurd (contains-nil (statement.Definition n b) h) }
 started c m s visible around (nested t v a before after st p h e i) =
     let r = started c m t v a h in
-    let k = starts c.bodies r.start (direct before) (direct (st ∷ after)) (place_of c t) p
-    (subst (λ x. Nests c.bodies r.start x (place_of c t)) (ap direct e ∙ direct-append before (st ∷ after)) r.nests) (Contains-append_left (bodies_in st) (direct after) p i) in
+    let k = starts c.bodies r.start (direct before) (direct (st ∷ after)) (table_place c t) p
+    (subst (λ x. Nests c.bodies r.start x (table_place c t)) (ap direct e ∙ direct-append before (st ∷ after)) r.nests) (Contains-append_left (bodies_in st) (direct after) p i) in
     record {
       start = k.start;
       nests = k.nests;
@@ -247,23 +247,23 @@ started c m s visible around (nested t v a before after st p h e i) =
 
 -- what is defined and visible at a place of a scope
 known-behind : (c : Config) → IsNested c → (s : Scope) (visible : List Statement) (around : List Scope) (before rest : List Statement) (b : ℕ) → Stands c s visible around →
-    statements_of c s ≡ before ++ rest → Defines (reverse before ++ visible) b → IsKnown c (s ∷ around) b (place_of c s)
+    statements_of c s ≡ before ++ rest → Defines (reverse before ++ visible) b → IsKnown c (s ∷ around) b (table_place c s)
 known-behind c m s visible around before rest b h e d =
     let r = started c m s visible around h in
     let n = d.0 in
-    let o = nests-order c.bodies r.start (direct (statements_of c s)) (place_of c s) r.nests in
+    let o = nests-order c.bodies r.start (direct (statements_of c s)) (table_place c s) r.nests in
     elim (Contains-append_cases (reverse before) visible (statement.Definition n b) d.1) [
       | inl q ↦
           (let g = contains-reverse before (statement.Definition n b) q in
           let i : Contains (direct (statements_of c s)) b =
           subst (λ x. Contains x b) (sym (ap direct e ∙ direct-append before rest)) (Contains-append_left (direct before) (direct rest) b (direct-part before (statement.Definition n b) b g (contains-here b []))) in
-          known-here c s visible around before rest n b (place_of c s) h e g (root-range c.bodies r.start (direct (statements_of c s)) (place_of c s) b r.nests i).1)
-      | inr q ↦ known-more c s around b r.start (place_of c s) o (r.each n b q)
+          known-here c s visible around before rest n b (table_place c s) h e g (root-range c.bodies r.start (direct (statements_of c s)) (table_place c s) b r.nests i).1)
+      | inr q ↦ known-more c s around b r.start (table_place c s) o (r.each n b q)
     ]
 
 -- a body that stands in a scope
 known-body : (c : Config) → IsNested c → (s : Scope) (visible : List Statement) (around : List Scope) (before after : List Statement) (st : Statement) (b : ℕ) →
-    Stands c s visible around → statements_of c s ≡ before ++ st ∷ after → Contains (bodies_in st) b → IsKnown c (s ∷ around) b (place_of c s)
+    Stands c s visible around → statements_of c s ≡ before ++ st ∷ after → Contains (bodies_in st) b → IsKnown c (s ∷ around) b (table_place c s)
 known-body c m s visible around before after st b h e i =
     let r = started c m s visible around h in
     let j : Contains (direct (statements_of c s)) b = subst (λ x. Contains (direct x) b) (sym e) (direct-has c.bodies before st after b i) in
@@ -271,13 +271,13 @@ known-body c m s visible around before after st b h e i =
       inner = reverse before ++ visible;
       outer = s ∷ around;
       stands = nested s visible around before after st b h e i;
-      below = (root-range c.bodies r.start (direct (statements_of c s)) (place_of c s) b r.nests j).1;
+      below = (root-range c.bodies r.start (direct (statements_of c s)) (table_place c s) b r.nests j).1;
       front = [];
       is = refl;
     }
 
 by-class : (c : Config) → IsNested c → (s : Scope) (visible : List Statement) (around : List Scope) (p : Placed) (b : ℕ) (k : Class) → Stands c s visible around →
-    IsPlaced visible (statements_of c s) p → head_class p.element.head ≡ k → class_meaning c.text p.visible k ≡ Some (compound b) → IsKnown c (s ∷ around) b (place_of c s)
+    IsPlaced visible (statements_of c s) p → head_class p.element.head ≡ k → class_meaning c.text p.visible k ≡ Some (compound b) → IsKnown c (s ∷ around) b (table_place c s)
 by-class c m s visible around p b (class.Named w) h i e f =
     known-behind c m s visible around i.before (i.statement ∷ i.after) b h i.splits
     (defined c.text (reverse i.before ++ visible) (bytes_at c.text w) b (sym (ap (λ x. meaning c.text x (bytes_at c.text w)) i.behind) ∙ f))
@@ -287,18 +287,18 @@ by-class c m s visible around p b (class.Body d) h i e f =
 
 -- an element that is written in a scope and means a body
 pub founded-written : (c : Config) → IsNested c → (s : Scope) (visible : List Statement) (around : List Scope) → Stands c s visible around → (p : Placed) (b : ℕ) →
-    Contains (scope_placed c s visible) p → element_meaning c.text p ≡ Some (compound b) → IsKnown c (s ∷ around) b (place_of c s)
+    Contains (scope_placed c s visible) p → element_meaning c.text p ≡ Some (compound b) → IsKnown c (s ∷ around) b (table_place c s)
 founded-written c m s visible around h p b i e =
     by-class c m s visible around p b (head_class p.element.head) h (placed-there visible (statements_of c s) p i) refl e
 
 -- an element of a scope that means a body
 pub founded : (c : Config) → IsNested c → (s : Scope) (visible : List Statement) (around : List Scope) → Stands c s visible around → (l : Local) (b : ℕ) →
-    Contains (scope_locals c s visible) l → l.meaning ≡ Some (compound b) → IsKnown c (s ∷ around) b (place_of c s)
+    Contains (scope_locals c s visible) l → l.meaning ≡ Some (compound b) → IsKnown c (s ∷ around) b (table_place c s)
 founded c m s visible around h l b i e =
     let r = local-made c.text (is_body s) (scope_declared c s visible) 0 (scope_placed c s visible) l i in
     founded-written c m s visible around h r.element b r.there (sym (ap (λ (x : Local). x.meaning) r.is) ∙ e)
 
 -- the same by the element's place
 pub founded-at : (c : Config) → IsNested c → (s : Scope) (visible : List Statement) (around : List Scope) → Stands c s visible around → (i : ℕ) (l : Local) (b : ℕ) →
-    slice_get (scope_locals c s visible) i ≡ Some l → l.meaning ≡ Some (compound b) → IsKnown c (s ∷ around) b (place_of c s)
+    slice_get (scope_locals c s visible) i ≡ Some l → l.meaning ≡ Some (compound b) → IsKnown c (s ∷ around) b (table_place c s)
 founded-at c m s visible around h i l b there e = founded c m s visible around h l b (contains-at (scope_locals c s visible) i l there) e

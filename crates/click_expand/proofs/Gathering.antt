@@ -8,17 +8,17 @@ use Rattle.std.proofs.lemmas.Bool.{cases_order}
 use Rattle.std.proofs.lemmas.Option.{slice_get_within, slice_get_past, slice_get_read}
 use Rattle.std.proofs.lemmas.Map.Made.{length-le_from_is_member}
 use Rattle.indexmap.proofs.CallerLemmas.{Contains-list_any}
-use Rattle.click_expand.specs.declared.joints.Owner.TheVariants as owner
-use Rattle.click_expand.specs.declared.uses.Part.TheVariants as part
-use Rattle.click_expand.specs.declared.uses.Use.{Use}
-use Rattle.click_expand.specs.declared.starts.Port.{Port}
-use Rattle.click_expand.specs.declared.starts.Start.{Start}
-use Rattle.click_expand.specs.declared.starts.Input.{Input}
-use Rattle.click_expand.specs.declared.starts.Next.{Next}
-use Rattle.click_expand.specs.declared.starts.Next.TheVariants as next
-use Rattle.click_expand.specs.declared.starts.Index.{Index}
+use Rattle.click_expand.specs.declared.written_connections.Owner.TheVariants as owner
+use Rattle.click_expand.specs.declared.instances.InstancePart.TheVariants as part
+use Rattle.click_expand.specs.declared.instances.Instance.{Instance}
+use Rattle.click_expand.specs.declared.connection_index.ScopePort.{ScopePort}
+use Rattle.click_expand.specs.declared.connection_index.InstancePort.{InstancePort}
+use Rattle.click_expand.specs.declared.connection_index.FlatInput.{FlatInput}
+use Rattle.click_expand.specs.declared.connection_index.Reached.{Reached}
+use Rattle.click_expand.specs.declared.connection_index.Reached.TheVariants as next
+use Rattle.click_expand.specs.declared.connection_index.ConnectionIndex.{ConnectionIndex}
 use Rattle.click_expand.specs.declared.flat.Connection.{Connection}
-use Rattle.click_expand.specs.Wiring.{start, ends_in, StepsTo, Arrives, at_once, behind, IsFrom, IsFromPort, IsFromUse, Connects, Gains, HasAll}
+use Rattle.click_expand.specs.kept.Wiring.{instance_port, ends_in, StepsTo, Arrives, at_once, after_connection, IsFrom, IsFromPort, IsFromUse, Connects, Gains, HasAll}
 use Rattle.click_expand.proofs.Indexing.{key-at}
 use Rattle.click_expand.proofs.Ordered.{same, same_equiv, exact}
 use Rattle.click_expand.proofs.Chains.{some_same}
@@ -29,9 +29,9 @@ pub item-is : {X : Type 0} (xs : List X) (i : ℕ) (r : Option (Bor X)) → IsIt
 item-is xs i None h = slice_get_past xs i h.3
 item-is xs i (Some x) h = slice_get_read xs (length xs) i x.now refl h.3.0 h.1
 
-module _ (uses : List Use) (indices : List Index) (within : ℕ) (p : Port) (one : Use) (there : slice_get uses within ≡ Some one) where
+module _ (instances : List Instance) (indices : List ConnectionIndex) (within : ℕ) (p : ScopePort) (one : Instance) (there : slice_get instances within ≡ Some one) where
   module _ (element leaf : ℕ) (is : p.owner ≡ owner.Element element) (is_leaf : slice_get one.parts element ≡ Some (part.Leaf leaf)) where
-    from-port : (k : Connection) → IsFrom uses indices leaf (start within p) k → IsFromPort uses indices within p k
+    from-port : (k : Connection) → IsFrom instances indices leaf (instance_port within p) k → IsFromPort instances indices within p k
     from-port k h =
         let e : k.from ≡ leaf = ap (λ (c : Connection). c.from) h.is in
         record {
@@ -40,22 +40,22 @@ module _ (uses : List Use) (indices : List Index) (within : ℕ) (p : Port) (one
           element = element;
           owner = is;
           is_leaf = is_leaf ∙ ap (λ n. Some (part.Leaf n)) (sym e);
-          is_from = subst (λ n. IsFrom uses indices n (start within p) k) (sym e) h;
+          is_from = subst (λ n. IsFrom instances indices n (instance_port within p) k) (sym e) h;
         }
 
-    of-port : (k : Connection) → IsFromPort uses indices within p k → IsFrom uses indices leaf (start within p) k
+    of-port : (k : Connection) → IsFromPort instances indices within p k → IsFrom instances indices leaf (instance_port within p) k
     of-port k h =
         let u : h.used ≡ one = some_same (sym h.there ∙ there) in
         let g : owner.Element h.element ≡ owner.Element element = sym h.owner ∙ is in
         let e : h.element ≡ element = cc g in
-        let l : Some (part.Leaf k.from) ≡ Some (part.Leaf leaf) = sym h.is_leaf ∙ ap (λ (x : Use). slice_get x.parts h.element) u ∙ ap (slice_get one.parts) e ∙ is_leaf in
+        let l : Some (part.Leaf k.from) ≡ Some (part.Leaf leaf) = sym h.is_leaf ∙ ap (λ (x : Instance). slice_get x.parts h.element) u ∙ ap (slice_get one.parts) e ∙ is_leaf in
         let f : k.from ≡ leaf = cc l in
-        subst (λ n. IsFrom uses indices n (start within p) k) f h.is_from
+        subst (λ n. IsFrom instances indices n (instance_port within p) k) f h.is_from
 
-    pub port-more : (old new : List Connection) → Gains (IsFrom uses indices leaf (start within p)) old new → Gains (IsFromPort uses indices within p) old new
-    port-more old new g = gains-weaken (IsFrom uses indices leaf (start within p)) (IsFromPort uses indices within p) old new from-port g
+    pub port-more : (old new : List Connection) → Gains (IsFrom instances indices leaf (instance_port within p)) old new → Gains (IsFromPort instances indices within p) old new
+    port-more old new g = gains-weaken (IsFrom instances indices leaf (instance_port within p)) (IsFromPort instances indices within p) old new from-port g
 
-    pub port-all : (new : List Connection) → HasAll (IsFrom uses indices leaf (start within p)) new → HasAll (IsFromPort uses indices within p) new
+    pub port-all : (new : List Connection) → HasAll (IsFrom instances indices leaf (instance_port within p)) new → HasAll (IsFromPort instances indices within p) new
     port-all new h k m = h k (of-port k m)
 
 -- What comes from the places below one is gathered, all of it where there are no more than the limit.
@@ -80,61 +80,61 @@ module _ {X : Type 0} (P : ℕ → X → Type 0) (most : ℕ) where
   pub gathers-skip : (i : ℕ) (a b : List X) → Gathers P most i a b → ((x : X) → P i x → ⊥) → Gathers P most (i + 1) a b
   gathers-skip i a b h f = gathers-more i a b b h (gains-none (P i) b) (λ few x p. absurd (f x p))
 
-module _ (uses : List Use) (indices : List Index) where
+module _ (instances : List Instance) (indices : List ConnectionIndex) where
   -- a connection from the port that is the key at a place of the index
-  abbrev pub IsFromKey : ℕ → List (Port × Vec Port Global) → ℕ → Connection → Type 0
-  IsFromKey within entries j k = (p : Port) × (v : Vec Port Global) × (slice_get entries j ≡ Some (p, v)) × IsFromPort uses indices within p k
+  abbrev pub IsFromKey : ℕ → List (ScopePort × Vec ScopePort Global) → ℕ → Connection → Type 0
+  IsFromKey within entries j k = (p : ScopePort) × (v : Vec ScopePort Global) × (slice_get entries j ≡ Some (p, v)) × IsFromPort instances indices within p k
 
-  first-step : (s : Start) (i : Input) → Arrives uses indices s i → (n : Next) × StepsTo uses indices s n
+  first-step : (s : InstancePort) (i : FlatInput) → Arrives instances indices s i → (n : Reached) × StepsTo instances indices s n
   first-step s i (at_once _ _ st) = (next.Leaf i, st)
-  first-step s i (behind _ t _ st w) = (next.Start t, st)
+  first-step s i (after_connection _ t _ st w) = (next.Start t, st)
 
-  module _ (within : ℕ) (entries : List (Port × Vec Port Global)) where
-    pub key-more : (most i : ℕ) (p : Port) (v : Vec Port Global) (a b d : List Connection) → Some (p, v) ≡ slice_get entries i → Gathers (IsFromKey within entries) most i a b →
-        Gains (IsFromPort uses indices within p) b d → (length d ≤ most → HasAll (IsFromPort uses indices within p) d) → Gathers (IsFromKey within entries) most (i + 1) a d
+  module _ (within : ℕ) (entries : List (ScopePort × Vec ScopePort Global)) where
+    pub key-more : (most i : ℕ) (p : ScopePort) (v : Vec ScopePort Global) (a b d : List Connection) → Some (p, v) ≡ slice_get entries i → Gathers (IsFromKey within entries) most i a b →
+        Gains (IsFromPort instances indices within p) b d → (length d ≤ most → HasAll (IsFromPort instances indices within p) d) → Gathers (IsFromKey within entries) most (i + 1) a d
     key-more most i p v a b d e h g f =
         gathers-more (IsFromKey within entries) most i a b d h
-        (gains-weaken (IsFromPort uses indices within p) (IsFromKey within entries i) b d (λ k m. (p, v, sym e, m)) g)
-        (λ few k m. let s : Some (p, v) ≡ Some (m.0, m.1) = e ∙ m.2 in let q : p ≡ m.0 = ap (λ (x : Port × Vec Port Global). x.0) (some_same s) in f few k (subst (λ x. IsFromPort uses indices within x k) (sym q) m.3))
+        (gains-weaken (IsFromPort instances indices within p) (IsFromKey within entries i) b d (λ k m. (p, v, sym e, m)) g)
+        (λ few k m. let s : Some (p, v) ≡ Some (m.0, m.1) = e ∙ m.2 in let q : p ≡ m.0 = ap (λ (x : ScopePort × Vec ScopePort Global). x.0) (some_same s) in f few k (subst (λ x. IsFromPort instances indices within x k) (sym q) m.3))
 
     pub key-none : (most i : ℕ) (a b : List Connection) → None ≡ slice_get entries i → Gathers (IsFromKey within entries) most i a b → Gathers (IsFromKey within entries) most (i + 1) a b
     key-none most i a b e h = gathers-skip (IsFromKey within entries) most i a b h (λ k m. let s : None ≡ Some (m.0, m.1) = e ∙ m.2 in cc s)
 
-    pub use-more : (most i : ℕ) (a b : List Connection) → Gathers (IsFromKey within entries) most i a b → Gains (IsFromUse uses indices within) a b
+    pub use-more : (most i : ℕ) (a b : List Connection) → Gathers (IsFromKey within entries) most i a b → Gains (IsFromUse instances indices within) a b
     use-more most i a b h =
-        gains-weaken (λ k. (j : ℕ) × IsFromKey within entries j k) (IsFromUse uses indices within) a b (λ k m. record { port = m.1.0; is_from = m.1.3 }) h.gains
+        gains-weaken (λ k. (j : ℕ) × IsFromKey within entries j k) (IsFromUse instances indices within) a b (λ k m. record { port = m.1.0; is_from = m.1.3 }) h.gains
 
-  pub use-all : (within : ℕ) (one : Use) (index : Index) → slice_get uses within ≡ Some one → slice_get indices one.scope ≡ Some index →
-      (most i : ℕ) (a b : List Connection) → length index.ends.entries ≤ i → Gathers (IsFromKey within index.ends.entries) most i a b → length b ≤ most → HasAll (IsFromUse uses indices within) b
+  pub use-all : (within : ℕ) (one : Instance) (index : ConnectionIndex) → slice_get instances within ≡ Some one → slice_get indices one.scope ≡ Some index →
+      (most i : ℕ) (a b : List Connection) → length index.ends.entries ≤ i → Gathers (IsFromKey within index.ends.entries) most i a b → length b ≤ most → HasAll (IsFromUse instances indices within) b
   use-all within one index there index_there most i a b end h few k m =
-      let s = start within m.port in
+      let s = instance_port within m.port in
       let st = (first-step s m.is_from.is_from.to m.is_from.is_from.arrives).1 in
       let u : st.used ≡ one = some_same (sym st.used_there ∙ there) in
-      let x : st.index ≡ index = some_same (sym st.index_there ∙ ap (λ (y : Use). slice_get indices y.scope) u ∙ index_there) in
-      let j = key-at index.ends.entries m.port st.to (subst (λ (y : Index). Contains (ends_in y.ends.entries m.port) st.to) x st.joined) in
+      let x : st.index ≡ index = some_same (sym st.index_there ∙ ap (λ (y : Instance). slice_get indices y.scope) u ∙ index_there) in
+      let j = key-at index.ends.entries m.port st.to (subst (λ (y : ConnectionIndex). Contains (ends_in y.ends.entries m.port) st.to) x st.joined) in
       let l = slice_get_within index.ends.entries j.0 (m.port, j.1) j.2 in
       h.all few j.0 (omega (arith, l, end)) k (m.port, j.1, j.2, m.is_from)
 
-  -- a use that is not there, or whose scope has no index
-  pub use-none : (within : ℕ) → slice_get uses within ≡ None → (k : Connection) → IsFromUse uses indices within k → ⊥
+  -- an instance that is not there, or whose scope has no index
+  pub use-none : (within : ℕ) → slice_get instances within ≡ None → (k : Connection) → IsFromUse instances indices within k → ⊥
   use-none within e k m = let s : None ≡ Some m.is_from.used = sym e ∙ m.is_from.there in cc s
 
-  pub use-bare : (within : ℕ) (one : Use) → slice_get uses within ≡ Some one → slice_get indices one.scope ≡ None → (k : Connection) → IsFromUse uses indices within k → ⊥
+  pub use-bare : (within : ℕ) (one : Instance) → slice_get instances within ≡ Some one → slice_get indices one.scope ≡ None → (k : Connection) → IsFromUse instances indices within k → ⊥
   use-bare within one there e k m =
-      let st = (first-step (start within m.port) m.is_from.is_from.to m.is_from.is_from.arrives).1 in
+      let st = (first-step (instance_port within m.port) m.is_from.is_from.to m.is_from.is_from.arrives).1 in
       let u : st.used ≡ one = some_same (sym st.used_there ∙ there) in
-      let s : None ≡ Some st.index = sym e ∙ ap (λ (y : Use). slice_get indices y.scope) (sym u) ∙ st.index_there in cc s
+      let s : None ≡ Some st.index = sym e ∙ ap (λ (y : Instance). slice_get indices y.scope) (sym u) ∙ st.index_there in cc s
 
-  pub all-sound : (most i : ℕ) (b : List Connection) → Gathers (IsFromUse uses indices) most i [] b → (k : Connection) → Contains b k → Connects uses indices k
+  pub all-sound : (most i : ℕ) (b : List Connection) → Gathers (IsFromUse instances indices) most i [] b → (k : Connection) → Contains b k → Connects instances indices k
   all-sound most i b h k m =
-      elim (gains-cases (λ k. (j : ℕ) × IsFromUse uses indices j k) [] b h.gains k m) [
+      elim (gains-cases (λ k. (j : ℕ) × IsFromUse instances indices j k) [] b h.gains k m) [
         | inl o ↦ absurd (omega (arith, o.1))
         | inr w ↦ record { within = w.0; is_from = w.1 }
       ]
 
-  pub all-complete : (most i : ℕ) (b : List Connection) → length uses ≤ i → Gathers (IsFromUse uses indices) most i [] b → length b ≤ most → HasAll (Connects uses indices) b
+  pub all-complete : (most i : ℕ) (b : List Connection) → length instances ≤ i → Gathers (IsFromUse instances indices) most i [] b → length b ≤ most → HasAll (Connects instances indices) b
   all-complete most i b end h few k m =
-      let l = slice_get_within uses m.within m.is_from.is_from.used m.is_from.is_from.there in
+      let l = slice_get_within instances m.within m.is_from.is_from.used m.is_from.is_from.there in
       h.all few m.within (omega (arith, l, end)) k m.is_from
 
 -- a connection that is there passes the test

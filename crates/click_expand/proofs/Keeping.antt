@@ -9,13 +9,13 @@ use Rattle.click_text.specs.declared.syntax.Statement.{Statement}
 use Rattle.click_text.specs.declared.syntax.Statement.TheVariants as statement
 use Rattle.click_text.specs.declared.syntax.Declaration.{Declaration}
 use Rattle.click_expand.specs.Scopes.{head_bodies, link_bodies, bodies_in, statement_elements}
-use Rattle.click_expand.specs.Nesting.{direct}
+use Rattle.click_expand.specs.kept.Nesting.{direct}
 use Rattle.click_expand.specs.Classes.{Meaning}
 use Rattle.click_expand.specs.Elements.{Placed, place, placed}
-use Rattle.click_expand.specs.Tables.{meaning_by, IsBelow, IsShown, Shows, AreWritten, IsEntry, IsMore}
-use Rattle.click_expand.specs.Standing.{kept_link, kept_name, kept_elements, root, Each, IsRoot, AreRoots}
-use Rattle.click_expand.specs.declared.classes.Entry.{Entry}
-use Rattle.click_expand.specs.declared.scopes.Written.{Written}
+use Rattle.click_expand.specs.kept.Tables.{meaning_by, IsBelow, IsShown, Shows, AreWritten, IsEntry, IsMore}
+use Rattle.click_expand.specs.kept.Standing.{kept_link, kept_name, kept_elements, root, Each, IsRoot, AreRoots}
+use Rattle.click_expand.specs.declared.classes.ClassEntry.{ClassEntry}
+use Rattle.click_expand.specs.declared.scopes.WrittenElement.{WrittenElement}
 use Rattle.click_expand.specs.declared.scopes.Root.{Root}
 use Rattle.click_expand.proofs.Showing.{shown-below}
 
@@ -46,12 +46,12 @@ pub root-links : (outer : ℕ) (top : Option ℕ) (ls : List Link) (i : ℕ) (d 
 root-links outer top ls i d l =
     at_drop_more (λ xs. map (root outer top) (link_bodies xs)) ls i d l ∙ map-append (root outer top) (head_bodies (get_or ls i d).element.head) (link_bodies (drop (i + 1) ls))
 
-pub more-more : (a b c : List Entry) → IsMore a b → IsMore b c → IsMore a c
+pub more-more : (a b c : List ClassEntry) → IsMore a b → IsMore b c → IsMore a c
 more-more a b c h k = (h.0 ++ k.0, k.1 ∙ ap (λ x. x ++ k.0) h.1 ∙ append_assoc a h.0 k.0)
 
 module _ (text : List ℕ) where
   -- what is visible stays so when there are more definitions
-  pub shows-more : (old more : List Entry) (top : Option ℕ) (vs : List Statement) → Shows text old top vs → Shows text (old ++ more) top vs
+  pub shows-more : (old more : List ClassEntry) (top : Option ℕ) (vs : List Statement) → Shows text old top vs → Shows text (old ++ more) top vs
   shows-more old more top [] h = h
   shows-more old more top (statement.Chain k ∷ vs) h = shows-more old more top vs h
   shows-more old more top (statement.Declaration d ∷ vs) h = shows-more old more top vs h
@@ -77,11 +77,11 @@ module _ (text : List ℕ) where
   }
   shows-more old more top (statement.Requirement t ∷ vs) h = shows-more old more top vs h
 
-  pub shows-grown : (old new : List Entry) (top : Option ℕ) (vs : List Statement) → IsMore old new → Shows text old top vs → Shows text new top vs
+  pub shows-grown : (old new : List ClassEntry) (top : Option ℕ) (vs : List Statement) → IsMore old new → Shows text old top vs → Shows text new top vs
   shows-grown old new top vs m h = subst (λ es. Shows text es top vs) (sym m.1) (shows-more old m.0 top vs h)
 
   -- a definition at the end
-  defined-there : (es : List Entry) (top : Option ℕ) (vs : List Statement) (e : Entry) (n : Span) (m : Option Meaning) → e.name ≡ n → meaning_by text e.class ≡ m → e.older ≡ top → Shows text es top vs →
+  defined-there : (es : List ClassEntry) (top : Option ℕ) (vs : List Statement) (e : ClassEntry) (n : Span) (m : Option Meaning) → e.name ≡ n → meaning_by text e.class ≡ m → e.older ≡ top → Shows text es top vs →
       IsShown text (es ++ e ∷ []) (Some (length es)) n m (λ t. Shows text (es ++ e ∷ []) t vs)
   defined-there es top vs e n m p q r h = record {
     place = length es;
@@ -94,7 +94,7 @@ module _ (text : List ℕ) where
     older = subst (λ t. Shows text (es ++ e ∷ []) t vs) (sym r) (shows-more es (e ∷ []) top vs h);
   }
 
-  pub defined : (es : List Entry) (top : Option ℕ) (vs : List Statement) (st : Statement) (e : Entry) → IsEntry text vs top st (Some e) → Shows text es top vs →
+  pub defined : (es : List ClassEntry) (top : Option ℕ) (vs : List Statement) (st : Statement) (e : ClassEntry) → IsEntry text vs top st (Some e) → Shows text es top vs →
       Shows text (es ++ e ∷ []) (Some (length es)) (st ∷ vs)
   defined es top vs (statement.Chain k) e d h = absurd d
   defined es top vs (statement.Declaration k) e d h = absurd d
@@ -102,21 +102,21 @@ module _ (text : List ℕ) where
   defined es top vs (statement.Synonym n w) e d h = defined-there es top vs e n _ d.0 d.1 d.2 h
   defined es top vs (statement.Requirement t) e d h = absurd d
 
-  pub written-grown : (old new : List Entry) (ws : List Written) (ps : List Placed) → IsMore old new → AreWritten text old ws ps → AreWritten text new ws ps
+  pub written-grown : (old new : List ClassEntry) (ws : List WrittenElement) (ps : List Placed) → IsMore old new → AreWritten text old ws ps → AreWritten text new ws ps
   written-grown old new [] [] m h = tt
   written-grown old new [] (p ∷ ps) m h = absurd h
   written-grown old new (w ∷ ws) [] m h = absurd h
   written-grown old new (w ∷ ws) (p ∷ ps) m h =
       (record { element = h.0.element; visible = shows-grown old new w.top p.visible m h.0.visible }, written-grown old new ws ps m h.1)
 
-  pub written-append : (es : List Entry) (ws : List Written) (ps : List Placed) (vs : List Written) (qs : List Placed) → AreWritten text es ws ps → AreWritten text es vs qs →
+  pub written-append : (es : List ClassEntry) (ws : List WrittenElement) (ps : List Placed) (vs : List WrittenElement) (qs : List Placed) → AreWritten text es ws ps → AreWritten text es vs qs →
       AreWritten text es (ws ++ vs) (ps ++ qs)
   written-append es [] [] vs qs h k = k
   written-append es [] (p ∷ ps) vs qs h k = absurd h
   written-append es (w ∷ ws) [] vs qs h k = absurd h
   written-append es (w ∷ ws) (p ∷ ps) vs qs h k = (h.0, written-append es ws ps vs qs h.1 k)
 
-  module _ (es : List Entry) (top : Option ℕ) (vs : List Statement) (h : Shows text es top vs) where
+  module _ (es : List ClassEntry) (top : Option ℕ) (vs : List Statement) (h : Shows text es top vs) where
     written-links : (ls : List Link) → AreWritten text es (map (λ l. kept_link top l) ls) (map (place vs) (map (λ (l : Link). l.element) ls))
     written-links [] = tt
     written-links (l ∷ ls) = (record { element = refl; visible = h }, written-links ls)
@@ -133,7 +133,7 @@ module _ (text : List ℕ) where
     written-statement (statement.Synonym n w) = tt
     written-statement (statement.Requirement t) = tt
 
-  root-grown : (es new : List Entry) (scope : ℕ) (visible all : List Statement) (r : Root) → IsMore es new → IsRoot text es scope visible all r → IsRoot text new scope visible all r
+  root-grown : (es new : List ClassEntry) (scope : ℕ) (visible all : List Statement) (r : Root) → IsMore es new → IsRoot text es scope visible all r → IsRoot text new scope visible all r
   root-grown es new scope visible all r m h = record {
     before = h.before;
     after = h.after;
@@ -144,11 +144,11 @@ module _ (text : List ℕ) where
     outer = h.outer;
   }
 
-  roots-grown : (es new : List Entry) (scope : ℕ) (visible all : List Statement) (rs : List Root) → IsMore es new → Each (IsRoot text es scope visible all) rs → Each (IsRoot text new scope visible all) rs
+  roots-grown : (es new : List ClassEntry) (scope : ℕ) (visible all : List Statement) (rs : List Root) → IsMore es new → Each (IsRoot text es scope visible all) rs → Each (IsRoot text new scope visible all) rs
   roots-grown es new scope visible all [] m h = tt
   roots-grown es new scope visible all (r ∷ rs) m h = (root-grown es new scope visible all r m h.0, roots-grown es new scope visible all rs m h.1)
 
-  roots-at : (es : List Entry) (scope : ℕ) (top : Option ℕ) (visible all before after : List Statement) (st : Statement) (bs : List ℕ) →
+  roots-at : (es : List ClassEntry) (scope : ℕ) (top : Option ℕ) (visible all before after : List Statement) (st : Statement) (bs : List ℕ) →
       all ≡ before ++ st ∷ after → ((b : ℕ) → Contains bs b → Contains (bodies_in st) b) → Shows text es top (reverse before ++ visible) →
       Each (IsRoot text es scope visible all) (map (root scope top) bs)
   roots-at es scope top visible all before after st [] e i h = tt
@@ -157,8 +157,8 @@ module _ (text : List ℕ) where
     roots-at es scope top visible all before after st bs e (λ c k. i c (Contains-append_right (b ∷ []) bs c k)) h,
   )
 
-  -- The elements and the bodies so far: those of the statements before these, and what is visible behind them.
-  pub record Kept (es : List Entry) (scope : ℕ) (top : Option ℕ) (ws : List Written) (first roots : List Root) (visible : List Statement) (i : ℕ) (all : List Statement) : Type 0 where
+  -- The elements and the bodies so far: those of the statements before these, and what is visible after them.
+  pub record Kept (es : List ClassEntry) (scope : ℕ) (top : Option ℕ) (ws : List WrittenElement) (first roots : List Root) (visible : List Statement) (i : ℕ) (all : List Statement) : Type 0 where
     pub seen : List Placed
     pub shows : Shows text es top (reverse (take i all) ++ visible)
     pub written : AreWritten text es ws seen
@@ -168,10 +168,10 @@ module _ (text : List ℕ) where
     pub bodies : map (λ (r : Root). r.body) more ++ direct (drop i all) ≡ direct all
     pub each : Each (IsRoot text es scope visible all) more
 
-  pub kept-first : (es : List Entry) (scope : ℕ) (top : Option ℕ) (roots : List Root) (visible all : List Statement) → Shows text es top visible → Kept es scope top [] roots roots visible 0 all
+  pub kept-first : (es : List ClassEntry) (scope : ℕ) (top : Option ℕ) (roots : List Root) (visible all : List Statement) → Shows text es top visible → Kept es scope top [] roots roots visible 0 all
   kept-first es scope top roots visible all h = record { seen = []; shows = h; written = tt; rest = refl; more = []; is = sym (append-nil roots); bodies = refl; each = tt }
 
-  pub kept-next : (es new : List Entry) (scope : ℕ) (top behind : Option ℕ) (ws vs : List Written) (first roots more : List Root) (visible all : List Statement) (i : ℕ) (d st : Statement) →
+  pub kept-next : (es new : List ClassEntry) (scope : ℕ) (top behind : Option ℕ) (ws vs : List WrittenElement) (first roots more : List Root) (visible all : List Statement) (i : ℕ) (d st : Statement) →
       i < length all → st ≡ get_or all i d → IsMore es new →
       vs ≡ ws ++ kept_elements top st → more ≡ roots ++ map (root scope top) (bodies_in st) →
       ((ss : List Statement) → Shows text es top ss → Shows text new behind (st ∷ ss)) →
@@ -206,13 +206,13 @@ module _ (text : List ℕ) where
             (roots-at new scope top visible all (take i all) (drop (i + 1) all) st bs split (λ b j. j) (shows-grown es new top s m k.shows));
       }
 
-  pub kept-all : (es : List Entry) (scope : ℕ) (top : Option ℕ) (ws : List Written) (first roots : List Root) (visible all : List Statement) (i : ℕ) → length all ≤ i →
+  pub kept-all : (es : List ClassEntry) (scope : ℕ) (top : Option ℕ) (ws : List WrittenElement) (first roots : List Root) (visible all : List Statement) (i : ℕ) → length all ≤ i →
       Kept es scope top ws first roots visible i all → AreWritten text es ws (placed visible all)
   kept-all es scope top ws first roots visible all i l k =
       subst (AreWritten text es ws)
       (sym (k.rest ∙ ap (λ xs. k.seen ++ xs) (at_drop_all (placed (reverse (take i all) ++ visible)) all i l) ∙ append-nil k.seen)) k.written
 
-  pub kept-roots : (es : List Entry) (scope : ℕ) (top : Option ℕ) (ws : List Written) (first roots : List Root) (visible all : List Statement) (i : ℕ) → length all ≤ i →
+  pub kept-roots : (es : List ClassEntry) (scope : ℕ) (top : Option ℕ) (ws : List WrittenElement) (first roots : List Root) (visible all : List Statement) (i : ℕ) → length all ≤ i →
       Kept es scope top ws first roots visible i all → AreRoots text es scope visible all first roots
   kept-roots es scope top ws first roots visible all i l k = record {
     more = k.more;

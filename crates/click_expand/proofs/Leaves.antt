@@ -10,11 +10,11 @@ use Rattle.click_text.proofs.ItemsExist.{reading}
 use Rattle.click_expand.specs.Scopes.{Scope, whole, inside, Stands, at_top}
 use Rattle.click_expand.specs.Classes.{Meaning, primitive, compound}
 use Rattle.click_expand.specs.Elements.{Local}
-use Rattle.click_expand.specs.Faults.{scope_locals, first_token, IsSound}
+use Rattle.click_expand.specs.Faults.{scope_locals, first_token, IsFaultless}
 use Rattle.click_expand.specs.Parameters.{Bindings, replaced, value_in, IsReplaced}
 use Rattle.click_expand.specs.Instances.{Leaf, AreValues, no_values, next_value, AreLeaves, no_elements, leaf, branch, LeavesOf}
-use Rattle.click_expand.specs.Nesting.{IsNested}
-use Rattle.click_expand.specs.Scoped.{place_of}
+use Rattle.click_expand.specs.kept.Nesting.{IsNested}
+use Rattle.click_expand.specs.kept.Scoped.{table_place}
 use Rattle.click_expand.proofs.Once.{stands-once}
 use Rattle.click_expand.proofs.Contained.{contains-here, contains-behind}
 use Rattle.click_expand.proofs.Founded.{founded}
@@ -75,7 +75,7 @@ same-branch inner others-inner leaves others k j n m a b = (
   ap (λ x. x + n + 1) a.1 ∙ ap (λ x. j + x + 1) b.1,
 )
 
--- the leaves of a body's use, with other names for the same
+-- the leaves of a body's instance, with other names for the same
 module _ (c : Config) (path : List (List ℕ)) (bindings : Bindings) (inner : List Leaf) (n : ℕ) where
   abbrev AreInner : ℕ → List Statement → List Scope → List (List ℕ) → Type 0
   AreInner b visible outer values = AreLeaves c (inside b) outer path ((b, values) ∷ bindings) (scope_locals c (inside b) visible) inner n
@@ -88,7 +88,7 @@ module _ (c : Config) (nests : IsNested c) where
   stands-as : (b d : ℕ) (v w : List Statement) (o p : List Scope) → b ≡ d → Stands c (inside b) v o → Stands c (inside d) w p → (v ≡ w) × (o ≡ p)
   stands-as b d v w o p e h k = stands-once c nests (inside b) v w o p h (subst (λ x. Stands c (inside x) w p) (sym e) k)
 
-  -- elements of a use have one list of leaves, and one number of paths
+  -- elements of an instance have one list of leaves, and one number of paths
   pub leaves-same : (s : Scope) (around : List Scope) (path : List (List ℕ)) (bindings : Bindings) (ls : List Local) (leaves others : List Leaf) (n m : ℕ) →
       AreLeaves c s around path bindings ls leaves n → AreLeaves c s around path bindings ls others m → (leaves ≡ others) × (n ≡ m)
   leaves-same s around path bindings ls leaves others n m (no_elements s1 a1 p1 b1) (no_elements s2 a2 p2 b2) = (refl, refl)
@@ -120,11 +120,11 @@ pub record HasLeaves (c : Config) (s : Scope) (around : List Scope) (path : List
   pub paths : ℕ
   pub are : AreLeaves c s around path bindings ls leaves paths
 
--- the elements of a use have leaves where the bodies before it have
-module _ (c : Config) (nests : IsNested c) (sound : IsSound c) (s : Scope) (visible : List Statement) (around : List Scope) (stands : Stands c s visible around) where
+-- the elements of an instance have leaves where the bodies before it have
+module _ (c : Config) (nests : IsNested c) (sound : IsFaultless c) (s : Scope) (visible : List Statement) (around : List Scope) (stands : Stands c s visible around) where
   abbrev HaveInner : Type 0
   HaveInner =
-      (b : ℕ) (v : List Statement) (o : List Scope) → Stands c (inside b) v o → b < place_of c s → (path : List (List ℕ)) (bindings : Bindings) →
+      (b : ℕ) (v : List Statement) (o : List Scope) → Stands c (inside b) v o → b < table_place c s → (path : List (List ℕ)) (bindings : Bindings) →
       HasLeaves c (inside b) o path bindings (scope_locals c (inside b) v)
 
   has-by : (path : List (List ℕ)) (bindings : Bindings) (l : Local) (ls : List Local) (m : Meaning) → HaveInner → Contains (scope_locals c s visible) l → l.meaning ≡ Some m →
@@ -155,19 +155,19 @@ module _ (c : Config) (nests : IsNested c) (sound : IsSound c) (s : Scope) (visi
       let m = meant c sound s visible around stands l i in
       has-by path bindings l ls m.0 f i m.1 (has-leaves path bindings ls f (λ k j. g k (contains-behind l ls k j)))
 
-leaves-within : (fuel : ℕ) (c : Config) → IsNested c → IsSound c → (s : Scope) (visible : List Statement) (around : List Scope) → Stands c s visible around → place_of c s < fuel →
+leaves-within : (fuel : ℕ) (c : Config) → IsNested c → IsFaultless c → (s : Scope) (visible : List Statement) (around : List Scope) → Stands c s visible around → table_place c s < fuel →
     (path : List (List ℕ)) (bindings : Bindings) → HasLeaves c s around path bindings (scope_locals c s visible)
 leaves-within zero c nests sound s visible around stands l path bindings = absurd (omega (arith, l))
 leaves-within (suc fuel) c nests sound s visible around stands l path bindings =
     has-leaves c nests sound s visible around stands path bindings (scope_locals c s visible)
     (λ b v o h k p q. leaves-within fuel c nests sound (inside b) v o h (omega (arith, k, l)) p q) (λ x i. i)
 
--- the elements of each use have leaves
-pub leaves-at : (c : Config) → IsNested c → IsSound c → (s : Scope) (visible : List Statement) (around : List Scope) → Stands c s visible around → (path : List (List ℕ)) (bindings : Bindings) →
+-- the elements of each instance have leaves
+pub leaves-at : (c : Config) → IsNested c → IsFaultless c → (s : Scope) (visible : List Statement) (around : List Scope) → Stands c s visible around → (path : List (List ℕ)) (bindings : Bindings) →
     HasLeaves c s around path bindings (scope_locals c s visible)
 leaves-at c nests sound s visible around stands path bindings =
-    leaves-within (suc (place_of c s)) c nests sound s visible around stands (omega arith) path bindings
+    leaves-within (suc (table_place c s)) c nests sound s visible around stands (omega arith) path bindings
 
 -- a sound configuration has leaves
-pub leaves-exist : (c : Config) → IsNested c → IsSound c → (leaves : List Leaf) × (n : ℕ) × LeavesOf c leaves n
+pub leaves-exist : (c : Config) → IsNested c → IsFaultless c → (leaves : List Leaf) × (n : ℕ) × LeavesOf c leaves n
 leaves-exist c nests sound = let r = leaves-at c nests sound whole [] [] at_top [] [] in (r.leaves, r.paths, r.are)

@@ -1,4 +1,4 @@
--- The walk leaves a use that has all its parts, and ends behind the whole text.
+-- The walk leaves an instance that has all its parts, and ends after the whole text.
 use Rattle.std.proofs.Common.{◌≡◌, inl, inr, ℕ, ◌<◌, ◌≤◌, List, [], ◌∷◌, ◌++◌, length, Option, Some, None, refl, sym, ap, ◌∙◌, subst, arith}
 use Rattle.std.specs.List.{slice_get}
 use Rattle.std.proofs.lemmas.Bool.{cases_order}
@@ -8,24 +8,24 @@ use Rattle.click_text.specs.declared.syntax.Config.{Config}
 use Rattle.click_expand.specs.Elements.{Local}
 use Rattle.click_expand.specs.Instances.{Leaf, AreLeaves}
 use Rattle.click_expand.specs.Parameters.{value_in}
-use Rattle.click_expand.specs.Uses.{Used, locals_at, IsAround, IsHome, IsPart, IsUse, AreUses}
-use Rattle.click_expand.specs.declared.uses.Place.{Place}
-use Rattle.click_expand.specs.declared.uses.Use.{Use}
+use Rattle.click_expand.specs.kept.KnownInstances.{KnownInstance, locals_at, IsAround, IsHome, IsPart, IsInstance, AreInstances}
+use Rattle.click_expand.specs.declared.instances.Place.{Place}
+use Rattle.click_expand.specs.declared.instances.Instance.{Instance}
 use Rattle.click_expand.proofs.Homes.{same_some, IsHomeKept, agree-value}
 use Rattle.click_expand.proofs.Adding.{slice_get-there, IsSoFar}
 use Rattle.click_expand.proofs.Frames.{IsFull, Frame, Chain, outermost, within, Walking, IsWalked, end-case, at-so_far}
 
 module _ (c : Config) where
-  home-value : (known : List Used) (u : ℕ) (x : Used) (o : Option ℕ) → IsHomeKept c known u x o → IsHome c known u x o
+  home-value : (known : List KnownInstance) (u : ℕ) (x : KnownInstance) (o : Option ℕ) → IsHomeKept c known u x o → IsHome c known u x o
   home-value known u x None h = h
   home-value known u x (Some w) h = (h.0, (h.1.0, h.1.1, h.1.2, λ name. agree-value c x.bindings h.1.0.bindings x.around name h.1.3 ∙ value-along h.1.0 h.1.2 name))
     where
-      value-along : (y : Used) → x.around ≡ y.scope ∷ y.around → (name : List ℕ) → value_in c y.bindings x.around name ≡ value_in c y.bindings (y.scope ∷ y.around) name
+      value-along : (y : KnownInstance) → x.around ≡ y.scope ∷ y.around → (name : List ℕ) → value_in c y.bindings x.around name ≡ value_in c y.bindings (y.scope ∷ y.around) name
       value-along y e name = ap (λ ss. value_in c y.bindings ss name) e
 
-  -- a use that has all its parts
-  full-use : (uses : List Use) (places : List Place) (known : List Used) (u : ℕ) (k : Use) (x : Used) → length k.parts ≡ length (locals_at c x) → IsSoFar c uses places known u k x → IsUse c uses places known u k x
-  full-use uses places known u k x e h = record {
+  -- an instance that has all its parts
+  full-use : (instances : List Instance) (places : List Place) (known : List KnownInstance) (u : ℕ) (k : Instance) (x : KnownInstance) → length k.parts ≡ length (locals_at c x) → IsSoFar c instances places known u k x → IsInstance c instances places known u k x
+  full-use instances places known u k x e h = record {
     stands = h.stands;
     scope = h.scope;
     leads = h.leads;
@@ -37,24 +37,24 @@ module _ (c : Config) where
           let n = slice_get_within (locals_at c x) i l g in
           let p = slice_get-there k.parts i (omega (arith, n, e)) in
           let r = h.parts i p.0 p.1 in
-          (p.0, p.1, subst (λ (y : Local). IsPart uses places u i y p.0) (same_some (sym r.1 ∙ g)) r.2);
+          (p.0, p.1, subst (λ (y : Local). IsPart instances places u i y p.0) (same_some (sym r.1 ∙ g)) r.2);
     };
     own = h.own;
   }
 
-  module _ (uses : List Use) (places : List Place) (at : ℕ) (leaves : List Leaf) (n : ℕ) (w : Walking c uses places at leaves n) (none : w.frame.rest ≡ []) where
-    -- the use at which the walk is has all its parts, and so have those behind it
+  module _ (instances : List Instance) (places : List Place) (at : ℕ) (leaves : List Leaf) (n : ℕ) (w : Walking c instances places at leaves n) (none : w.frame.rest ≡ []) where
+    -- the instance at which the walk is has all its parts, and so have those after it
     full-here : length w.frame.kept.parts ≡ length (locals_at c w.frame.used)
     full-here = w.frame.as_far ∙ sym (ap length (w.frame.splits ∙ ap (λ xs. w.frame.done ++ xs) none ∙ append-nil w.frame.done))
 
-    full-behind : (u : ℕ) (k : Use) → at ≤ u → u < length uses → slice_get uses u ≡ Some k → IsFull c w.known u k
+    full-behind : (u : ℕ) (k : Instance) → at ≤ u → u < length instances → slice_get instances u ≡ Some k → IsFull c w.known u k
     full-behind u k a b e =
         elim (cases_order u at) [
           | inl s ↦
-              (let same : w.frame.kept ≡ k = same_some (sym w.frame.kept_there ∙ ap (slice_get uses) (sym s) ∙ e) in (
+              (let same : w.frame.kept ≡ k = same_some (sym w.frame.kept_there ∙ ap (slice_get instances) (sym s) ∙ e) in (
                 w.frame.used,
                 ap (slice_get w.known) s ∙ w.frame.used_there,
-                subst (λ (q : Use). length q.parts ≡ length (locals_at c w.frame.used)) same full-here,
+                subst (λ (q : Instance). length q.parts ≡ length (locals_at c w.frame.used)) same full-here,
               ))
           | inr (inl s) ↦ absurd (omega (arith, s, a))
           | inr (inr s) ↦ (let t = w.upper_is in w.frame.full u k s (omega (arith, b, t)) e)
@@ -67,9 +67,9 @@ module _ (c : Config) where
 
     pub record IsBack (p : Place) : Type 0 where
       pub below : p.within < at
-      pub walking : Walking c uses places p.within leaves n
+      pub walking : Walking c instances places p.within leaves n
 
-    back : (p : Place) (outer : List Leaf) (k : ℕ) → outer ≡ w.outer → k ≡ w.k → Chain c uses w.known at (Some p) outer k → IsBack p
+    back : (p : Place) (outer : List Leaf) (k : ℕ) → outer ≡ w.outer → k ≡ w.k → Chain c instances w.known at (Some p) outer k → IsBack p
     back p outer k eo ek (within upper q inner further m j f l h) =
         let ll = last-leads in
         let count = w.count in let zero-m = ll.1 in
@@ -85,7 +85,7 @@ module _ (c : Config) where
             k = j;
             splits = w.splits ∙ ap (λ xs. w.done ++ (xs ++ w.outer)) ll.0 ∙ ap (λ xs. w.done ++ xs) (sym eo);
             count = omega (arith, count, zero-m, ek);
-            upper = length uses;
+            upper = length instances;
             upper_is = refl;
             frame = record {
               used = f.used;
@@ -103,7 +103,7 @@ module _ (c : Config) where
           };
         }
       where
-        full-from : (p : Place) {inner : List Leaf} {m : ℕ} (f : Frame c uses w.known at p.within inner m) (u : ℕ) (k : Use) → p.within < u → u < length uses → slice_get uses u ≡ Some k → IsFull c w.known u k
+        full-from : (p : Place) {inner : List Leaf} {m : ℕ} (f : Frame c instances w.known at p.within inner m) (u : ℕ) (k : Instance) → p.within < u → u < length instances → slice_get instances u ≡ Some k → IsFull c w.known u k
         full-from p f u k a b e =
             elim (cases_order u at) [
               | inl s ↦ full-behind u k (omega (arith, s)) b e
@@ -112,29 +112,29 @@ module _ (c : Config) where
             ]
 
     pub walking-back : (p : Place) → w.frame.kept.around ≡ Some p → IsBack p
-    walking-back p e = back p w.outer w.k refl refl (subst (λ o. Chain c uses w.known at o w.outer w.k) e w.chain)
+    walking-back p e = back p w.outer w.k refl refl (subst (λ o. Chain c instances w.known at o w.outer w.k) e w.chain)
 
-    ended : (outer : List Leaf) (k : ℕ) → Chain c uses w.known at None outer k → outer ≡ []
+    ended : (outer : List Leaf) (k : ℕ) → Chain c instances w.known at None outer k → outer ≡ []
     ended outer k (outermost upper) = refl
 
-    -- the whole text has all its parts, and so has each use
-    pub walked : w.frame.kept.around ≡ None → IsWalked c uses places leaves
+    -- the whole text has all its parts, and so has each instance
+    pub walked : w.frame.kept.around ≡ None → IsWalked c instances places leaves
     walked e =
-        let start : at ≡ 0 = (subst (IsAround c w.known at w.frame.used) e (at-so_far c uses places at leaves n w).around).0 in
+        let start : at ≡ 0 = (subst (IsAround c w.known at w.frame.used) e (at-so_far c instances places at leaves n w).around).0 in
         let all : leaves ≡ w.done =
         w.splits ∙ ap (λ xs. w.done ++ (xs ++ w.outer)) last-leads.0
-        ∙ ap (λ xs. w.done ++ xs) (ended w.outer w.k (subst (λ o. Chain c uses w.known at o w.outer w.k) e w.chain)) ∙ append-nil w.done in (
+        ∙ ap (λ xs. w.done ++ xs) (ended w.outer w.k (subst (λ o. Chain c instances w.known at o w.outer w.k) e w.chain)) ∙ append-nil w.done in (
           w.known,
-          subst (AreUses c uses places w.known) (sym all) (record {
+          subst (AreInstances c instances places w.known) (sym all) (record {
             as_many = w.kept.as_many;
             as_many_leaves = w.kept.as_many_leaves;
             first = w.kept.first;
             each = λ u k g.
                 let r = w.kept.each u k g in
-                let b = slice_get_within uses u k g in
+                let b = slice_get_within instances u k g in
                 let f = full-behind u k (omega (arith, start)) b g in
                 let same : f.0 ≡ r.0 = same_some (sym f.1 ∙ r.1) in
-                (r.0, r.1, full-use uses places w.known u k r.0 (f.2 ∙ ap (λ (x : Used). length (locals_at c x)) same) r.2);
+                (r.0, r.1, full-use instances places w.known u k r.0 (f.2 ∙ ap (λ (x : KnownInstance). length (locals_at c x)) same) r.2);
             leaf = w.kept.leaf;
           }),
         )

@@ -9,14 +9,14 @@ use Rattle.click_text.specs.declared.syntax.Span.{Span}
 use Rattle.click_text.specs.declared.syntax.Element.{Element}
 use Rattle.click_text.specs.declared.syntax.Head.{Head}
 use Rattle.click_text.specs.declared.syntax.Head.TheVariants as head
-use Rattle.click_expand.specs.declared.classes.Entry.{Entry}
-use Rattle.click_expand.specs.declared.scopes.Written.{Written}
-use Rattle.click_expand.specs.declared.members.Local.{Local as LocalKept}
-use Rattle.click_expand.specs.declared.members.Role.{Role as RoleKept}
-use Rattle.click_expand.specs.declared.members.Role.TheVariants as kept
-use Rattle.click_expand.specs.Elements.{Placed, Role, pseudo, refers, makes, role, counts, has_name, head_name, Local, local, locals_from}
-use Rattle.click_expand.specs.Tables.{IsWritten, AreWritten, elements_of, names_of, numbers_from, local_of, role_by}
-use Rattle.click_expand.specs.Located.{string_by, string_made, strings_made, strings_of}
+use Rattle.click_expand.specs.declared.classes.ClassEntry.{ClassEntry}
+use Rattle.click_expand.specs.declared.scopes.WrittenElement.{WrittenElement}
+use Rattle.click_expand.specs.declared.scope_elements.Local.{Local as LocalKept}
+use Rattle.click_expand.specs.declared.scope_elements.Role.{Role as RoleKept}
+use Rattle.click_expand.specs.declared.scope_elements.Role.TheVariants as kept
+use Rattle.click_expand.specs.Elements.{Placed, Role, pseudo, refers, makes, role, count_with, has_name, head_name, Local, local, locals_from}
+use Rattle.click_expand.specs.kept.Tables.{IsWrittenElement, AreWritten, elements_of, names_declared, numbers_from, local_of, role_kept}
+use Rattle.click_expand.specs.kept.ScopeElements.{string_where_made, string_made, strings_made, strings_of}
 
 pub any_push : {X : Type 0} (p : X → Bool) (xs : List X) (x : X) → list_any p (xs ++ x ∷ []) ≡ (list_any p xs || p x)
 any_push p [] x = elim (p x) as (λ b. (b || false) ≡ b) [ true ↦ refl | false ↦ refl ]
@@ -40,7 +40,7 @@ has_name-added ks ds n h q = by_test (has_name n ks) refl
     by_test false k =
         any_push (bytes_eq q) ks n ∙ ap (λ b. b || bytes_eq q n) (h q) ∙ sym (any_push (bytes_eq q) ds n)
 
-pub kept-makes : (k : RoleKept) → role_by k ≡ makes → k ≡ kept.Makes
+pub kept-makes : (k : RoleKept) → role_kept k ≡ makes → k ≡ kept.Makes
 kept-makes kept.Pseudo h = absurd (cc h)
 kept-makes kept.Refers h = absurd (cc h)
 kept-makes kept.Makes h = refl
@@ -51,42 +51,42 @@ undeclared text (head.Word s) k = refl
 undeclared text (head.Declared s c) k = absurd (k s c refl)
 undeclared text (head.Compound b) k = refl
 
-pub counts-other : (n : ℕ) (r : Role) → (r ≡ makes → ⊥) → counts r n ≡ n
+pub counts-other : (n : ℕ) (r : Role) → (r ≡ makes → ⊥) → count_with r n ≡ n
 counts-other n pseudo h = refl
 counts-other n refers h = refl
 counts-other n makes h = absurd (h refl)
 
 module _ (text : List ℕ) where
   -- the names that the first of these declare
-  abbrev pub declared_by : List Written → ℕ → List (List ℕ)
-  declared_by ws i = names_of text (elements_of (take i ws))
+  abbrev pub declared_by : List WrittenElement → ℕ → List (List ℕ)
+  declared_by ws i = names_declared text (elements_of (take i ws))
 
-  declared_by-more : (ws : List Written) (i : ℕ) (d w : Written) → i < length ws → w ≡ get_or ws i d →
+  declared_by-more : (ws : List WrittenElement) (i : ℕ) (d w : WrittenElement) → i < length ws → w ≡ get_or ws i d →
       declared_by ws (i + 1) ≡ declared_by ws i ++ cons_option (head_name text w.element.head) []
   declared_by-more ws i d w l is =
-      ap (λ xs. names_of text (elements_of xs)) (take_more ws i d l)
-      ∙ ap (names_of text) (map_push (λ (x : Written). x.element) (take i ws) (get_or ws i d))
+      ap (λ xs. names_declared text (elements_of xs)) (take_more ws i d l)
+      ∙ ap (names_declared text) (map_push (λ (x : WrittenElement). x.element) (take i ws) (get_or ws i d))
       ∙ filter_map-append (λ (e : Element). head_name text e.head) (elements_of (take i ws)) ((get_or ws i d).element ∷ [])
-      ∙ ap (λ (x : Written). declared_by ws i ++ cons_option (head_name text x.element.head) []) (sym is)
+      ∙ ap (λ (x : WrittenElement). declared_by ws i ++ cons_option (head_name text x.element.head) []) (sym is)
 
-  pub declared_by-yes : (ws : List Written) (i : ℕ) (d w : Written) (n : List ℕ) → i < length ws → w ≡ get_or ws i d → head_name text w.element.head ≡ Some n →
+  pub declared_by-yes : (ws : List WrittenElement) (i : ℕ) (d w : WrittenElement) (n : List ℕ) → i < length ws → w ≡ get_or ws i d → head_name text w.element.head ≡ Some n →
       declared_by ws (i + 1) ≡ declared_by ws i ++ n ∷ []
   declared_by-yes ws i d w n l is h = declared_by-more ws i d w l is ∙ ap (λ o. declared_by ws i ++ cons_option o []) h
 
-  pub declared_by-no : (ws : List Written) (i : ℕ) (d w : Written) → i < length ws → w ≡ get_or ws i d → head_name text w.element.head ≡ None →
+  pub declared_by-no : (ws : List WrittenElement) (i : ℕ) (d w : WrittenElement) → i < length ws → w ≡ get_or ws i d → head_name text w.element.head ≡ None →
       declared_by ws (i + 1) ≡ declared_by ws i
   declared_by-no ws i d w l is h = declared_by-more ws i d w l is ∙ ap (λ o. declared_by ws i ++ cons_option o []) h ∙ append-nil (declared_by ws i)
 
-  pub declared_by-all : (ws : List Written) (i : ℕ) → length ws ≤ i → declared_by ws i ≡ names_of text (elements_of ws)
-  declared_by-all ws i l = ap (λ xs. names_of text (elements_of xs)) (take_all i ws l)
+  pub declared_by-all : (ws : List WrittenElement) (i : ℕ) → length ws ≤ i → declared_by ws i ≡ names_declared text (elements_of ws)
+  declared_by-all ws i l = ap (λ xs. names_declared text (elements_of xs)) (take_all i ws l)
 
   -- the next of those that the code keeps, and the one that it is
-  pub record NextWritten (entries : List Entry) (w : Written) (ps : List Placed) (i : ℕ) : Type 0 where
+  pub record NextWritten (entries : List ClassEntry) (w : WrittenElement) (ps : List Placed) (i : ℕ) : Type 0 where
     pub next : Placed
     pub here : drop i ps ≡ next ∷ drop (i + 1) ps
-    pub is : IsWritten text entries w next
+    pub is : IsWrittenElement text entries w next
 
-  pub next_written : (entries : List Entry) (ws : List Written) (ps : List Placed) (i : ℕ) (d : Written) → AreWritten text entries ws ps → i < length ws →
+  pub next_written : (entries : List ClassEntry) (ws : List WrittenElement) (ps : List Placed) (i : ℕ) (d : WrittenElement) → AreWritten text entries ws ps → i < length ws →
       NextWritten entries (get_or ws i d) ps i
   next_written entries [] ps i d h l = absurd (omega (arith, l))
   next_written entries (w ∷ ws) [] i d h l = absurd h
@@ -95,7 +95,7 @@ module _ (text : List ℕ) where
       let r = next_written entries ws ps i d h.1 (omega (arith, l)) in
       record { next = r.next; here = (let e : suc (i + 1) ≡ suc i + 1 = omega arith in r.here ∙ ap (λ n. r.next ∷ drop n (p ∷ ps)) e); is = r.is }
 
-  pub written-length : (entries : List Entry) (ws : List Written) (ps : List Placed) → AreWritten text entries ws ps → length ps ≡ length ws
+  pub written-length : (entries : List ClassEntry) (ws : List WrittenElement) (ps : List Placed) → AreWritten text entries ws ps → length ps ≡ length ws
   written-length entries [] [] h = refl
   written-length entries [] (p ∷ ps) h = absurd h
   written-length entries (w ∷ ws) [] h = absurd h
@@ -125,13 +125,13 @@ module _ (text : List ℕ) where
     pub made-none : (ps : List Placed) → locals_from text in_body declared 0 ps ≡ with_left [] ps
     made-none ps = refl
 
-    module _ (entries : List Entry) (ws : List Written) (ps : List Placed) (h : AreWritten text entries ws ps) where
-      pub made-more : (ls : List LocalKept) (l : LocalKept) (n i : ℕ) (d w : Written) → i < length ws → w ≡ get_or ws i d → n ≡ length ls →
-          role text in_body declared w.element ≡ makes → ((p : Placed) → IsWritten text entries w p → local_of text l ≡ local text n p) →
+    module _ (entries : List ClassEntry) (ws : List WrittenElement) (ps : List Placed) (h : AreWritten text entries ws ps) where
+      pub made-more : (ls : List LocalKept) (l : LocalKept) (n i : ℕ) (d w : WrittenElement) → i < length ws → w ≡ get_or ws i d → n ≡ length ls →
+          role text in_body declared w.element ≡ makes → ((p : Placed) → IsWrittenElement text entries w p → local_of text l ≡ local text n p) →
           with_left ls (drop i ps) ≡ with_left (ls ++ l ∷ []) (drop (i + 1) ps)
       made-more ls l n i d w lt is nl m g =
           let r = next_written entries ws ps i d h lt in
-          let t : IsWritten text entries w r.next = subst (λ x. IsWritten text entries x r.next) (sym is) r.is in
+          let t : IsWrittenElement text entries w r.next = subst (λ x. IsWrittenElement text entries x r.next) (sym is) r.is in
           let k : role text in_body declared r.next.element ≡ makes = ap (role text in_body declared) (sym t.element) ∙ m in
           let rest = locals_from text in_body declared (length ls + 1) (drop (i + 1) ps) in
           ap (with_left ls) r.here
@@ -141,11 +141,11 @@ module _ (text : List ℕ) where
           ∙ ap (λ xs. xs ++ rest) (sym (map_push (local_of text) ls l))
           ∙ ap (λ x. map (local_of text) (ls ++ l ∷ []) ++ locals_from text in_body declared x (drop (i + 1) ps)) (sym (length_push ls l))
 
-      pub made-other : (ls : List LocalKept) (i : ℕ) (d w : Written) (r : Role) → i < length ws → w ≡ get_or ws i d →
+      pub made-other : (ls : List LocalKept) (i : ℕ) (d w : WrittenElement) (r : Role) → i < length ws → w ≡ get_or ws i d →
           role text in_body declared w.element ≡ r → (r ≡ makes → ⊥) → with_left ls (drop i ps) ≡ with_left ls (drop (i + 1) ps)
       made-other ls i d w o lt is m k =
           let r = next_written entries ws ps i d h lt in
-          let t : IsWritten text entries w r.next = subst (λ x. IsWritten text entries x r.next) (sym is) r.is in
+          let t : IsWrittenElement text entries w r.next = subst (λ x. IsWrittenElement text entries x r.next) (sym is) r.is in
           ap (with_left ls) r.here
           ∙ ap (λ xs. map (local_of text) ls ++ xs)
           (locals-other (length ls) r.next (drop (i + 1) ps) o (ap (role text in_body declared) (sym t.element) ∙ m) k)
@@ -156,18 +156,18 @@ module _ (text : List ℕ) where
           ∙ ap (λ xs. map (local_of text) ls ++ xs) (locals-end (length ls)) ∙ append-nil (map (local_of text) ls)
 
     -- the strings of the elements that are made, and of those that are left
-    abbrev pub strings_left : List LocalKept → List Written → List (Option Span)
+    abbrev pub strings_left : List LocalKept → List WrittenElement → List (Option Span)
     strings_left ls ws = strings_of ls ++ strings_made text in_body declared (elements_of ws)
 
-    strings-next : (ls : List LocalKept) (ws : List Written) (i : ℕ) (d w : Written) (r : Role) → i < length ws → w ≡ get_or ws i d → role text in_body declared w.element ≡ r →
-        strings_left ls (drop i ws) ≡ strings_of ls ++ cons_option (string_by r w.element.text) (strings_made text in_body declared (elements_of (drop (i + 1) ws)))
+    strings-next : (ls : List LocalKept) (ws : List WrittenElement) (i : ℕ) (d w : WrittenElement) (r : Role) → i < length ws → w ≡ get_or ws i d → role text in_body declared w.element ≡ r →
+        strings_left ls (drop i ws) ≡ strings_of ls ++ cons_option (string_where_made r w.element.text) (strings_made text in_body declared (elements_of (drop (i + 1) ws)))
     strings-next ls ws i d w r l is m =
         let rest = strings_made text in_body declared (elements_of (drop (i + 1) ws)) in
         at_drop_more (strings_left ls) ws i d l
-        ∙ ap (λ (x : Written). strings_of ls ++ cons_option (string_made text in_body declared x.element) rest) (sym is)
-        ∙ ap (λ x. strings_of ls ++ cons_option (string_by x w.element.text) rest) m
+        ∙ ap (λ (x : WrittenElement). strings_of ls ++ cons_option (string_made text in_body declared x.element) rest) (sym is)
+        ∙ ap (λ x. strings_of ls ++ cons_option (string_where_made x w.element.text) rest) m
 
-    pub strings-makes : (ls : List LocalKept) (l : LocalKept) (ws : List Written) (i : ℕ) (d w : Written) → i < length ws → w ≡ get_or ws i d →
+    pub strings-makes : (ls : List LocalKept) (l : LocalKept) (ws : List WrittenElement) (i : ℕ) (d w : WrittenElement) → i < length ws → w ≡ get_or ws i d →
         role text in_body declared w.element ≡ makes → l.text ≡ w.element.text → strings_left ls (drop i ws) ≡ strings_left (ls ++ l ∷ []) (drop (i + 1) ws)
     strings-makes ls l ws i d w lt is m t =
         let rest = strings_made text in_body declared (elements_of (drop (i + 1) ws)) in
@@ -176,26 +176,26 @@ module _ (text : List ℕ) where
         ∙ sym (append_assoc (strings_of ls) (l.text ∷ []) rest)
         ∙ ap (λ xs. xs ++ rest) (sym (map_push (λ (x : LocalKept). x.text) ls l))
 
-    string-none : (r : Role) (t : Option Span) → (r ≡ makes → ⊥) → string_by r t ≡ None
+    string-none : (r : Role) (t : Option Span) → (r ≡ makes → ⊥) → string_where_made r t ≡ None
     string-none pseudo t h = refl
     string-none refers t h = refl
     string-none makes t h = absurd (h refl)
 
-    pub strings-other : (ls : List LocalKept) (ws : List Written) (i : ℕ) (d w : Written) (r : Role) → i < length ws → w ≡ get_or ws i d →
+    pub strings-other : (ls : List LocalKept) (ws : List WrittenElement) (i : ℕ) (d w : WrittenElement) (r : Role) → i < length ws → w ≡ get_or ws i d →
         role text in_body declared w.element ≡ r → (r ≡ makes → ⊥) → strings_left ls (drop i ws) ≡ strings_left ls (drop (i + 1) ws)
     strings-other ls ws i d w r lt is m k =
         strings-next ls ws i d w r lt is m
         ∙ ap (λ o. strings_of ls ++ cons_option o (strings_made text in_body declared (elements_of (drop (i + 1) ws)))) (string-none r w.element.text k)
 
-    pub strings-all : (ls : List LocalKept) (ws : List Written) (i : ℕ) → length ws ≤ i → strings_left ls (drop i ws) ≡ strings_of ls
+    pub strings-all : (ls : List LocalKept) (ws : List WrittenElement) (i : ℕ) → length ws ≤ i → strings_left ls (drop i ws) ≡ strings_of ls
     strings-all ls ws i l = at_drop_all (strings_left ls) ws i l ∙ append-nil (strings_of ls)
 
     -- the numbers before these, of which so many are known
-    abbrev pub numbers_left : List ℕ → ℕ → List Written → List ℕ
+    abbrev pub numbers_left : List ℕ → ℕ → List WrittenElement → List ℕ
     numbers_left ns n ws = ns ++ numbers_from text in_body declared n (elements_of ws)
 
     numbers-next : (n : ℕ) (e : Element) (es : List Element) →
-        numbers_from text in_body declared n (e ∷ es) ≡ n ∷ numbers_from text in_body declared (counts (role text in_body declared e) n) es
+        numbers_from text in_body declared n (e ∷ es) ≡ n ∷ numbers_from text in_body declared (count_with (role text in_body declared e) n) es
     unfolding numbers_from
     numbers-next n e es = refl
 
@@ -203,14 +203,14 @@ module _ (text : List ℕ) where
     unfolding numbers_from
     numbers-end n = refl
 
-    pub numbers-more : (ns : List ℕ) (n m : ℕ) (ws : List Written) (i : ℕ) (d w : Written) → i < length ws → w ≡ get_or ws i d →
-        m ≡ counts (role text in_body declared w.element) n → numbers_left ns n (drop i ws) ≡ numbers_left (ns ++ n ∷ []) m (drop (i + 1) ws)
+    pub numbers-more : (ns : List ℕ) (n m : ℕ) (ws : List WrittenElement) (i : ℕ) (d w : WrittenElement) → i < length ws → w ≡ get_or ws i d →
+        m ≡ count_with (role text in_body declared w.element) n → numbers_left ns n (drop i ws) ≡ numbers_left (ns ++ n ∷ []) m (drop (i + 1) ws)
     numbers-more ns n m ws i d w l is k =
         at_drop_more (numbers_left ns n) ws i d l
         ∙ ap (λ xs. ns ++ xs) (numbers-next n (get_or ws i d).element (elements_of (drop (i + 1) ws)))
-        ∙ ap (λ (x : Written). ns ++ n ∷ numbers_from text in_body declared (counts (role text in_body declared x.element) n) (elements_of (drop (i + 1) ws))) (sym is)
+        ∙ ap (λ (x : WrittenElement). ns ++ n ∷ numbers_from text in_body declared (count_with (role text in_body declared x.element) n) (elements_of (drop (i + 1) ws))) (sym is)
         ∙ ap (λ x. ns ++ n ∷ numbers_from text in_body declared x (elements_of (drop (i + 1) ws))) (sym k)
         ∙ sym (append_assoc ns (n ∷ []) (numbers_from text in_body declared m (elements_of (drop (i + 1) ws))))
 
-    pub numbers-all : (ns : List ℕ) (n : ℕ) (ws : List Written) (i : ℕ) → length ws ≤ i → numbers_left ns n (drop i ws) ≡ ns
+    pub numbers-all : (ns : List ℕ) (n : ℕ) (ws : List WrittenElement) (i : ℕ) → length ws ≤ i → numbers_left ns n (drop i ws) ≡ ns
     numbers-all ns n ws i l = at_drop_all (numbers_left ns n) ws i l ∙ ap (λ xs. ns ++ xs) (numbers-end n) ∙ append-nil ns

@@ -5,41 +5,41 @@ use Rattle.std.proofs.lemmas.Bool.{cases_order}
 use Rattle.std.proofs.lemmas.Option.{slice_get-get_or}
 use Rattle.click_text.specs.declared.syntax.Body.{Body}
 use Rattle.click_text.specs.declared.syntax.Config.{Config}
-use Rattle.click_expand.specs.Wrongs.{first_of, AtMost, IsLeast, IsWrongLocal}
-use Rattle.click_expand.specs.Misnamed.{IsWrongAt, IsWrongWithin, IsWrongBody, IsWrongEntry, original_at}
-use Rattle.click_expand.specs.declared.members.Local.{Local as LocalKept}
-use Rattle.click_expand.specs.declared.classes.Entry.{Entry}
-use Rattle.click_expand.specs.declared.wrong.Wrong.{Wrong}
+use Rattle.click_expand.specs.kept.FirstFault.{first_of, AtMost, IsLeast, IsWrongLocal}
+use Rattle.click_expand.specs.kept.NameFaults.{IsWrongAt, IsWrongWithin, IsNameFaultWithin, IsWrongEntry, original_at}
+use Rattle.click_expand.specs.declared.scope_elements.Local.{Local as LocalKept}
+use Rattle.click_expand.specs.declared.classes.ClassEntry.{ClassEntry}
+use Rattle.click_expand.specs.declared.first_fault.TokenFault.{TokenFault}
 use Rattle.click_expand.proofs.Least.{least-first_of, least-alone, least-same, at_most-through}
 
 some_same : {X : Type 0} {x y : X} → Some x ≡ Some y → x ≡ y
 some_same h = cc h
 
 -- the first of those for which one thing holds is that of others, before each of which stands one of them
-pub least-before : (P Q : Wrong → Type 0) (o : Option Wrong) → ((w : Wrong) → P w → Q w) → ((w : Wrong) → Q w → (v : Wrong) × P v × AtMost v w) → IsLeast P o → IsLeast Q o
+pub least-before : (P Q : TokenFault → Type 0) (o : Option TokenFault) → ((w : TokenFault) → P w → Q w) → ((w : TokenFault) → Q w → (v : TokenFault) × P v × AtMost v w) → IsLeast P o → IsLeast Q o
 least-before P Q None f g h = λ w q. let r = g w q in h r.0 r.1
 least-before P Q (Some x) f g h = (f x h.0, λ w q. let r = g w q in at_most-through x r.0 w (h.1 r.0 r.1) r.2)
 
 -- the first of those is no later than one of them
-pub least-found : (P : Wrong → Type 0) (o : Option Wrong) (w : Wrong) → IsLeast P o → P w → (v : Wrong) × (o ≡ Some v) × AtMost v w
+pub least-found : (P : TokenFault → Type 0) (o : Option TokenFault) (w : TokenFault) → IsLeast P o → P w → (v : TokenFault) × (o ≡ Some v) × AtMost v w
 least-found P None w h p = absurd (h w p)
 least-found P (Some x) w h p = (x, refl, h.1 w p)
 
-pub least-is : (P : Wrong → Type 0) (o : Option Wrong) (w : Wrong) → IsLeast P o → o ≡ Some w → P w
+pub least-is : (P : TokenFault → Type 0) (o : Option TokenFault) (w : TokenFault) → IsLeast P o → o ≡ Some w → P w
 least-is P None w h e = absurd (cc e)
 least-is P (Some x) w h e = subst P (some_same e) h.0
 
-at_most-self : (w : Wrong) → AtMost w w
+at_most-self : (w : TokenFault) → AtMost w w
 at_most-self w = inr (refl, omega arith)
 
-pub at_most-same : (P : Wrong → Type 0) (w : Wrong) → P w → (v : Wrong) × P v × AtMost v w
+pub at_most-same : (P : TokenFault → Type 0) (w : TokenFault) → P w → (v : TokenFault) × P v × AtMost v w
 at_most-same P w p = (w, p, at_most-self w)
 
-module _ (entries : List Entry) where
+module _ (entries : List ClassEntry) where
   pub entries-none : IsLeast (IsWrongEntry entries 0) None
   entries-none = λ w h. let l = h.within in omega (arith, l)
 
-  pub entries-next : (i : ℕ) (d e : Entry) (o r : Option Wrong) → i < length entries → e ≡ get_or entries i d → r ≡ first_of o (original_at e.original e.class) →
+  pub entries-next : (i : ℕ) (d e : ClassEntry) (o r : Option TokenFault) → i < length entries → e ≡ get_or entries i d → r ≡ first_of o (original_at e.original e.class) →
       IsLeast (IsWrongEntry entries i) o → IsLeast (IsWrongEntry entries (i + 1)) r
   entries-next i d e o r l is q h =
       let here = original_at e.original e.class in
@@ -52,7 +52,7 @@ module _ (entries : List Entry) where
       ])
       (λ w p. elim (cases_order p.place i) [
         | inl s ↦ inr (let f : e ≡ p.entry = some_same (sym there ∙ ap (slice_get entries) (sym s) ∙ p.there) in
-            ap (λ (x : Entry). original_at x.original x.class) f ∙ p.is)
+            ap (λ (x : ClassEntry). original_at x.original x.class) f ∙ p.is)
         | inr (inl s) ↦ inl (record { place = p.place; entry = p.entry; within = s; there = p.there; is = p.is })
         | inr (inr s) ↦ absurd (let m = p.within in omega (arith, m, s))
       ])
@@ -63,7 +63,7 @@ module _ (c : Config) (all : List (Vec LocalKept Global)) where
   pub place-none : (place : ℕ) → slice_get all place ≡ None → IsLeast (IsWrongAt c all place) None
   place-none place e = λ w h. let q : None ≡ Some h.elements = sym e ∙ h.there in absurd (cc q)
 
-  place-some : (place : ℕ) (ls : Vec LocalKept Global) (o : Option Wrong) → slice_get all place ≡ Some ls →
+  place-some : (place : ℕ) (ls : Vec LocalKept Global) (o : Option TokenFault) → slice_get all place ≡ Some ls →
       IsLeast (IsWrongLocal c.text c.bodies (nat_lt place (length c.bodies)) ls.items (length ls.items)) o → IsLeast (IsWrongAt c all place) o
   place-some place ls o e h =
       least-same (IsWrongLocal c.text c.bodies (nat_lt place (length c.bodies)) ls.items (length ls.items)) (IsWrongAt c all place) o
@@ -73,7 +73,7 @@ module _ (c : Config) (all : List (Vec LocalKept Global)) where
       h
 
   -- the same for what the code reads
-  pub place-read : (text : List ℕ) (bodies : List Body) (b : Bool) (items : List LocalKept) (place : ℕ) (ls : Vec LocalKept Global) (o : Option Wrong) →
+  pub place-read : (text : List ℕ) (bodies : List Body) (b : Bool) (items : List LocalKept) (place : ℕ) (ls : Vec LocalKept Global) (o : Option TokenFault) →
       text ≡ c.text → bodies ≡ c.bodies → b ≡ nat_lt place (length c.bodies) → items ≡ ls.items → slice_get all place ≡ Some ls →
       IsLeast (IsWrongLocal text bodies b items (length items)) o → IsLeast (IsWrongAt c all place) o
   place-read text bodies b items place ls o te be ne le e h =
@@ -83,13 +83,13 @@ module _ (c : Config) (all : List (Vec LocalKept Global)) where
       (subst (λ x. IsLeast (IsWrongLocal text bodies x ls.items (length ls.items)) o) ne
       (subst (λ x. IsLeast (IsWrongLocal text bodies b x (length x)) o) le h))))
 
-  pub bodies-none : IsLeast (IsWrongBody c all 0) None
+  pub bodies-none : IsLeast (IsNameFaultWithin c all 0) None
   bodies-none = λ w h. let l = h.within in omega (arith, l)
 
-  pub bodies-next : (i : ℕ) (o here r : Option Wrong) → r ≡ first_of o here → IsLeast (IsWrongWithin c all i) here → IsLeast (IsWrongBody c all i) o → IsLeast (IsWrongBody c all (i + 1)) r
+  pub bodies-next : (i : ℕ) (o here r : Option TokenFault) → r ≡ first_of o here → IsLeast (IsWrongWithin c all i) here → IsLeast (IsNameFaultWithin c all i) o → IsLeast (IsNameFaultWithin c all (i + 1)) r
   bodies-next i o here r q k h =
-      subst (IsLeast (IsWrongBody c all (i + 1))) (sym q)
-      (least-same (λ w. IsWrongBody c all i w ⊎ IsWrongWithin c all i w) (IsWrongBody c all (i + 1)) (first_of o here)
+      subst (IsLeast (IsNameFaultWithin c all (i + 1))) (sym q)
+      (least-same (λ w. IsNameFaultWithin c all i w ⊎ IsWrongWithin c all i w) (IsNameFaultWithin c all (i + 1)) (first_of o here)
       (λ w d. elim d [
         | inl p ↦ record { place = p.place; within = (let m = p.within in omega (arith, m)); is = p.is }
         | inr p ↦ record { place = i; within = omega arith; is = p }
@@ -99,7 +99,7 @@ module _ (c : Config) (all : List (Vec LocalKept Global)) where
         | inr (inl s) ↦ inl (record { place = p.place; within = s; is = p.is })
         | inr (inr s) ↦ absurd (let m = p.within in omega (arith, m, s))
       ])
-      (least-first_of (IsWrongBody c all i) (IsWrongWithin c all i) o here h k))
+      (least-first_of (IsNameFaultWithin c all i) (IsWrongWithin c all i) o here h k))
 
-  pub bodies-all : (i n : ℕ) (o : Option Wrong) → i ≡ n → IsLeast (IsWrongBody c all i) o → IsLeast (IsWrongBody c all n) o
-  bodies-all i n o e h = subst (λ x. IsLeast (IsWrongBody c all x) o) e h
+  pub bodies-all : (i n : ℕ) (o : Option TokenFault) → i ≡ n → IsLeast (IsNameFaultWithin c all i) o → IsLeast (IsNameFaultWithin c all n) o
+  bodies-all i n o e h = subst (λ x. IsLeast (IsNameFaultWithin c all x) o) e h

@@ -8,16 +8,16 @@ use Rattle.std.proofs.lemmas.List.{take-map, map-append}
 use Rattle.std.proofs.lemmas.List.Elements.{filter_map-append}
 use Rattle.click_text.specs.declared.syntax.Element.{Element}
 use Rattle.click_expand.specs.Elements.{Placed, Role, pseudo, refers, makes, role, local, Local, locals_from}
-use Rattle.click_expand.specs.Tables.{local_of}
-use Rattle.click_expand.specs.Located.{string_by, string_made, strings_made, strings_of}
-use Rattle.click_expand.specs.Wrongs.{names_in}
-use Rattle.click_expand.specs.declared.members.Local.{Local as LocalKept}
+use Rattle.click_expand.specs.kept.Tables.{local_of}
+use Rattle.click_expand.specs.kept.ScopeElements.{string_where_made, string_made, strings_made, strings_of}
+use Rattle.click_expand.specs.kept.FirstFault.{local_names}
+use Rattle.click_expand.specs.declared.scope_elements.Local.{Local as LocalKept}
 use Rattle.click_expand.proofs.Making.{locals-made, locals-other, locals-end}
 
 some_same : {X : Type 0} {x y : X} → Some x ≡ Some y → x ≡ y
 some_same h = cc h
 
--- a list's element behind others
+-- a list's element after others
 pub get-behind : {X : Type 0} (xs : List X) (x : X) (ys : List X) → slice_get (xs ++ x ∷ ys) (length xs) ≡ Some x
 get-behind [] x ys = refl
 get-behind (y ∷ xs) x ys = get-behind xs x ys
@@ -89,7 +89,7 @@ module _ (text : List ℕ) (in_body : Bool) (declared : List (List ℕ)) where
   made-at [] n i l h = let q : None ≡ Some l = ap (λ x. slice_get x i) (sym (locals-end text in_body declared n)) ∙ h in absurd (cc q)
   made-at (p ∷ ps) n i l h = made-cons n i l p ps (λ m j k. made-at ps m j l k) (role text in_body declared p.element) refl h
 
-  -- What an element as written makes, behind those before it.
+  -- What an element as written makes, after those before it.
   record Split (n : ℕ) (front : List Placed) (p : Placed) (back : List Placed) : Type 0 where
     behind : List Local
     is : made_from n (front ++ p ∷ back) ≡ made_from n front ++ local text (n + length (made_from n front)) p ∷ behind
@@ -136,13 +136,13 @@ module _ (text : List ℕ) (in_body : Bool) (declared : List (List ℕ)) where
       ((m : ℕ) → length (strings_made text in_body declared (elements_in ps)) ≡ length (made_from m ps)) →
       length (strings_made text in_body declared (elements_in (p ∷ ps))) ≡ length (made_from n (p ∷ ps))
   count-by n p ps makes e f =
-      ap (λ r. length (cons_option (string_by r p.element.text) (strings_made text in_body declared (elements_in ps)))) e ∙ ap suc (f (n + 1))
+      ap (λ r. length (cons_option (string_where_made r p.element.text) (strings_made text in_body declared (elements_in ps)))) e ∙ ap suc (f (n + 1))
       ∙ ap length (sym (locals-made text in_body declared n p ps e))
   count-by n p ps refers e f =
-      ap (λ r. length (cons_option (string_by r p.element.text) (strings_made text in_body declared (elements_in ps)))) e ∙ f n
+      ap (λ r. length (cons_option (string_where_made r p.element.text) (strings_made text in_body declared (elements_in ps)))) e ∙ f n
       ∙ ap length (sym (locals-other text in_body declared n p ps refers e (λ x. cc x)))
   count-by n p ps pseudo e f =
-      ap (λ r. length (cons_option (string_by r p.element.text) (strings_made text in_body declared (elements_in ps)))) e ∙ f n
+      ap (λ r. length (cons_option (string_where_made r p.element.text) (strings_made text in_body declared (elements_in ps)))) e ∙ f n
       ∙ ap length (sym (locals-other text in_body declared n p ps pseudo e (λ x. cc x)))
 
   -- as many strings as elements
@@ -156,7 +156,7 @@ module _ (text : List ℕ) (in_body : Bool) (declared : List (List ℕ)) where
   strings-split front p back e =
       ap (strings_made text in_body declared) (map-append (λ (x : Placed). x.element) front (p ∷ back))
       ∙ filter_map-append (string_made text in_body declared) (elements_in front) (elements_in (p ∷ back))
-      ∙ ap (λ r. strings_made text in_body declared (elements_in front) ++ cons_option (string_by r p.element.text) (strings_made text in_body declared (elements_in back))) e
+      ∙ ap (λ r. strings_made text in_body declared (elements_in front) ++ cons_option (string_where_made r p.element.text) (strings_made text in_body declared (elements_in back))) e
 
   -- The element that one as written makes, as it is kept.
   pub record IsKept (ls : List LocalKept) (front : List Placed) (p : Placed) : Type 0 where
@@ -164,7 +164,7 @@ module _ (text : List ℕ) (in_body : Bool) (declared : List (List ℕ)) where
     pub there : slice_get ls (length (made_from 0 front)) ≡ Some element
     pub made : local_of text element ≡ local text (length (made_from 0 front)) p
     pub string : element.text ≡ p.element.text
-    pub names : names_in (take (length (made_from 0 front)) ls) ≡ map (λ (l : Local). l.name) (made_from 0 front)
+    pub names : local_names (take (length (made_from 0 front)) ls) ≡ map (λ (l : Local). l.name) (made_from 0 front)
 
   pub kept-at : (ls : List LocalKept) (ps front : List Placed) (p : Placed) (back : List Placed) → map (local_of text) ls ≡ made_from 0 ps →
       strings_of ls ≡ strings_made text in_body declared (elements_in ps) → ps ≡ front ++ p ∷ back → role text in_body declared p.element ≡ makes → IsKept ls front p

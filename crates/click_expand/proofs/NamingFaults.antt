@@ -16,20 +16,20 @@ use Rattle.click_text.specs.declared.syntax.Config.{Config}
 use Rattle.click_text.specs.Spans.{bytes_at}
 use Rattle.click_expand.specs.Scopes.{Scope, whole, inside, is_body, statements_of, formals_of, Stands}
 use Rattle.click_expand.specs.Elements.{Placed, makes, has_name, is_port_name, made_name, Local, locals_from, element_meaning}
-use Rattle.click_expand.specs.Faults.{IsWrong, number_of, scope_placed, scope_declared, scope_locals, role_in, first_token, unknown_name, unknown_class, unknown_declared, unknown_original, named_twice, port_declared, formal_twice}
-use Rattle.click_expand.specs.Tables.{meaning_by, local_of}
-use Rattle.click_expand.specs.Located.{strings_of, scope_strings}
+use Rattle.click_expand.specs.Faults.{IsWrong, fault_number, scope_placed, scope_declared, scope_locals, role_in, first_token, unknown_name, unknown_class, unknown_declared, unknown_original, named_twice, port_declared, formal_twice}
+use Rattle.click_expand.specs.kept.Tables.{meaning_by, local_of}
+use Rattle.click_expand.specs.kept.ScopeElements.{strings_of, scope_strings}
 use Rattle.click_expand.specs.Classes.{meaning}
-use Rattle.click_expand.specs.Scoped.{AreSynonyms}
-use Rattle.click_expand.specs.Misnamed.{original_at, IsWrongEntry}
-use Rattle.click_expand.specs.Wrongs.{wrong, wrong_if, AtMost, IsLeast, IsMisnamed, unknown_at, port_at, twice_at, first_in, first_of, local_at, names_in, IsWrongLocal, formals_in, IsWrongFormal}
-use Rattle.click_expand.specs.declared.members.Local.{Local as LocalKept}
+use Rattle.click_expand.specs.kept.Scoped.{AreSynonyms}
+use Rattle.click_expand.specs.kept.NameFaults.{original_at, IsWrongEntry}
+use Rattle.click_expand.specs.kept.FirstFault.{token_fault, token_fault_if, AtMost, IsLeast, IsNameFault, unknown_at, port_at, twice_at, first_in, first_of, local_at, local_names, IsWrongLocal, formals_in, IsWrongFormal}
+use Rattle.click_expand.specs.declared.scope_elements.Local.{Local as LocalKept}
 use Rattle.click_expand.specs.declared.classes.ClassOf.{ClassOf}
-use Rattle.click_expand.specs.declared.classes.Entry.{Entry}
+use Rattle.click_expand.specs.declared.classes.ClassEntry.{ClassEntry}
 use Rattle.click_expand.specs.declared.classes.ClassOf.TheVariants as meant
 use Rattle.click_expand.specs.declared.fault.FaultKind.{FaultKind}
 use Rattle.click_expand.specs.declared.fault.FaultKind.TheVariants as kind
-use Rattle.click_expand.specs.declared.wrong.Wrong.{Wrong}
+use Rattle.click_expand.specs.declared.first_fault.TokenFault.{TokenFault}
 use Rattle.click_expand.proofs.Least.{least-first_of, least-alone}
 use Rattle.click_expand.proofs.Misnaming.{least-found, least-is}
 use Rattle.click_expand.proofs.Naming.{made-at, IsKept, kept-at, get-behind}
@@ -42,7 +42,7 @@ class-none text None h = refl
 class-none text (Some (meant.Primitive s)) h = absurd (cc h)
 class-none text (Some (meant.Compound b)) h = absurd (cc h)
 
-wrong_if-is : (b : Bool) (k : FaultKind) (s : Span) (w : Wrong) → wrong_if b k s ≡ Some w → (b ≡ true) × (wrong k s ≡ w)
+wrong_if-is : (b : Bool) (k : FaultKind) (s : Span) (w : TokenFault) → token_fault_if b k s ≡ Some w → (b ≡ true) × (token_fault k s ≡ w)
 wrong_if-is true k s w h = (refl, some_same h)
 wrong_if-is false k s w h = absurd (cc h)
 
@@ -51,11 +51,11 @@ token-same c (head.Word s) = refl
 token-same c (head.Declared n d) = refl
 token-same c (head.Compound b) = refl
 
-misnamed : (c : Config) (k : FaultKind) (s : Span) (w : Wrong) → wrong k s ≡ w → number_of k ≤ 13 → IsWrong c k s → IsMisnamed c w
-misnamed c k s w e l h = subst (IsMisnamed c) e (record { wrong = h; kind = l })
+name_fault : (c : Config) (k : FaultKind) (s : Span) (w : TokenFault) → token_fault k s ≡ w → fault_number k ≤ 13 → IsWrong c k s → IsNameFault c w
+name_fault c k s w e l h = subst (IsNameFault c) e (record { wrong = h; kind = l })
 
 -- what is wrong with an element
-abbrev pub WrongHere : Config → Bool → Bool → LocalKept → Wrong → Type 0
+abbrev pub WrongHere : Config → Bool → Bool → LocalKept → TokenFault → Type 0
 WrongHere c in_body taken l w =
     ((unknown_at l.head l.text l.class ≡ Some w) ⊎ (twice_at taken l.head l.class (first_in c.bodies l.head) ≡ Some w)) ⊎ (port_at c.text in_body l.head ≡ Some w)
 
@@ -65,20 +65,20 @@ here-least c in_body taken l =
     least-first_of (λ w. (u ≡ Some w) ⊎ (t ≡ Some w)) (λ w. p ≡ Some w) (first_of u t) p
     (least-first_of (λ w. u ≡ Some w) (λ w. t ≡ Some w) u t (least-alone u) (least-alone t)) (least-alone p)
 
-port-sound : (c : Config) (s : Scope) (v : List Statement) (a : List Scope) (front : List Placed) (p : Placed) (back : List Placed) (h : Head) (w : Wrong) → Stands c s v a →
-    scope_placed c s v ≡ front ++ p ∷ back → p.element.head ≡ h → port_at c.text (is_body s) h ≡ Some w → IsMisnamed c w
+port-sound : (c : Config) (s : Scope) (v : List Statement) (a : List Scope) (front : List Placed) (p : Placed) (back : List Placed) (h : Head) (w : TokenFault) → Stands c s v a →
+    scope_placed c s v ≡ front ++ p ∷ back → p.element.head ≡ h → port_at c.text (is_body s) h ≡ Some w → IsNameFault c w
 port-sound c s v a front p back (head.Word x) w st e eh q = absurd (cc q)
 port-sound c s v a front p back (head.Compound b) w st e eh q = absurd (cc q)
 port-sound c whole v a front p back (head.Declared n d) w st e eh q = absurd (cc q)
 port-sound c (inside b) v a front p back (head.Declared n d) w st e eh q =
     let r = wrong_if-is (is_port_name (bytes_at c.text n)) kind.DeclaredTwice n w q in
-    misnamed c kind.DeclaredTwice n w r.1 (omega arith) (port_declared b v a front back p n d st e eh r.0)
+    name_fault c kind.DeclaredTwice n w r.1 (omega arith) (port_declared b v a front back p n d st e eh r.0)
 
 twice-found : (taken : Bool) (h : Head) (m : Option ClassOf) (s : Span) → taken ≡ true → ((n : Span) × (d : Class) × (h ≡ head.Declared n d)) ⊎ (m ≡ None → ⊥) →
-    twice_at taken h m s ≡ Some (wrong kind.DeclaredTwice s)
-twice-found taken (head.Declared n d) m s e r = ap (λ b. wrong_if b kind.DeclaredTwice s) e
-twice-found taken (head.Word x) (Some m) s e r = ap (λ b. wrong_if b kind.DeclaredTwice s) e
-twice-found taken (head.Compound b) (Some m) s e r = ap (λ b. wrong_if b kind.DeclaredTwice s) e
+    twice_at taken h m s ≡ Some (token_fault kind.DeclaredTwice s)
+twice-found taken (head.Declared n d) m s e r = ap (λ b. token_fault_if b kind.DeclaredTwice s) e
+twice-found taken (head.Word x) (Some m) s e r = ap (λ b. token_fault_if b kind.DeclaredTwice s) e
+twice-found taken (head.Compound b) (Some m) s e r = ap (λ b. token_fault_if b kind.DeclaredTwice s) e
 twice-found taken (head.Word x) None s e (inl (n, d, q)) = absurd (cc q)
 twice-found taken (head.Word x) None s e (inr f) = absurd (f refl)
 twice-found taken (head.Compound b) None s e (inl (n, d, q)) = absurd (cc q)
@@ -96,30 +96,30 @@ module _ (c : Config) (s : Scope) (v : List Statement) (a : List Scope) (st : St
   is_taken front p = has_name (made_name c.text (length (before_it front)) p.element.head) (map (λ (l : Local). l.name) (before_it front))
 
   module _ (front : List Placed) (p : Placed) (back : List Placed) (e : scope_placed c s v ≡ front ++ p ∷ back) (r : role_in c s v p ≡ makes) where
-    unknown-sound : (h : Head) (t : Option Span) (m : Option ClassOf) (w : Wrong) → p.element.head ≡ h → p.element.text ≡ t → element_meaning c.text p ≡ meaning_by c.text m →
-        unknown_at h t m ≡ Some w → IsMisnamed c w
+    unknown-sound : (h : Head) (t : Option Span) (m : Option ClassOf) (w : TokenFault) → p.element.head ≡ h → p.element.text ≡ t → element_meaning c.text p ≡ meaning_by c.text m →
+        unknown_at h t m ≡ Some w → IsNameFault c w
     unknown-sound h t (Some m) w eh et em q = absurd (cc q)
     unknown-sound (head.Word x) None None w eh et em q =
-        misnamed c kind.UnknownName x w (some_same q) (omega arith) (unknown_name s v a front back p x st e r eh et em)
+        name_fault c kind.UnknownName x w (some_same q) (omega arith) (unknown_name s v a front back p x st e r eh et em)
     unknown-sound (head.Word x) (Some y) None w eh et em q =
-        misnamed c kind.UnknownClass x w (some_same q) (omega arith) (unknown_class s v a front back p x y st e eh et em)
+        name_fault c kind.UnknownClass x w (some_same q) (omega arith) (unknown_class s v a front back p x y st e eh et em)
     unknown-sound (head.Declared n (class.Named x)) t None w eh et em q =
-        misnamed c kind.UnknownClass x w (some_same q) (omega arith) (unknown_declared s v a front back p n x st e eh em)
+        name_fault c kind.UnknownClass x w (some_same q) (omega arith) (unknown_declared s v a front back p n x st e eh em)
     unknown-sound (head.Declared n (class.Body b)) t None w eh et em q = absurd (cc q)
     unknown-sound (head.Compound b) t None w eh et em q = absurd (cc q)
 
-    twice-named : (h : Head) (w : Wrong) → p.element.head ≡ h → wrong_if (is_taken front p) kind.DeclaredTwice (first_in c.bodies h) ≡ Some w →
-        ((n : Span) × (d : Class) × (p.element.head ≡ head.Declared n d)) ⊎ (element_meaning c.text p ≢ None) → IsMisnamed c w
+    twice-named : (h : Head) (w : TokenFault) → p.element.head ≡ h → token_fault_if (is_taken front p) kind.DeclaredTwice (first_in c.bodies h) ≡ Some w →
+        ((n : Span) × (d : Class) × (p.element.head ≡ head.Declared n d)) ⊎ (element_meaning c.text p ≢ None) → IsNameFault c w
     twice-named h w eh q why =
         let t = wrong_if-is (is_taken front p) kind.DeclaredTwice (first_in c.bodies h) w q in
-        misnamed c kind.DeclaredTwice (first_in c.bodies h) w t.1 (omega arith)
+        name_fault c kind.DeclaredTwice (first_in c.bodies h) w t.1 (omega arith)
         (subst (IsWrong c kind.DeclaredTwice) (ap (first_token c) eh ∙ token-same c h) (named_twice s v a front back p st e r why t.0))
 
     meant-here : (m : ClassOf) → element_meaning c.text p ≡ meaning_by c.text (Some m) → element_meaning c.text p ≢ None
     meant-here m em q = let k = class-none c.text (Some m) (sym em ∙ q) in cc k
 
-    twice-sound : (h : Head) (m : Option ClassOf) (w : Wrong) → p.element.head ≡ h → element_meaning c.text p ≡ meaning_by c.text m →
-        twice_at (is_taken front p) h m (first_in c.bodies h) ≡ Some w → IsMisnamed c w
+    twice-sound : (h : Head) (m : Option ClassOf) (w : TokenFault) → p.element.head ≡ h → element_meaning c.text p ≡ meaning_by c.text m →
+        twice_at (is_taken front p) h m (first_in c.bodies h) ≡ Some w → IsNameFault c w
     twice-sound (head.Word x) None w eh em q = absurd (cc q)
     twice-sound (head.Word x) (Some m) w eh em q = twice-named (head.Word x) w eh q (inr (meant-here m em))
     twice-sound (head.Declared n d) m w eh em q = twice-named (head.Declared n d) w eh q (inl (n, d, eh))
@@ -135,21 +135,21 @@ module _ (c : Config) (s : Scope) (v : List Statement) (a : List Scope) (st : St
       meaning-kept = ap (λ (l : Local). l.meaning) k.made
 
       abbrev taken_kept : Bool
-      taken_kept = has_name k.element.name.items (names_in (take (length (before_it front)) ls))
+      taken_kept = has_name k.element.name.items (local_names (take (length (before_it front)) ls))
 
       taken-kept : taken_kept ≡ is_taken front p
       taken-kept =
-          ap (λ n. has_name n (names_in (take (length (before_it front)) ls))) (ap (λ (l : Local). l.name) k.made)
+          ap (λ n. has_name n (local_names (take (length (before_it front)) ls))) (ap (λ (l : Local). l.name) k.made)
           ∙ ap (has_name (made_name c.text (length (before_it front)) p.element.head)) k.names
 
-      here-sound : (w : Wrong) → WrongHere c (is_body s) taken_kept k.element w → IsMisnamed c w
+      here-sound : (w : TokenFault) → WrongHere c (is_body s) taken_kept k.element w → IsNameFault c w
       here-sound w (inl (inl q)) = unknown-sound k.element.head k.element.text k.element.class w (sym head-kept) (sym k.string) (sym meaning-kept) q
       here-sound w (inl (inr q)) =
           twice-sound k.element.head k.element.class w (sym head-kept) (sym meaning-kept)
           (ap (λ b. twice_at b k.element.head k.element.class (first_in c.bodies k.element.head)) (sym taken-kept) ∙ q)
       here-sound w (inr q) = port-sound c s v a front p back k.element.head w st e (sym head-kept) q
 
-      pub unknown-here : (h : Head) (t : Option Span) (w : Wrong) → p.element.head ≡ h → p.element.text ≡ t → element_meaning c.text p ≡ None → unknown_at h t None ≡ Some w →
+      pub unknown-here : (h : Head) (t : Option Span) (w : TokenFault) → p.element.head ≡ h → p.element.text ≡ t → element_meaning c.text p ≡ None → unknown_at h t None ≡ Some w →
           WrongHere c (is_body s) taken_kept k.element w
       unknown-here h t w eh et em q =
           inl (inl (ap (λ x. unknown_at x k.element.text k.element.class) (head-kept ∙ eh) ∙ ap (λ x. unknown_at h x k.element.class) (k.string ∙ et)
@@ -161,16 +161,16 @@ module _ (c : Config) (s : Scope) (v : List Statement) (a : List Scope) (st : St
       twice-why (inr f) = inr (λ q. f (sym meaning-kept ∙ ap (meaning_by c.text) q))
 
       pub twice-here : ((n : Span) × (d : Class) × (p.element.head ≡ head.Declared n d)) ⊎ (element_meaning c.text p ≢ None) → is_taken front p ≡ true →
-          WrongHere c (is_body s) taken_kept k.element (wrong kind.DeclaredTwice (first_token c p.element.head))
+          WrongHere c (is_body s) taken_kept k.element (token_fault kind.DeclaredTwice (first_token c p.element.head))
       twice-here why t =
           inl (inr (twice-found taken_kept k.element.head k.element.class (first_in c.bodies k.element.head) (taken-kept ∙ t) (twice-why why)
-          ∙ ap (λ x. Some (wrong kind.DeclaredTwice x)) (sym (token-same c k.element.head) ∙ ap (first_token c) head-kept)))
+          ∙ ap (λ x. Some (token_fault kind.DeclaredTwice x)) (sym (token-same c k.element.head) ∙ ap (first_token c) head-kept)))
 
       pub port-here : (n : Span) (d : Class) → p.element.head ≡ head.Declared n d → is_body s ≡ true → is_port_name (bytes_at c.text n) ≡ true →
-          WrongHere c (is_body s) taken_kept k.element (wrong kind.DeclaredTwice n)
+          WrongHere c (is_body s) taken_kept k.element (token_fault kind.DeclaredTwice n)
       port-here n d eh b q =
-          inr (ap (port_at c.text (is_body s)) (head-kept ∙ eh) ∙ ap (λ x. wrong_if (x && is_port_name (bytes_at c.text n)) kind.DeclaredTwice n) b
-          ∙ ap (λ x. wrong_if x kind.DeclaredTwice n) q)
+          inr (ap (port_at c.text (is_body s)) (head-kept ∙ eh) ∙ ap (λ x. token_fault_if (x && is_port_name (bytes_at c.text n)) kind.DeclaredTwice n) b
+          ∙ ap (λ x. token_fault_if x kind.DeclaredTwice n) q)
 
   -- the elements as they are kept
   module _ (ls : List LocalKept) (h : map (local_of c.text) ls ≡ scope_locals c s v) (g : strings_of ls ≡ scope_strings c s v) where
@@ -203,22 +203,22 @@ module _ (c : Config) (s : Scope) (v : List Statement) (a : List Scope) (st : St
         }
 
     -- what is wrong among the elements as they are kept is wrong
-    pub local-sound : (w : Wrong) → IsWrongLocal c.text c.bodies (is_body s) ls (length ls) w → IsMisnamed c w
+    pub local-sound : (w : TokenFault) → IsWrongLocal c.text c.bodies (is_body s) ls (length ls) w → IsNameFault c w
     local-sound w q =
         let m = both q.place q.element q.there in let l = m.kept.element in let i = length (before_it m.front) in
-        let t = has_name l.name.items (names_in (take i ls)) in
+        let t = has_name l.name.items (local_names (take i ls)) in
         here-sound m.front m.placed m.back m.splits m.makes_one ls m.kept w
         (least-is (WrongHere c (is_body s) t l) (local_at c.text c.bodies (is_body s) t l) w (here-least c (is_body s) t l)
-        (ap (λ n. local_at c.text c.bodies (is_body s) (has_name l.name.items (names_in (take n ls))) l) m.count
-        ∙ ap (λ (x : LocalKept). local_at c.text c.bodies (is_body s) (has_name x.name.items (names_in (take q.place ls))) x) m.same ∙ q.is))
+        (ap (λ n. local_at c.text c.bodies (is_body s) (has_name l.name.items (local_names (take n ls))) l) m.count
+        ∙ ap (λ (x : LocalKept). local_at c.text c.bodies (is_body s) (has_name x.name.items (local_names (take q.place ls))) x) m.same ∙ q.is))
 
     -- what is wrong with one as written stands no earlier than something wrong among those that are kept
-    pub local-found : (front : List Placed) (p : Placed) (back : List Placed) → scope_placed c s v ≡ front ++ p ∷ back → role_in c s v p ≡ makes → (w : Wrong) →
-        ((k : IsKept c.text (is_body s) declared_here ls front p) → WrongHere c (is_body s) (has_name k.element.name.items (names_in (take (length (before_it front)) ls))) k.element w) →
-        (x : Wrong) × IsWrongLocal c.text c.bodies (is_body s) ls (length ls) x × AtMost x w
+    pub local-found : (front : List Placed) (p : Placed) (back : List Placed) → scope_placed c s v ≡ front ++ p ∷ back → role_in c s v p ≡ makes → (w : TokenFault) →
+        ((k : IsKept c.text (is_body s) declared_here ls front p) → WrongHere c (is_body s) (has_name k.element.name.items (local_names (take (length (before_it front)) ls))) k.element w) →
+        (x : TokenFault) × IsWrongLocal c.text c.bodies (is_body s) ls (length ls) x × AtMost x w
     local-found front p back e r w f =
         let k = kept-at c.text (is_body s) declared_here ls (scope_placed c s v) front p back h g e r in
-        let i = length (before_it front) in let l = k.element in let t = has_name l.name.items (names_in (take i ls)) in
+        let i = length (before_it front) in let l = k.element in let t = has_name l.name.items (local_names (take i ls)) in
         let q = least-found (WrongHere c (is_body s) t l) (local_at c.text c.bodies (is_body s) t l) w (here-least c (is_body s) t l) (f k) in
         (q.0, record { place = i; element = l; within = slice_get_within ls i l k.there; there = k.there; is = q.1 }, q.2)
 
@@ -228,40 +228,40 @@ split-there xs i x h =
     sym (take-append-drop i xs) ∙ ap (λ y. take i xs ++ y) (drop_more xs i x l) ∙ ap (λ y. take i xs ++ y ∷ drop (i + 1) xs) (get_or_from_slice_get xs i x x h)
 
 module _ (c : Config) (b : ℕ) (v : List Statement) (a : List Scope) (st : Stands c (inside b) v a) where
-  pub formal-sound : (w : Wrong) → IsWrongFormal c.text (formals_of c (inside b)) (length (formals_of c (inside b))) w → IsMisnamed c w
+  pub formal-sound : (w : TokenFault) → IsWrongFormal c.text (formals_of c (inside b)) (length (formals_of c (inside b))) w → IsNameFault c w
   formal-sound w q =
       let fs = formals_of c (inside b) in let f = q.formal in let i = q.place in
       let r = wrong_if-is (has_name (bytes_at c.text f) (formals_in c.text (take i fs))) kind.DeclaredTwice f w q.is in
-      misnamed c kind.DeclaredTwice f w r.1 (omega arith) (formal_twice b v a (take i fs) (drop (i + 1) fs) f st (split-there fs i f q.there) r.0)
+      name_fault c kind.DeclaredTwice f w r.1 (omega arith) (formal_twice b v a (take i fs) (drop (i + 1) fs) f st (split-there fs i f q.there) r.0)
 
   pub formal-found : (front back : List Span) (f : Span) → formals_of c (inside b) ≡ front ++ f ∷ back → has_name (bytes_at c.text f) (map (bytes_at c.text) front) ≡ true →
-      IsWrongFormal c.text (formals_of c (inside b)) (length (formals_of c (inside b))) (wrong kind.DeclaredTwice f)
+      IsWrongFormal c.text (formals_of c (inside b)) (length (formals_of c (inside b))) (token_fault kind.DeclaredTwice f)
   formal-found front back f e t = record {
     place = length front;
     formal = f;
     within = (let n = ap length e ∙ length-append front (f ∷ back) in omega (arith, n));
     there = ap (λ x. slice_get x (length front)) e ∙ get-behind front f back;
-    is = ap (λ x. wrong_if x kind.DeclaredTwice f)
+    is = ap (λ x. token_fault_if x kind.DeclaredTwice f)
         (ap (λ x. has_name (bytes_at c.text f) (formals_in c.text (take (length front) x))) e
         ∙ ap (λ x. has_name (bytes_at c.text f) (formals_in c.text x)) (take-append_seam front (f ∷ back)) ∙ t);
   }
 
 -- What is known of the word of a synonym that names no class.
-original-is : (o : Option Span) (m : Option ClassOf) (w : Wrong) → original_at o m ≡ Some w → (x : Span) × (o ≡ Some x) × (m ≡ None) × (wrong kind.UnknownClass x ≡ w)
+original-is : (o : Option Span) (m : Option ClassOf) (w : TokenFault) → original_at o m ≡ Some w → (x : Span) × (o ≡ Some x) × (m ≡ None) × (token_fault kind.UnknownClass x ≡ w)
 original-is None m w h = absurd (cc h)
 original-is (Some x) None w h = (x, refl, refl, some_same h)
 original-is (Some x) (Some m) w h = absurd (cc h)
 
-module _ (c : Config) (entries : List Entry) (ys : AreSynonyms c entries) where
-  pub entry-sound : (w : Wrong) → IsWrongEntry entries (length entries) w → IsMisnamed c w
+module _ (c : Config) (entries : List ClassEntry) (ys : AreSynonyms c entries) where
+  pub entry-sound : (w : TokenFault) → IsWrongEntry entries (length entries) w → IsNameFault c w
   entry-sound w q =
       let r = original-is q.entry.original q.entry.class w q.is in
       let y = ys.sound q.place q.entry r.0 q.there r.1 in
-      misnamed c kind.UnknownClass r.0 w r.3 (omega arith)
+      name_fault c kind.UnknownClass r.0 w r.3 (omega arith)
       (unknown_original y.scope y.visible y.around y.before y.after y.name r.0 y.stands y.splits (sym y.meaning ∙ ap (meaning_by c.text) r.2))
 
   pub entry-found : (s : Scope) (v : List Statement) (a : List Scope) (before after : List Statement) (n w : Span) → Stands c s v a → statements_of c s ≡ before ++ statement.Synonym n w ∷ after →
-      meaning c.text (reverse before ++ v) (bytes_at c.text w) ≡ None → IsWrongEntry entries (length entries) (wrong kind.UnknownClass w)
+      meaning c.text (reverse before ++ v) (bytes_at c.text w) ≡ None → IsWrongEntry entries (length entries) (token_fault kind.UnknownClass w)
   entry-found s v a before after n w st e m =
       let y = ys.complete s v a before after n w st e in
       record {

@@ -1,4 +1,4 @@
--- Each element of a use is a flat element or the use of its body.
+-- Each element of an instance is a flat element or the instance of its body.
 use Rattle.std.proofs.Common.{◌≡◌, ℕ, zero, suc, List, [], ◌∷◌, map, Option, Some, None, Vec, refl, sym, ap, ◌∙◌, subst, arith}
 use Rattle.std.specs.Global.{Global}
 use Rattle.std.specs.List.{slice_get}
@@ -7,18 +7,18 @@ use Rattle.click_text.specs.declared.syntax.Config.{Config}
 use Rattle.click_expand.specs.Classes.{primitive, compound}
 use Rattle.click_expand.specs.Elements.{Local}
 use Rattle.click_expand.specs.Instances.{Leaf}
-use Rattle.click_expand.specs.Located.{AreAllLocals}
-use Rattle.click_expand.specs.Scoped.{place_of}
-use Rattle.click_expand.specs.Tables.{meaning_by, local_of}
-use Rattle.click_expand.specs.Through.{class_body, local_body, scope_body, body_at, AreNested}
-use Rattle.click_expand.specs.Uses.{Used, locals_at, IsAround, IsPart, IsUse, AreUses}
+use Rattle.click_expand.specs.kept.ScopeElements.{AreAllLocals}
+use Rattle.click_expand.specs.kept.Scoped.{table_place}
+use Rattle.click_expand.specs.kept.Tables.{meaning_by, local_of}
+use Rattle.click_expand.specs.kept.Passthrough.{class_body, local_body, scope_body, body_at, AreNested}
+use Rattle.click_expand.specs.kept.KnownInstances.{KnownInstance, locals_at, IsAround, IsPart, IsInstance, AreInstances}
 use Rattle.click_expand.specs.declared.classes.ClassOf.{ClassOf}
 use Rattle.click_expand.specs.declared.classes.ClassOf.TheVariants as class
-use Rattle.click_expand.specs.declared.members.Local.{Local as LocalKept}
-use Rattle.click_expand.specs.declared.uses.Part.{Part}
-use Rattle.click_expand.specs.declared.uses.Part.TheVariants as part
-use Rattle.click_expand.specs.declared.uses.Place.{Place}
-use Rattle.click_expand.specs.declared.uses.Use.{Use}
+use Rattle.click_expand.specs.declared.scope_elements.Local.{Local as LocalKept}
+use Rattle.click_expand.specs.declared.instances.InstancePart.{InstancePart}
+use Rattle.click_expand.specs.declared.instances.InstancePart.TheVariants as part
+use Rattle.click_expand.specs.declared.instances.Place.{Place}
+use Rattle.click_expand.specs.declared.instances.Instance.{Instance}
 use Rattle.click_expand.proofs.Calling.{unmapped}
 use Rattle.click_expand.proofs.Chains.{some_same, at-some}
 
@@ -33,13 +33,13 @@ primitive-body text None w h = absurd (cc h)
 primitive-body text (Some (class.Primitive s)) w h = refl
 primitive-body text (Some (class.Compound d)) w h = absurd (cc h)
 
-module _ (c : Config) (locals : List (Vec LocalKept Global)) (all : AreAllLocals c locals) (uses : List Use) (places : List Place) (known : List Used) (leaves : List Leaf) (are : AreUses c uses places known leaves) where
-  -- an element of a use, in the words of the definitions, stands for what the kept one does
-  record IsBodyAt (x : Used) (s i : ℕ) (l : Local) : Type 0 where
+module _ (c : Config) (locals : List (Vec LocalKept Global)) (all : AreAllLocals c locals) (instances : List Instance) (places : List Place) (known : List KnownInstance) (leaves : List Leaf) (are : AreInstances c instances places known leaves) where
+  -- an element of an instance, in the words of the definitions, stands for what the kept one does
+  record IsBodyAt (x : KnownInstance) (s i : ℕ) (l : Local) : Type 0 where
     pub of_compound : (b : ℕ) → l.meaning ≡ Some (compound b) → body_at locals s i ≡ Some b
     pub of_primitive : (w : List ℕ) → l.meaning ≡ Some (primitive w) → body_at locals s i ≡ None
 
-  body-of : (u : ℕ) (k : Use) (x : Used) → IsUse c uses places known u k x → (i : ℕ) (l : Local) → slice_get (locals_at c x) i ≡ Some l → IsBodyAt x k.scope i l
+  body-of : (u : ℕ) (k : Instance) (x : KnownInstance) → IsInstance c instances places known u k x → (i : ℕ) (l : Local) → slice_get (locals_at c x) i ≡ Some l → IsBodyAt x k.scope i l
   body-of u k x h i l there =
       let ls = all x.scope x.visible x.around h.stands in
       let r = unmapped c.text ls.0.items i l (ap (λ zs. slice_get zs i) ls.2 ∙ there) in
@@ -51,28 +51,28 @@ module _ (c : Config) (locals : List (Vec LocalKept Global)) (all : AreAllLocals
       }
 
   -- the element of a part
-  record HasElement (u i : ℕ) (k : Use) (x : Used) (p : Part) : Type 0 where
+  record HasElement (u i : ℕ) (k : Instance) (x : KnownInstance) (p : InstancePart) : Type 0 where
     pub local : Local
     pub there : slice_get (locals_at c x) i ≡ Some local
-    pub is : IsPart uses places u i local p
+    pub is : IsPart instances places u i local p
 
-  element-of : (u : ℕ) (k : Use) (x : Used) → IsUse c uses places known u k x → (i : ℕ) (p : Part) → slice_get k.parts i ≡ Some p → HasElement u i k x p
+  element-of : (u : ℕ) (k : Instance) (x : KnownInstance) → IsInstance c instances places known u k x → (i : ℕ) (p : InstancePart) → slice_get k.parts i ≡ Some p → HasElement u i k x p
   element-of u k x h i p e =
       let n = slice_get_within k.parts i p e in
       let l = at-some (locals_at c x) i (omega (arith, n, h.parts.as_many)) in
       let r = h.parts.each i l.0 l.1 in
       let here : r.0 ≡ p = some_same (sym r.1 ∙ e) in
-      record { local = l.0; there = l.1; is = subst (IsPart uses places u i l.0) here r.2 }
+      record { local = l.0; there = l.1; is = subst (IsPart instances places u i l.0) here r.2 }
 
-  leaf-body : (u i l : ℕ) (k : Use) → slice_get uses u ≡ Some k → slice_get k.parts i ≡ Some (part.Leaf l) → body_at locals k.scope i ≡ None
+  leaf-body : (u i l : ℕ) (k : Instance) → slice_get instances u ≡ Some k → slice_get k.parts i ≡ Some (part.Leaf l) → body_at locals k.scope i ≡ None
   leaf-body u i l k there e =
       let r = are.each u k there in
       let h = element-of u k r.0 r.2 i (part.Leaf l) e in
       let w = h.is in
       (body-of u k r.0 r.2 i h.local h.there).of_primitive w.0 w.1
 
-  inner-body : (u i v : ℕ) (k : Use) → slice_get uses u ≡ Some k → slice_get k.parts i ≡ Some (part.Inner v) →
-      (m : Use) × (slice_get uses v ≡ Some m) × ((p : Place) × (m.around ≡ Some p) × (p.within ≡ u) × (p.element ≡ i)) × (body_at locals k.scope i ≡ Some m.scope)
+  inner-body : (u i v : ℕ) (k : Instance) → slice_get instances u ≡ Some k → slice_get k.parts i ≡ Some (part.Inner v) →
+      (m : Instance) × (slice_get instances v ≡ Some m) × ((p : Place) × (m.around ≡ Some p) × (p.within ≡ u) × (p.element ≡ i)) × (body_at locals k.scope i ≡ Some m.scope)
   inner-body u i v k there e =
       let r = are.each u k there in
       let h = element-of u k r.0 r.2 i (part.Inner v) e in
@@ -84,13 +84,13 @@ module _ (c : Config) (locals : List (Vec LocalKept Global)) (all : AreAllLocals
       let o : a.1.0 ≡ r.0 = some_same (sym a.1.1 ∙ ap (slice_get known) w.2.2.2 ∙ r.1) in
       let inner = a.1.2 in
       let same : inner.local ≡ h.local =
-      some_same (sym inner.there ∙ ap (λ (z : Used). slice_get (locals_at c z) p.element) o ∙ ap (slice_get (locals_at c r.0)) w.2.2.3 ∙ h.there) in
+      some_same (sym inner.there ∙ ap (λ (z : KnownInstance). slice_get (locals_at c z) p.element) o ∙ ap (slice_get (locals_at c r.0)) w.2.2.3 ∙ h.there) in
       let meaning : h.local.meaning ≡ Some (compound inner.body) = ap (λ (z : Local). z.meaning) (sym same) ∙ inner.meaning in
-      let scope : m.scope ≡ inner.body = y.2.scope ∙ ap (place_of c) inner.scope in
+      let scope : m.scope ≡ inner.body = y.2.scope ∙ ap (table_place c) inner.scope in
       (m, w.2.1, w.2.2, (body-of u k r.0 r.2 i h.local h.there).of_compound inner.body meaning ∙ ap (λ z. Some z) (sym scope))
 
   -- an element with a body is none of the router's
-  with-body : (u i b : ℕ) (k : Use) → slice_get uses u ≡ Some k → body_at locals k.scope i ≡ Some b → (p : Part) → slice_get k.parts i ≡ Some p → (v : ℕ) × (slice_get k.parts i ≡ Some (part.Inner v))
+  with-body : (u i b : ℕ) (k : Instance) → slice_get instances u ≡ Some k → body_at locals k.scope i ≡ Some b → (p : InstancePart) → slice_get k.parts i ≡ Some p → (v : ℕ) × (slice_get k.parts i ≡ Some (part.Inner v))
   with-body u i b k there is (part.Leaf l) e = absurd (none-some b (sym (leaf-body u i l k there e) ∙ is))
   with-body u i b k there is (part.Inner v) e = (v, e)
 
@@ -102,7 +102,7 @@ module _ (c : Config) (locals : List (Vec LocalKept Global)) (all : AreAllLocals
       by None e f = absurd (none-some b f)
       by (Some l) e f = (l, e)
 
-  part-there : (u i b : ℕ) (k : Use) → slice_get uses u ≡ Some k → body_at locals k.scope i ≡ Some b → (v : ℕ) × (slice_get k.parts i ≡ Some (part.Inner v))
+  part-there : (u i b : ℕ) (k : Instance) → slice_get instances u ≡ Some k → body_at locals k.scope i ≡ Some b → (v : ℕ) × (slice_get k.parts i ≡ Some (part.Inner v))
   part-there u i b k there is =
       let r = are.each u k there in
       let x = r.0 in
@@ -117,5 +117,5 @@ module _ (c : Config) (locals : List (Vec LocalKept Global)) (all : AreAllLocals
       mapped text (z ∷ xs) zero l h = ap (λ y. Some (local_of text y)) (some_same h)
       mapped text (z ∷ xs) (suc j) l h = mapped text xs j l h
 
-  pub uses-nested : AreNested (body_at locals) uses
-  uses-nested = record { leaf = leaf-body; inner = inner-body; part = part-there }
+  pub instances-nested : AreNested (body_at locals) instances
+  instances-nested = record { leaf = leaf-body; inner = inner-body; part = part-there }

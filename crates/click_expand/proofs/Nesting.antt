@@ -13,7 +13,7 @@ use Rattle.click_text.specs.declared.syntax.Config.{Config}
 use Rattle.click_text.specs.Grammar.{IsBody, braces, IsClass, by_name, by_body, IsHead, word, declared, compound, IsElement, an_element, IsLinks, no_links, more_links, IsStatement, chained, declarations, definition, synonym, requirement, IsStatements, no_more, empty, stated, body}
 use Rattle.click_text.specs.Spelling.{Spells}
 use Rattle.click_expand.specs.Scopes.{class_bodies, head_bodies, link_bodies, bodies_in, body_statements}
-use Rattle.click_expand.specs.Nesting.{direct, Nests, no_bodies, next_body, IsNested}
+use Rattle.click_expand.specs.kept.Nesting.{direct, Nests, no_bodies, next_body, IsNested}
 
 slice_get-append : {X : Type 0} (xs ys : List X) (i : ℕ) → i < length xs → slice_get (xs ++ ys) i ≡ slice_get xs i
 slice_get-append [] ys i l = absurd (omega (arith, l))

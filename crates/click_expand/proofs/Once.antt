@@ -8,7 +8,7 @@ use Rattle.click_text.specs.declared.syntax.Statement.{Statement}
 use Rattle.click_text.specs.declared.syntax.Body.{Body}
 use Rattle.click_text.specs.declared.syntax.Config.{Config}
 use Rattle.click_expand.specs.Scopes.{Scope, whole, inside, bodies_in, body_statements, statements_of, Stands, at_top, nested}
-use Rattle.click_expand.specs.Nesting.{direct, Nests, no_bodies, next_body, IsNested}
+use Rattle.click_expand.specs.kept.Nesting.{direct, Nests, no_bodies, next_body, IsNested}
 
 pub contains-nil : {X : Type 0} (x : X) → Contains [] x → ⊥
 contains-nil x h = omega (arith, h.1)

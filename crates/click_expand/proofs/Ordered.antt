@@ -11,7 +11,7 @@ use Rattle.std.proofs.lemmas.Map.Keys.{sorted_head, sorted_tail}
 use Rattle.click_expand.specs.declared.flat.Connection.{Connection}
 use Rattle.std.specs.List.{All}
 use Rattle.std.proofs.lemmas.List.Elements.{All-nil, All-cons}
-use Rattle.click_expand.specs.Flat.{Before, InOrder}
+use Rattle.click_expand.specs.Flat.{StandsBefore, AreOrdered}
 
 -- the derived order
 abbrev pub compare : Connection → Connection → Ordering
@@ -55,14 +55,14 @@ nat_equal a b h = grind (arith, nat_tests)
 by_number : (a b : ℕ) (o : Ordering) {P : Type 0} → (o ≡ Less → P) → ordering_then (nat_cmp a b) o ≡ Less → (a < b) ⊎ ((a ≡ b) × P)
 by_number a b o f h = elim (then_less (nat_cmp a b) o h) [ inl l ↦ inl (nat_less a b l) | inr e ↦ inr (nat_equal a b e.0, f e.1) ]
 
-Before-from_less : (c d : Connection) → compare c d ≡ Less → Before c d
+Before-from_less : (c d : Connection) → compare c d ≡ Less → StandsBefore c d
 Before-from_less c d h =
     by_number c.from d.from _ (λ h. by_number c.out_port d.out_port _ (λ h. by_number c.to d.to _ (λ h. nat_less c.in_port d.in_port h) h) h) h
 
-all_before : (c : Connection) (ds : List Connection) → AllByRecursion (λ d. compare c d ≡ Less) ds → All (Before c) ds
-all_before c [] h = All-nil (Before c)
-all_before c (d ∷ ds) h = All-cons (Before c) d ds (Before-from_less c d h.0) (all_before c ds h.1)
+all_before : (c : Connection) (ds : List Connection) → AllByRecursion (λ d. compare c d ≡ Less) ds → All (StandsBefore c) ds
+all_before c [] h = All-nil (StandsBefore c)
+all_before c (d ∷ ds) h = All-cons (StandsBefore c) d ds (Before-from_less c d h.0) (all_before c ds h.1)
 
-pub InOrder-from_sorted : (cs : List Connection) → IsStrictlySortedBy compare cs → InOrder cs
+pub InOrder-from_sorted : (cs : List Connection) → IsStrictlySortedBy compare cs → AreOrdered cs
 InOrder-from_sorted [] h = tt
 InOrder-from_sorted (c ∷ cs) h = (all_before c cs (sorted_head compare c cs h), InOrder-from_sorted cs (sorted_tail compare c cs h))

@@ -2,31 +2,31 @@
 use Rattle.std.proofs.Common.{◌≡◌, inl, inr, ◌≤◌, List, [], ◌∷◌, length, refl, sym, ap, ◌∙◌, subst, arith, Contains}
 use Rattle.std.proofs.lemmas.List.Elements.{All-contains}
 use Rattle.click_expand.specs.declared.flat.Connection.{Connection}
-use Rattle.click_expand.specs.Flat.{Before, InOrder}
+use Rattle.click_expand.specs.Flat.{StandsBefore, AreOrdered}
 use Rattle.click_expand.proofs.Once.{contains-nil, contains-cons}
 use Rattle.click_expand.proofs.Contained.{contains-here, contains-behind}
 
-pub before-apart : (c d : Connection) → Before c d → Before d c → ⊥
+pub before-apart : (c d : Connection) → StandsBefore c d → StandsBefore d c → ⊥
 before-apart c d h k = omega (arith, h, k)
 
-pub before-itself : (c : Connection) → Before c c → ⊥
+pub before-itself : (c : Connection) → StandsBefore c c → ⊥
 before-itself c h = before-apart c c h h
 
 abbrev pub Has : List Connection → List Connection → Type 0
 Has xs ys = (k : Connection) → Contains xs k → Contains ys k
 
-first-before : (x : Connection) (xs : List Connection) (k : Connection) → InOrder (x ∷ xs) → Contains xs k → Before x k
-first-before x xs k o i = All-contains (Before x) xs k o.0 i
+first-before : (x : Connection) (xs : List Connection) (k : Connection) → AreOrdered (x ∷ xs) → Contains xs k → StandsBefore x k
+first-before x xs k o i = All-contains (StandsBefore x) xs k o.0 i
 
--- what stands behind the first is no first
-has-behind : (x : Connection) (xs : List Connection) (y : Connection) (ys : List Connection) → x ≡ y → InOrder (x ∷ xs) → Has (x ∷ xs) (y ∷ ys) → Has xs ys
+-- what stands after the first is no first
+has-behind : (x : Connection) (xs : List Connection) (y : Connection) (ys : List Connection) → x ≡ y → AreOrdered (x ∷ xs) → Has (x ∷ xs) (y ∷ ys) → Has xs ys
 has-behind x xs y ys e o f k i =
     elim (contains-cons y ys k (f k (contains-behind x xs k i))) [
-      | inl q ↦ absurd (before-itself x (subst (Before x) (sym (e ∙ q)) (first-before x xs k o i)))
+      | inl q ↦ absurd (before-itself x (subst (StandsBefore x) (sym (e ∙ q)) (first-before x xs k o i)))
       | inr j ↦ j
     ]
 
-first-same : (x : Connection) (xs : List Connection) (y : Connection) (ys : List Connection) → InOrder (x ∷ xs) → InOrder (y ∷ ys) → Has (x ∷ xs) (y ∷ ys) → Has (y ∷ ys) (x ∷ xs) → x ≡ y
+first-same : (x : Connection) (xs : List Connection) (y : Connection) (ys : List Connection) → AreOrdered (x ∷ xs) → AreOrdered (y ∷ ys) → Has (x ∷ xs) (y ∷ ys) → Has (y ∷ ys) (x ∷ xs) → x ≡ y
 first-same x xs y ys o p f g =
     elim (contains-cons y ys x (f x (contains-here x xs))) [
       | inl e ↦ sym e
@@ -37,7 +37,7 @@ first-same x xs y ys o p f g =
     ]
 
 -- lists in order that have the same connections are equal
-pub ordered-once : (xs ys : List Connection) → InOrder xs → InOrder ys → Has xs ys → Has ys xs → xs ≡ ys
+pub ordered-once : (xs ys : List Connection) → AreOrdered xs → AreOrdered ys → Has xs ys → Has ys xs → xs ≡ ys
 ordered-once [] [] o p f g = refl
 ordered-once [] (y ∷ ys) o p f g = absurd (contains-nil y (g y (contains-here y ys)))
 ordered-once (x ∷ xs) [] o p f g = absurd (contains-nil x (f x (contains-here x xs)))
@@ -46,18 +46,18 @@ ordered-once (x ∷ xs) (y ∷ ys) o p f g =
     ap (λ z. z ∷ xs) e ∙ ap (λ zs. y ∷ zs) (ordered-once xs ys o.1 p.1 (has-behind x xs y ys e o f) (has-behind y ys x xs (sym e) p g))
 
 -- where the other's first stands before this list's, it is none of this list's
-has-past : (x : Connection) (xs : List Connection) (y : Connection) (ys : List Connection) → InOrder (x ∷ xs) → Before y x → Has (x ∷ xs) (y ∷ ys) → Has (x ∷ xs) ys
+has-past : (x : Connection) (xs : List Connection) (y : Connection) (ys : List Connection) → AreOrdered (x ∷ xs) → StandsBefore y x → Has (x ∷ xs) (y ∷ ys) → Has (x ∷ xs) ys
 has-past x xs y ys o b f k i =
     elim (contains-cons y ys k (f k i)) [
       | inl e ↦ elim (contains-cons x xs k i) [
-        | inl q ↦ absurd (before-itself x (subst (λ z. Before z x) (e ∙ sym q) b))
-        | inr j ↦ absurd (before-apart x y (subst (Before x) (sym e) (first-before x xs k o j)) b)
+        | inl q ↦ absurd (before-itself x (subst (λ z. StandsBefore z x) (e ∙ sym q) b))
+        | inr j ↦ absurd (before-apart x y (subst (StandsBefore x) (sym e) (first-before x xs k o j)) b)
       ]
       | inr j ↦ j
     ]
 
 -- a list in order is no longer than one that has all its connections
-pub ordered-within : (xs ys : List Connection) → InOrder xs → InOrder ys → Has xs ys → length xs ≤ length ys
+pub ordered-within : (xs ys : List Connection) → AreOrdered xs → AreOrdered ys → Has xs ys → length xs ≤ length ys
 ordered-within [] ys o p f = omega arith
 ordered-within (x ∷ xs) [] o p f = absurd (contains-nil x (f x (contains-here x xs)))
 ordered-within (x ∷ xs) (y ∷ ys) o p f =

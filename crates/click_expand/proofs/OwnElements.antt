@@ -13,7 +13,7 @@ use Rattle.click_expand.specs.Elements.{Local}
 use Rattle.click_expand.specs.Faults.{scope_locals, first_token}
 use Rattle.click_expand.specs.Parameters.{IsReplaced, value_in}
 use Rattle.click_expand.specs.Instances.{Leaf, AreLeaves, no_elements, leaf, branch}
-use Rattle.click_expand.specs.Flat.{flat_element, flat_names, AreDistinct, Before, InOrder, IsFlat}
+use Rattle.click_expand.specs.Flat.{flat_element, flat_names, AreDistinct, StandsBefore, AreOrdered, IsFlat}
 use Rattle.click_expand.specs.OneScope.{HasNoCompounds, class_name, own_element}
 use Rattle.click_expand.proofs.Contained.{contains-here, contains-behind}
 use Rattle.click_expand.proofs.Searching.{at-contains}
@@ -38,11 +38,11 @@ distinct-names c f i j d e h a b same =
     distinct-at (flat_names h.leaves) h.distinct i j d.name e.name (name-at h.leaves i d (ap (λ es. slice_get es i) (sym h.elements) ∙ a))
     (name-at h.leaves j e (ap (λ es. slice_get es j) (sym h.elements) ∙ b)) same
 
--- in a list in order each stands before those behind it
-pub ordered-at : (ks : List Connection) → InOrder ks → (i j : ℕ) (k l : Connection) → slice_get ks i ≡ Some k → slice_get ks j ≡ Some l → i < j → Before k l
+-- in a list in order each stands before those after it
+pub ordered-at : (ks : List Connection) → AreOrdered ks → (i j : ℕ) (k l : Connection) → slice_get ks i ≡ Some k → slice_get ks j ≡ Some l → i < j → StandsBefore k l
 ordered-at [] o i j k l h g m = absurd (cc h)
 ordered-at (x ∷ ks) o zero zero k l h g m = absurd (omega (arith, m))
-ordered-at (x ∷ ks) o zero (suc j) k l h g m = let s : x ≡ k = cc in subst (λ y. Before y l) s (All-contains (Before x) ks l o.0 (at-contains ks j l g))
+ordered-at (x ∷ ks) o zero (suc j) k l h g m = let s : x ≡ k = cc in subst (λ y. StandsBefore y l) s (All-contains (StandsBefore x) ks l o.0 (at-contains ks j l g))
 ordered-at (x ∷ ks) o (suc i) zero k l h g m = absurd (omega (arith, m))
 ordered-at (x ∷ ks) o (suc i) (suc j) k l h g m = ordered-at ks o.1 i j k l h g (omega (arith, m))
 

@@ -12,22 +12,22 @@ use Rattle.click_text.specs.declared.syntax.Config.{Config}
 use Rattle.click_text.specs.Grammar.{element}
 use Rattle.click_expand.specs.Scopes.{statement_elements}
 use Rattle.click_expand.specs.Elements.{Placed, place, placed, Local}
-use Rattle.click_expand.specs.Faults.{Names, End, end_of, Joint, port_number, number_behind, number_after, joints_behind, joints_from}
-use Rattle.click_expand.specs.Scoped.{ports_in}
-use Rattle.click_expand.specs.Joined.{IsEnd, AreJoints}
-use Rattle.click_expand.specs.Joining.{AreEnds, joint_by}
-use Rattle.click_expand.specs.declared.scopes.Written.{Written}
-use Rattle.click_expand.specs.declared.joints.End.{End as EndKept}
-use Rattle.click_expand.specs.declared.joints.Joint.{Joint as JointKept}
+use Rattle.click_expand.specs.Faults.{ScopeNames, End, written_end, WrittenConnection, port_number, number_behind, number_after_all, joints_behind, joints_from}
+use Rattle.click_expand.specs.kept.Scoped.{ports_in}
+use Rattle.click_expand.specs.kept.WrittenConnections.{IsEndKept, AreJoints}
+use Rattle.click_expand.specs.kept.ConnectionEnds.{AreEndsKept, joint_by}
+use Rattle.click_expand.specs.declared.scopes.WrittenElement.{WrittenElement}
+use Rattle.click_expand.specs.declared.written_connections.End.{End as EndKept}
+use Rattle.click_expand.specs.declared.written_connections.WrittenConnection.{WrittenConnection as ConnectionKept}
 
 -- the connections of ends, each with the ports that join it to the one before
-abbrev pub pairs : Option EndKept → List EndKept → List (Option (ℕ × ℕ)) → List JointKept
+abbrev pub pairs : Option EndKept → List EndKept → List (Option (ℕ × ℕ)) → List ConnectionKept
 pairs a [] os = []
 pairs a (e ∷ es) [] = []
 pairs a (e ∷ es) (o ∷ os) = cons_option (joint_by a o e) (pairs (Some e) es os)
 
-abbrev pub ports_at : List Written → List (Option (ℕ × ℕ))
-ports_at ws = map (λ (w : Written). w.ports) ws
+abbrev pub ports_at : List WrittenElement → List (Option (ℕ × ℕ))
+ports_at ws = map (λ (w : WrittenElement). w.ports) ws
 
 pairs-none : (a : Option EndKept) (es : List EndKept) → pairs a es [] ≡ []
 pairs-none a [] = refl
@@ -37,34 +37,34 @@ cons-last : {X : Type 0} (xs : List X) (o : Option X) (ys : List X) → xs ++ co
 cons-last xs None ys = ap (λ zs. zs ++ ys) (sym (append-nil xs))
 cons-last xs (Some x) ys = sym (append_assoc xs (x ∷ []) ys)
 
-module _ (ends : List EndKept) (ws : List Written) where
+module _ (ends : List EndKept) (ws : List WrittenElement) where
   -- so far these connections
-  abbrev pub Paired : List JointKept → Option EndKept → ℕ → Type 0
+  abbrev pub Paired : List ConnectionKept → Option EndKept → ℕ → Type 0
   Paired js a i = js ++ pairs a (drop i ends) (ports_at (drop i ws)) ≡ pairs None ends (ports_at ws)
 
-  pub paired-next : (js new : List JointKept) (a : Option EndKept) (i : ℕ) (de e : EndKept) (dw w : Written) (o : Option JointKept) → i < length ends → i < length ws →
+  pub paired-next : (js new : List ConnectionKept) (a : Option EndKept) (i : ℕ) (de e : EndKept) (dw w : WrittenElement) (o : Option ConnectionKept) → i < length ends → i < length ws →
       e ≡ get_or ends i de → w ≡ get_or ws i dw → o ≡ joint_by a w.ports e → new ≡ js ++ cons_option o [] → Paired js a i → Paired new (Some e) (i + 1)
   paired-next js new a i de e dw w o l m p q k is h =
       let rest = pairs (Some e) (drop (i + 1) ends) (ports_at (drop (i + 1) ws)) in
       ap (λ xs. xs ++ rest) is ∙ sym (cons-last js o rest)
       ∙ ap (λ x. js ++ cons_option x rest) k
       ∙ ap (λ x. js ++ pairs a (x ∷ drop (i + 1) ends) (w.ports ∷ ports_at (drop (i + 1) ws))) p
-      ∙ ap (λ (x : Written). js ++ pairs a (get_or ends i de ∷ drop (i + 1) ends) (ports_at (x ∷ drop (i + 1) ws))) q
+      ∙ ap (λ (x : WrittenElement). js ++ pairs a (get_or ends i de ∷ drop (i + 1) ends) (ports_at (x ∷ drop (i + 1) ws))) q
       ∙ ap (λ x. js ++ pairs a x (ports_at (get_or ws i dw ∷ drop (i + 1) ws))) (sym (drop_more ends i de l))
       ∙ ap (λ x. js ++ pairs a (drop i ends) (ports_at x)) (sym (drop_more ws i dw m))
       ∙ h
 
-  pub paired-all : (js : List JointKept) (a : Option EndKept) (i : ℕ) → length ws ≤ i → Paired js a i → js ≡ pairs None ends (ports_at ws)
+  pub paired-all : (js : List ConnectionKept) (a : Option EndKept) (i : ℕ) → length ws ≤ i → Paired js a i → js ≡ pairs None ends (ports_at ws)
   paired-all js a i l h =
       sym (append-nil js) ∙ ap (λ xs. js ++ xs) (sym (pairs-none a (drop i ends))) ∙ ap (λ x. js ++ pairs a (drop i ends) (ports_at x)) (sym (drop_all i ws l)) ∙ h
 
 -- the connection of two ends, where there is an end before and ports join them
-abbrev pub said_by : Option End → Option (ℕ × ℕ) → End → Option Joint
+abbrev pub said_by : Option End → Option (ℕ × ℕ) → End → Option WrittenConnection
 said_by None ports to = None
 said_by (Some from) None to = None
 said_by (Some from) (Some p) to = Some (record { from = from; out_port = p.0; to = to; in_port = p.1 })
 
-said-none : (a : Option End) (e : End) (js : List Joint) → cons_option (said_by a None e) js ≡ js
+said-none : (a : Option End) (e : End) (js : List WrittenConnection) → cons_option (said_by a None e) js ≡ js
 said-none None e js = refl
 said-none (Some b) e js = refl
 
@@ -72,16 +72,16 @@ abbrev pub IsBefore : List Local → Option EndKept → Option End → Type 0
 IsBefore ls None None = Unit {0}
 IsBefore ls None (Some e) = ⊥
 IsBefore ls (Some k) None = ⊥
-IsBefore ls (Some k) (Some e) = IsEnd ls k e
+IsBefore ls (Some k) (Some e) = IsEndKept ls k e
 
-module _ (c : Config) (names : Names) where
+module _ (c : Config) (names : ScopeNames) where
   -- the connections of elements, each with the ports that join it to the one before
-  abbrev pub flat : Option End → ℕ → List Placed → List (Option (ℕ × ℕ)) → List Joint
+  abbrev pub flat : Option End → ℕ → List Placed → List (Option (ℕ × ℕ)) → List WrittenConnection
   flat a n [] os = []
   flat a n (p ∷ ps) [] = []
-  flat a n (p ∷ ps) (o ∷ os) = cons_option (said_by a o (end_of c names n p)) (flat (Some (end_of c names n p)) (number_behind c names n p) ps os)
+  flat a n (p ∷ ps) (o ∷ os) = cons_option (said_by a o (written_end c names n p)) (flat (Some (written_end c names n p)) (number_behind c names n p) ps os)
 
-  joined-more : (ls : List Local) (a : Option EndKept) (b : Option End) (o : Option (ℕ × ℕ)) (k : EndKept) (e : End) (ks : List JointKept) (js : List Joint) → IsBefore ls a b → IsEnd ls k e →
+  joined-more : (ls : List Local) (a : Option EndKept) (b : Option End) (o : Option (ℕ × ℕ)) (k : EndKept) (e : End) (ks : List ConnectionKept) (js : List WrittenConnection) → IsBefore ls a b → IsEndKept ls k e →
       AreJoints ls ks js → AreJoints ls (cons_option (joint_by a o k) ks) (cons_option (said_by b o e) js)
   joined-more ls None None o k e ks js h i j = j
   joined-more ls None (Some y) o k e ks js h i j = absurd h
@@ -89,51 +89,51 @@ module _ (c : Config) (names : Names) where
   joined-more ls (Some x) (Some y) None k e ks js h i j = j
   joined-more ls (Some x) (Some y) (Some p) k e ks js h i j = (record { from = h; out_port = refl; to = i; in_port = refl }, j)
 
-  pairs-flat : (ls : List Local) (a : Option EndKept) (b : Option End) (n : ℕ) (ks : List EndKept) (ps : List Placed) (os : List (Option (ℕ × ℕ))) → IsBefore ls a b → AreEnds ls c names n ks ps →
+  pairs-flat : (ls : List Local) (a : Option EndKept) (b : Option End) (n : ℕ) (ks : List EndKept) (ps : List Placed) (os : List (Option (ℕ × ℕ))) → IsBefore ls a b → AreEndsKept ls c names n ks ps →
       AreJoints ls (pairs a ks os) (flat b n ps os)
   pairs-flat ls a b n [] [] os h e = tt
   pairs-flat ls a b n [] (p ∷ ps) os h e = absurd e
   pairs-flat ls a b n (k ∷ ks) [] os h e = absurd e
   pairs-flat ls a b n (k ∷ ks) (p ∷ ps) [] h e = tt
   pairs-flat ls a b n (k ∷ ks) (p ∷ ps) (o ∷ os) h e =
-      joined-more ls a b o k (end_of c names n p) (pairs (Some k) ks os) (flat (Some (end_of c names n p)) (number_behind c names n p) ps os) h e.0
-      (pairs-flat ls (Some k) (Some (end_of c names n p)) (number_behind c names n p) ks ps os e.0 e.1)
+      joined-more ls a b o k (written_end c names n p) (pairs (Some k) ks os) (flat (Some (written_end c names n p)) (number_behind c names n p) ps os) h e.0
+      (pairs-flat ls (Some k) (Some (written_end c names n p)) (number_behind c names n p) ks ps os e.0 e.1)
 
-  flat-links : (visible : List Statement) (n : ℕ) (a : End) (ls : List Link) (qs : List Placed) (os : List (Option (ℕ × ℕ))) (rest : List Joint) →
-      ((b : End) → flat (Some b) (number_after c names n (map (place visible) (map (λ (l : Link). l.element) ls))) qs os ≡ rest) →
+  flat-links : (visible : List Statement) (n : ℕ) (a : End) (ls : List Link) (qs : List Placed) (os : List (Option (ℕ × ℕ))) (rest : List WrittenConnection) →
+      ((b : End) → flat (Some b) (number_after_all c names n (map (place visible) (map (λ (l : Link). l.element) ls))) qs os ≡ rest) →
       flat (Some a) n (map (place visible) (map (λ (l : Link). l.element) ls) ++ qs) (map (λ (l : Link). Some (port_number l.from, port_number l.to)) ls ++ os) ≡ joints_behind c names visible n a ls ++ rest
-  unfolding joints_behind number_after
+  unfolding joints_behind number_after_all
   flat-links visible n a [] qs os rest h = h a
   flat-links visible n a (l ∷ ls) qs os rest h =
-      let b = end_of c names n (place visible l.element) in
+      let b = written_end c names n (place visible l.element) in
       ap (λ x. record { from = a; out_port = port_number l.from; to = b; in_port = port_number l.to } ∷ x)
       (flat-links visible (number_behind c names n (place visible l.element)) b ls qs os rest h)
 
-  flat-names : (visible : List Statement) (n : ℕ) (a : Option End) (d : Declaration) (ns : List Span) (qs : List Placed) (os : List (Option (ℕ × ℕ))) (rest : List Joint) →
-      ((b : Option End) → flat b (number_after c names n (map (place visible) (map (λ m. element (head.Declared m d.class) d.text) ns))) qs os ≡ rest) →
+  flat-names : (visible : List Statement) (n : ℕ) (a : Option End) (d : Declaration) (ns : List Span) (qs : List Placed) (os : List (Option (ℕ × ℕ))) (rest : List WrittenConnection) →
+      ((b : Option End) → flat b (number_after_all c names n (map (place visible) (map (λ m. element (head.Declared m d.class) d.text) ns))) qs os ≡ rest) →
       flat a n (map (place visible) (map (λ m. element (head.Declared m d.class) d.text) ns) ++ qs) (map (λ (m : Span). None) ns ++ os) ≡ rest
-  unfolding number_after
+  unfolding number_after_all
   flat-names visible n a d [] qs os rest h = h a
   flat-names visible n a d (m ∷ ns) qs os rest h =
       let p = place visible (element (head.Declared m d.class) d.text) in
-      said-none a (end_of c names n p) _ ∙ flat-names visible (number_behind c names n p) (Some (end_of c names n p)) d ns qs os rest h
+      said-none a (written_end c names n p) _ ∙ flat-names visible (number_behind c names n p) (Some (written_end c names n p)) d ns qs os rest h
 
   flat-all : (a : Option End) (visible : List Statement) (n : ℕ) (ss : List Statement) → flat a n (placed visible ss) (ports_in ss) ≡ joints_from c names visible n ss
-  unfolding joints_from number_after
+  unfolding joints_from number_after_all
   flat-all a visible n [] = refl
   flat-all a visible n (statement.Chain k ∷ ss) =
       let p = place visible k.first in
-      said-none a (end_of c names n p) _
-      ∙ flat-links visible (number_behind c names n p) (end_of c names n p) k.links (placed (statement.Chain k ∷ visible) ss) (ports_in ss) _
-      (λ b. flat-all (Some b) (statement.Chain k ∷ visible) (number_after c names n (map (place visible) (statement_elements (statement.Chain k)))) ss)
+      said-none a (written_end c names n p) _
+      ∙ flat-links visible (number_behind c names n p) (written_end c names n p) k.links (placed (statement.Chain k ∷ visible) ss) (ports_in ss) _
+      (λ b. flat-all (Some b) (statement.Chain k ∷ visible) (number_after_all c names n (map (place visible) (statement_elements (statement.Chain k)))) ss)
   flat-all a visible n (statement.Declaration d ∷ ss) =
       flat-names visible n a d d.names (placed (statement.Declaration d ∷ visible) ss) (ports_in ss) _
-      (λ b. flat-all b (statement.Declaration d ∷ visible) (number_after c names n (map (place visible) (statement_elements (statement.Declaration d)))) ss)
+      (λ b. flat-all b (statement.Declaration d ∷ visible) (number_after_all c names n (map (place visible) (statement_elements (statement.Declaration d)))) ss)
   flat-all a visible n (statement.Definition m b ∷ ss) = flat-all a (statement.Definition m b ∷ visible) n ss
   flat-all a visible n (statement.Synonym m b ∷ ss) = flat-all a (statement.Synonym m b ∷ visible) n ss
   flat-all a visible n (statement.Requirement t ∷ ss) = flat-all a (statement.Requirement t ∷ visible) n ss
 
-  pub paired-joints : (ls : List Local) (visible ss : List Statement) (ends : List EndKept) (ws : List Written) (js : List JointKept) → AreEnds ls c names 0 ends (placed visible ss) →
+  pub paired-joints : (ls : List Local) (visible ss : List Statement) (ends : List EndKept) (ws : List WrittenElement) (js : List ConnectionKept) → AreEndsKept ls c names 0 ends (placed visible ss) →
       ports_at ws ≡ ports_in ss → js ≡ pairs None ends (ports_at ws) → AreJoints ls js (joints_from c names visible 0 ss)
   paired-joints ls visible ss ends ws js e p is =
       subst (λ x. AreJoints ls x (joints_from c names visible 0 ss)) (sym (is ∙ ap (pairs None ends) p))

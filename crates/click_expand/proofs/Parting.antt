@@ -9,14 +9,14 @@ use Rattle.click_text.specs.Spans.{bytes_at}
 use Rattle.click_text.proofs.ItemReading.{items_once}
 use Rattle.click_text.proofs.ItemsExist.{reading}
 use Rattle.click_expand.specs.Parameters.{Formal, formal_at, value_by, found_bytes, found_size, replaced, value_in}
-use Rattle.click_expand.specs.Uses.{Used}
-use Rattle.click_expand.specs.Texts.{formal_of, formal_in}
-use Rattle.click_expand.specs.Values.{IsRead, IsValue}
-use Rattle.click_expand.specs.Spread.{Parts}
+use Rattle.click_expand.specs.kept.KnownInstances.{KnownInstance}
+use Rattle.click_expand.specs.kept.Texts.{formal_of, formal_in}
+use Rattle.click_expand.specs.kept.ParameterValues.{IsRead, IsValue}
+use Rattle.click_expand.specs.kept.Spread.{Parts}
 use Rattle.click_expand.specs.declared.parameters.Parameter.{Parameter}
-use Rattle.click_expand.specs.declared.readings.Reading.{Reading}
-use Rattle.click_expand.specs.declared.readings.Value.{Value}
-use Rattle.click_expand.specs.declared.texts.Part.TheVariants as part
+use Rattle.click_expand.specs.declared.parameter_values.UnreadText.{UnreadText}
+use Rattle.click_expand.specs.declared.parameter_values.ParameterValue.{ParameterValue}
+use Rattle.click_expand.specs.declared.texts.TextPart.TheVariants as part
 use Rattle.click_expand.proofs.Formals.{formal-here, replaced-skips}
 use Rattle.click_expand.proofs.ReadHomes.{value-of}
 
@@ -53,10 +53,10 @@ kept-formal text o p h e = sym h ∙ ap (option_map (formal_of text)) e
 kept-none : (text : List ℕ) (o : Option Parameter) → option_map (formal_of text) o ≡ formal_in text → o ≡ None → formal_in text ≡ None
 kept-none text o h e = sym h ∙ ap (option_map (formal_of text)) e
 
-module _ (c : Config) (known : List Used) (r : Reading) (whole : List ℕ) (h : IsRead c known r whole) where
+module _ (c : Config) (known : List KnownInstance) (r : UnreadText) (whole : List ℕ) (h : IsRead c known r whole) where
   -- a parameter with a value
-  pub part-value : (o : Option Parameter) (p : Parameter) (name : List ℕ) (found : Option Value) (v : Value) → option_map (formal_of r.rest.now) o ≡ formal_in r.rest.now → o ≡ Some p → name ≡ bytes_at r.rest.now p.name →
-      ((x : Used) → slice_get known r.within ≡ Some x → IsValue c known found (value-of c x name)) → found ≡ Some v → Parts c known r.within r.rest.now whole (part.Value p.size v)
+  pub part-value : (o : Option Parameter) (p : Parameter) (name : List ℕ) (found : Option ParameterValue) (v : ParameterValue) → option_map (formal_of r.rest.now) o ≡ formal_in r.rest.now → o ≡ Some p → name ≡ bytes_at r.rest.now p.name →
+      ((x : KnownInstance) → slice_get known r.within ≡ Some x → IsValue c known found (value-of c x name)) → found ≡ Some v → Parts c known r.within r.rest.now whole (part.Value p.size v)
   part-value o p name found v e f g k q =
       let x = h.0 in
       let i = h.2 in
@@ -72,7 +72,7 @@ module _ (c : Config) (known : List Used) (r : Reading) (whole : List ℕ) (h : 
         (x, h.1, record { items = drop p.size i.items; read = s.1; replaces = refl }),
       )
 
-  stays-by : (k : ItemKind) (n : ℕ) → LongestItem r.rest.now k n → ((x : Used) → slice_get known r.within ≡ Some x → value_by (value-of c x) (formal_in r.rest.now) ≡ None) → Parts c known r.within r.rest.now whole (part.Bytes n)
+  stays-by : (k : ItemKind) (n : ℕ) → LongestItem r.rest.now k n → ((x : KnownInstance) → slice_get known r.within ≡ Some x → value_by (value-of c x) (formal_in r.rest.now) ≡ None) → Parts c known r.within r.rest.now whole (part.Bytes n)
   stays-by k n l none =
       let x = h.0 in
       let i = h.2 in
@@ -85,8 +85,8 @@ module _ (c : Config) (known : List Used) (r : Reading) (whole : List ℕ) (h : 
   part-bytes o k n e f l = stays-by k n l (λ x g. ap (value_by (value-of c x)) (kept-none r.rest.now o e f))
 
   -- a parameter without a value
-  pub part-none : (o : Option Parameter) (p : Parameter) (name : List ℕ) (found : Option Value) (k : ItemKind) (n : ℕ) → option_map (formal_of r.rest.now) o ≡ formal_in r.rest.now → o ≡ Some p → name ≡ bytes_at r.rest.now p.name →
-      ((x : Used) → slice_get known r.within ≡ Some x → IsValue c known found (value-of c x name)) → found ≡ None → LongestItem r.rest.now k n → Parts c known r.within r.rest.now whole (part.Bytes n)
+  pub part-none : (o : Option Parameter) (p : Parameter) (name : List ℕ) (found : Option ParameterValue) (k : ItemKind) (n : ℕ) → option_map (formal_of r.rest.now) o ≡ formal_in r.rest.now → o ≡ Some p → name ≡ bytes_at r.rest.now p.name →
+      ((x : KnownInstance) → slice_get known r.within ≡ Some x → IsValue c known found (value-of c x name)) → found ≡ None → LongestItem r.rest.now k n → Parts c known r.within r.rest.now whole (part.Bytes n)
   part-none o p name found k n e f g q z l =
       stays-by k n l (λ x there.
       ap (value_by (value-of c x)) (kept-formal r.rest.now o p e f)

@@ -4,10 +4,10 @@ use Rattle.std.proofs.lemmas.Bool.{cases_order}
 use Rattle.std.proofs.lemmas.Bool.Decides.{nat_tests}
 use Rattle.std.proofs.lemmas.List.{append-nil, length-set, length-replicate, get_or-set_same, get_or-set_other, get_or-replicate, take_more}
 use Rattle.click_expand.specs.Faults.{port_count}
-use Rattle.click_expand.specs.Misused.{from_input, to_output, inputs_kept, outputs_kept, HasGap, has_port, IsUsed}
-use Rattle.click_expand.specs.declared.joints.Owner.{Owner}
-use Rattle.click_expand.specs.declared.joints.Owner.TheVariants as owner
-use Rattle.click_expand.specs.declared.joints.Joint.{Joint as JointKept}
+use Rattle.click_expand.specs.kept.CompoundFaults.{from_input, to_output, inputs_kept, outputs_kept, HasGap, has_port, IsUsed}
+use Rattle.click_expand.specs.declared.written_connections.Owner.{Owner}
+use Rattle.click_expand.specs.declared.written_connections.Owner.TheVariants as owner
+use Rattle.click_expand.specs.declared.written_connections.WrittenConnection.{WrittenConnection as ConnectionKept}
 use Rattle.click_expand.proofs.Making.{any_push}
 use Rattle.click_expand.proofs.Once.{contains-nil, contains-cons}
 use Rattle.click_expand.proofs.Contained.{contains-here, contains-behind}
@@ -88,15 +88,15 @@ output-more owner.Input p xs ys = refl
 output-more owner.Output p xs ys = refl
 output-more (owner.Element i) p xs ys = refl
 
-inputs-push : (ks : List JointKept) (k : JointKept) → inputs_kept (ks ++ k ∷ []) ≡ inputs_kept ks ++ from_input k.from.owner k.out_port []
+inputs-push : (ks : List ConnectionKept) (k : ConnectionKept) → inputs_kept (ks ++ k ∷ []) ≡ inputs_kept ks ++ from_input k.from.owner k.out_port []
 inputs-push [] k = refl
 inputs-push (j ∷ ks) k = ap (from_input j.from.owner j.out_port) (inputs-push ks k) ∙ input-more j.from.owner j.out_port (inputs_kept ks) (from_input k.from.owner k.out_port [])
 
-outputs-push : (ks : List JointKept) (k : JointKept) → outputs_kept (ks ++ k ∷ []) ≡ outputs_kept ks ++ to_output k.to.owner k.in_port []
+outputs-push : (ks : List ConnectionKept) (k : ConnectionKept) → outputs_kept (ks ++ k ∷ []) ≡ outputs_kept ks ++ to_output k.to.owner k.in_port []
 outputs-push [] k = refl
 outputs-push (j ∷ ks) k = ap (to_output j.to.owner j.in_port) (outputs-push ks k) ∙ output-more j.to.owner j.in_port (outputs_kept ks) (to_output k.to.owner k.in_port [])
 
-module _ (ks : List JointKept) (i : ℕ) (d k : JointKept) (l : i < length ks) (is : k ≡ get_or ks i d) where
+module _ (ks : List ConnectionKept) (i : ℕ) (d k : ConnectionKept) (l : i < length ks) (is : k ≡ get_or ks i d) where
   inputs-next : inputs_kept (take (i + 1) ks) ≡ inputs_kept (take i ks) ++ from_input k.from.owner k.out_port []
   inputs-next = ap inputs_kept (take_more ks i d l ∙ ap (λ x. take i ks ++ x ∷ []) (sym is)) ∙ inputs-push (take i ks) k
 
@@ -113,7 +113,7 @@ not-output owner.Input p h = refl
 not-output owner.Output p h = absurd (h refl)
 not-output (owner.Element i) p h = refl
 
-module _ (ks : List JointKept) (i : ℕ) (d k : JointKept) (l : i < length ks) (is : k ≡ get_or ks i d) where
+module _ (ks : List ConnectionKept) (i : ℕ) (d k : ConnectionKept) (l : i < length ks) (is : k ≡ get_or ks i d) where
   pub inputs-yes : k.from.owner ≡ owner.Input → inputs_kept (take (i + 1) ks) ≡ inputs_kept (take i ks) ++ k.out_port ∷ []
   inputs-yes h = inputs-next ks i d k l is ∙ ap (λ o. inputs_kept (take i ks) ++ from_input o k.out_port []) h
 

@@ -1,4 +1,4 @@
--- A search over the ports of uses, one step of the scopes' indices after another.
+-- A search over the ports of instances, one step of the scopes' indices after another.
 use Rattle.std.proofs.Common.{◌≡◌, ◌⊎◌, inl, inr, ℕ, ◌+◌, ◌<◌, ◌≤◌, zero, suc, List, [], ◌∷◌, ◌++◌, length, get_or, take, map, Bool, true, false, nat_eq, cond, Some, None, Contains, refl, sym, ap, ◌∙◌, subst, append_assoc, append-nil, arith}
 use Rattle.std.specs.List.{slice_get, list_any}
 use Rattle.std.proofs.lemmas.Bool.{and_parts, eqb-true, cases_order}
@@ -7,15 +7,15 @@ use Rattle.std.proofs.lemmas.Option.{slice_get_within, get_or_from_slice_get, sl
 use Rattle.std.proofs.lemmas.List.Elements.{Contains-append_left, Contains-append_right, Contains-append_cases}
 use Rattle.indexmap.specs.IndexSet.{insert_key}
 use Rattle.indexmap.proofs.CallerLemmas.{Contains-insert_key}
-use Rattle.click_expand.specs.declared.uses.Use.{Use}
-use Rattle.click_expand.specs.declared.starts.Port.{Port}
-use Rattle.click_expand.specs.declared.starts.Start.{Start}
-use Rattle.click_expand.specs.declared.starts.Input.{Input}
-use Rattle.click_expand.specs.declared.starts.Next.{Next}
-use Rattle.click_expand.specs.declared.starts.Next.TheVariants as next
-use Rattle.click_expand.specs.declared.starts.Index.{Index}
+use Rattle.click_expand.specs.declared.instances.Instance.{Instance}
+use Rattle.click_expand.specs.declared.connection_index.ScopePort.{ScopePort}
+use Rattle.click_expand.specs.declared.connection_index.InstancePort.{InstancePort}
+use Rattle.click_expand.specs.declared.connection_index.FlatInput.{FlatInput}
+use Rattle.click_expand.specs.declared.connection_index.Reached.{Reached}
+use Rattle.click_expand.specs.declared.connection_index.Reached.TheVariants as next
+use Rattle.click_expand.specs.declared.connection_index.ConnectionIndex.{ConnectionIndex}
 use Rattle.click_expand.specs.declared.flat.Connection.{Connection}
-use Rattle.click_expand.specs.Wiring.{start, same_start, same_port, next_by, nexts, ends_in, StepsTo, Arrives, at_once, behind, connection, IsFrom, Gains, HasAll, IsOn, IsEnd, Takes, IsAtOnce, Visits}
+use Rattle.click_expand.specs.kept.Wiring.{instance_port, same_start, same_port, reached_by, all_reached, ends_in, StepsTo, Arrives, at_once, after_connection, connection, IsFrom, Gains, HasAll, IsOn, IsConnectionInto, Takes, IsAtOnce, Visits}
 use Rattle.click_expand.proofs.Indexing.{port-exact}
 use Rattle.click_expand.proofs.Keeping.{slice_get-front}
 use Rattle.click_expand.proofs.Ordered.{same, exact}
@@ -78,54 +78,54 @@ module _ {X : Type 0} (P : X → Type 0) where
 pub gains-weaken : {X : Type 0} (P Q : X → Type 0) (a b : List X) → ((x : X) → P x → Q x) → Gains P a b → Gains Q a b
 gains-weaken P Q a b f g = record { more = g.more; is = g.is; each = λ x h. f x (g.each x h) }
 
-start-exact : (a b : Start) → same_start a b ≡ true → a ≡ b
+start-exact : (a b : InstancePort) → same_start a b ≡ true → a ≡ b
 start-exact a b h =
     let p = and_parts (nat_eq a.within b.within) (same_port a.port b.port) h in
-    ap (λ u. start u a.port) (eqb-true a.within b.within p.0) ∙ ap (start b.within) (port-exact a.port b.port p.1)
+    ap (λ u. instance_port u a.port) (eqb-true a.within b.within p.0) ∙ ap (instance_port b.within) (port-exact a.port b.port p.1)
 
 module _ (leaf number : ℕ) where
-  pub takes-none : (seen : List Start) (found : List Connection) → Takes leaf number [] seen seen found found
+  pub takes-none : (seen : List InstancePort) (found : List Connection) → Takes leaf number [] seen seen found found
   takes-none seen found = record {
     seen = gains-none (IsOn []) seen;
     seen_all = λ s h. absurd (omega (arith, h.1));
-    found = gains-none (IsEnd leaf number []) found;
+    found = gains-none (IsConnectionInto leaf number []) found;
     found_all = λ k h. absurd (omega (arith, h.1.1));
   }
 
-  pub takes-nothing : (seen : List Start) (found : List Connection) → Takes leaf number (next.Nothing ∷ []) seen seen found found
+  pub takes-nothing : (seen : List InstancePort) (found : List Connection) → Takes leaf number (next.Nothing ∷ []) seen seen found found
   takes-nothing seen found = record {
     seen = gains-none (IsOn (next.Nothing ∷ [])) seen;
     seen_all = λ s h. absurd (let e = contains-single next.Nothing (next.Start s) h in cc e);
-    found = gains-none (IsEnd leaf number (next.Nothing ∷ [])) found;
+    found = gains-none (IsConnectionInto leaf number (next.Nothing ∷ [])) found;
     found_all = λ k h. absurd (let e = contains-single next.Nothing (next.Leaf h.0) h.1 in cc e);
   }
 
-  pub takes-start : (s : Start) (seen new : List Start) (found : List Connection) → new ≡ insert_key same_start seen s → Takes leaf number (next.Start s ∷ []) seen new found found
+  pub takes-start : (s : InstancePort) (seen new : List InstancePort) (found : List Connection) → new ≡ insert_key same_start seen s → Takes leaf number (next.Start s ∷ []) seen new found found
   takes-start s seen new found e = record {
     seen = gains-insert (IsOn (next.Start s ∷ [])) same_start seen new s e (0, omega arith, refl);
     seen_all = λ t h. (let same : s ≡ t = (let e = contains-single (next.Start s) (next.Start t) h in cc e) in
         subst (Contains new) same (subst (λ l. Contains l s) (sym e) (Contains-insert_key same_start start-exact seen s)));
-    found = gains-none (IsEnd leaf number (next.Start s ∷ [])) found;
+    found = gains-none (IsConnectionInto leaf number (next.Start s ∷ [])) found;
     found_all = λ k h. absurd (let e = contains-single (next.Start s) (next.Leaf h.0) h.1 in cc e);
   }
 
-  pub takes-leaf : (i : Input) (seen : List Start) (found new : List Connection) → new ≡ insert_key same found (connection leaf number i) → Takes leaf number (next.Leaf i ∷ []) seen seen found new
+  pub takes-leaf : (i : FlatInput) (seen : List InstancePort) (found new : List Connection) → new ≡ insert_key same found (connection leaf number i) → Takes leaf number (next.Leaf i ∷ []) seen seen found new
   takes-leaf i seen found new e = record {
     seen = gains-none (IsOn (next.Leaf i ∷ [])) seen;
     seen_all = λ t h. absurd (let e = contains-single (next.Leaf i) (next.Start t) h in cc e);
-    found = gains-insert (IsEnd leaf number (next.Leaf i ∷ [])) same found new (connection leaf number i) e (i, (0, omega arith, refl), refl);
+    found = gains-insert (IsConnectionInto leaf number (next.Leaf i ∷ [])) same found new (connection leaf number i) e (i, (0, omega arith, refl), refl);
     found_all = λ k h. (let same_input : i ≡ h.0 = (let e = contains-single (next.Leaf i) (next.Leaf h.0) h.1 in cc e) in
         subst (Contains new) (ap (connection leaf number) same_input ∙ sym h.2)
         (subst (λ l. Contains l (connection leaf number i)) (sym e) (Contains-insert_key same exact found (connection leaf number i))));
   }
 
-  end-left : (ns ms : List Next) (k : Connection) → IsEnd leaf number ns k → IsEnd leaf number (ns ++ ms) k
+  end-left : (ns ms : List Reached) (k : Connection) → IsConnectionInto leaf number ns k → IsConnectionInto leaf number (ns ++ ms) k
   end-left ns ms k h = (h.0, Contains-append_left ns ms (next.Leaf h.0) h.1, h.2)
 
-  end-right : (ns ms : List Next) (k : Connection) → IsEnd leaf number ms k → IsEnd leaf number (ns ++ ms) k
+  end-right : (ns ms : List Reached) (k : Connection) → IsConnectionInto leaf number ms k → IsConnectionInto leaf number (ns ++ ms) k
   end-right ns ms k h = (h.0, Contains-append_right ns ms (next.Leaf h.0) h.1, h.2)
 
-  pub takes-more : (ns ms : List Next) (a b d : List Start) (f g h : List Connection) → Takes leaf number ns a b f g → Takes leaf number ms b d g h → Takes leaf number (ns ++ ms) a d f h
+  pub takes-more : (ns ms : List Reached) (a b d : List InstancePort) (f g h : List Connection) → Takes leaf number ns a b f g → Takes leaf number ms b d g h → Takes leaf number (ns ++ ms) a d f h
   takes-more ns ms a b d f g h v w = record {
     seen = gains-trans (IsOn (ns ++ ms)) a b d
         (gains-weaken (IsOn ns) (IsOn (ns ++ ms)) a b (λ s m. Contains-append_left ns ms (next.Start s) m) v.seen)
@@ -134,127 +134,127 @@ module _ (leaf number : ℕ) where
       | inl o ↦ gains-kept (IsOn ms) b d w.seen s (v.seen_all s o)
       | inr o ↦ w.seen_all s o
     ];
-    found = gains-trans (IsEnd leaf number (ns ++ ms)) f g h
-        (gains-weaken (IsEnd leaf number ns) (IsEnd leaf number (ns ++ ms)) f g (end-left ns ms) v.found)
-        (gains-weaken (IsEnd leaf number ms) (IsEnd leaf number (ns ++ ms)) g h (end-right ns ms) w.found);
+    found = gains-trans (IsConnectionInto leaf number (ns ++ ms)) f g h
+        (gains-weaken (IsConnectionInto leaf number ns) (IsConnectionInto leaf number (ns ++ ms)) f g (end-left ns ms) v.found)
+        (gains-weaken (IsConnectionInto leaf number ms) (IsConnectionInto leaf number (ns ++ ms)) g h (end-right ns ms) w.found);
     found_all = λ k m. elim (Contains-append_cases ns ms (next.Leaf m.0) m.1) [
-      | inl o ↦ gains-kept (IsEnd leaf number ms) g h w.found k (v.found_all k (m.0, o, m.2))
+      | inl o ↦ gains-kept (IsConnectionInto leaf number ms) g h w.found k (v.found_all k (m.0, o, m.2))
       | inr o ↦ w.found_all k (m.0, o, m.2)
     ];
   }
 
-  pub takes-next : (one : Use) (ends : List Port) (i : ℕ) (e d : Port) (a b x : List Start) (f g h : List Connection) → i < length ends → e ≡ get_or ends i d →
-      Takes leaf number (nexts one (take i ends)) a b f g → Takes leaf number (next_by one e.owner e.number ∷ []) b x g h → Takes leaf number (nexts one (take (i + 1) ends)) a x f h
+  pub takes-next : (one : Instance) (ends : List ScopePort) (i : ℕ) (e d : ScopePort) (a b x : List InstancePort) (f g h : List Connection) → i < length ends → e ≡ get_or ends i d →
+      Takes leaf number (all_reached one (take i ends)) a b f g → Takes leaf number (reached_by one e.owner e.number ∷ []) b x g h → Takes leaf number (all_reached one (take (i + 1) ends)) a x f h
   takes-next one ends i e d a b x f g h l is v w =
-      subst (λ (ns : List Next). Takes leaf number ns a x f h)
-      (ap (λ (y : Port). nexts one (take i ends) ++ next_by one y.owner y.number ∷ []) is
-      ∙ sym (map_push (λ (y : Port). next_by one y.owner y.number) (take i ends) (get_or ends i d))
-      ∙ ap (nexts one) (sym (take_more ends i d l)))
-      (takes-more (nexts one (take i ends)) (next_by one e.owner e.number ∷ []) a b x f g h v w)
+      subst (λ (ns : List Reached). Takes leaf number ns a x f h)
+      (ap (λ (y : ScopePort). all_reached one (take i ends) ++ reached_by one y.owner y.number ∷ []) is
+      ∙ sym (map_push (λ (y : ScopePort). reached_by one y.owner y.number) (take i ends) (get_or ends i d))
+      ∙ ap (all_reached one) (sym (take_more ends i d l)))
+      (takes-more (all_reached one (take i ends)) (reached_by one e.owner e.number ∷ []) a b x f g h v w)
 
-module _ (uses : List Use) (indices : List Index) where
-  module _ (s : Start) (one : Use) (index : Index) (there : slice_get uses s.within ≡ Some one) (index_there : slice_get indices one.scope ≡ Some index) where
-    step-of : (n : Next) → Contains (nexts one (ends_in index.ends.entries s.port)) n → StepsTo uses indices s n
+module _ (instances : List Instance) (indices : List ConnectionIndex) where
+  module _ (s : InstancePort) (one : Instance) (index : ConnectionIndex) (there : slice_get instances s.within ≡ Some one) (index_there : slice_get indices one.scope ≡ Some index) where
+    step-of : (n : Reached) → Contains (all_reached one (ends_in index.ends.entries s.port)) n → StepsTo instances indices s n
     step-of n h =
-        let r = contains-map (λ (e : Port). next_by one e.owner e.number) (ends_in index.ends.entries s.port) n h in
+        let r = contains-map (λ (e : ScopePort). reached_by one e.owner e.number) (ends_in index.ends.entries s.port) n h in
         record { used = one; used_there = there; index = index; index_there = index_there; to = r.0; joined = r.1; is = sym r.2 }
 
-    of-step : (n : Next) → StepsTo uses indices s n → Contains (nexts one (ends_in index.ends.entries s.port)) n
+    of-step : (n : Reached) → StepsTo instances indices s n → Contains (all_reached one (ends_in index.ends.entries s.port)) n
     of-step n h =
         let p : h.used ≡ one = some_same (sym h.used_there ∙ there) in
-        let q : h.index ≡ index = some_same (sym h.index_there ∙ ap (λ (u : Use). slice_get indices u.scope) p ∙ index_there) in
-        let m : Contains (ends_in index.ends.entries s.port) h.to = subst (λ (x : Index). Contains (ends_in x.ends.entries s.port) h.to) q h.joined in
-        subst (Contains (nexts one (ends_in index.ends.entries s.port))) (ap (λ u. next_by u h.to.owner h.to.number) (sym p) ∙ sym h.is)
-        (map-contains (λ (e : Port). next_by one e.owner e.number) (ends_in index.ends.entries s.port) h.to m)
+        let q : h.index ≡ index = some_same (sym h.index_there ∙ ap (λ (u : Instance). slice_get indices u.scope) p ∙ index_there) in
+        let m : Contains (ends_in index.ends.entries s.port) h.to = subst (λ (x : ConnectionIndex). Contains (ends_in x.ends.entries s.port) h.to) q h.joined in
+        subst (Contains (all_reached one (ends_in index.ends.entries s.port))) (ap (λ u. reached_by u h.to.owner h.to.number) (sym p) ∙ sym h.is)
+        (map-contains (λ (e : ScopePort). reached_by one e.owner e.number) (ends_in index.ends.entries s.port) h.to m)
 
-    pub visits : (leaf number : ℕ) (a b : List Start) (f g : List Connection) → Takes leaf number (nexts one (ends_in index.ends.entries s.port)) a b f g → Visits uses indices s leaf number a b f g
+    pub visits : (leaf number : ℕ) (a b : List InstancePort) (f g : List Connection) → Takes leaf number (all_reached one (ends_in index.ends.entries s.port)) a b f g → Visits instances indices s leaf number a b f g
     visits leaf number a b f g t = record {
-      seen = gains-weaken (IsOn (nexts one (ends_in index.ends.entries s.port))) (λ u. StepsTo uses indices s (next.Start u)) a b (λ u h. step-of (next.Start u) h) t.seen;
+      seen = gains-weaken (IsOn (all_reached one (ends_in index.ends.entries s.port))) (λ u. StepsTo instances indices s (next.Start u)) a b (λ u h. step-of (next.Start u) h) t.seen;
       seen_all = λ u h. t.seen_all u (of-step (next.Start u) h);
-      found = gains-weaken (IsEnd leaf number (nexts one (ends_in index.ends.entries s.port))) (IsAtOnce uses indices s leaf number) f g (λ k h. (h.0, step-of (next.Leaf h.0) h.1, h.2)) t.found;
+      found = gains-weaken (IsConnectionInto leaf number (all_reached one (ends_in index.ends.entries s.port))) (IsAtOnce instances indices s leaf number) f g (λ k h. (h.0, step-of (next.Leaf h.0) h.1, h.2)) t.found;
       found_all = λ k h. t.found_all k (h.0, of-step (next.Leaf h.0) h.1, h.2);
     }
 
-  pub visits-none : (s : Start) (leaf number : ℕ) (a : List Start) (f : List Connection) → ((n : Next) → StepsTo uses indices s n → ⊥) → Visits uses indices s leaf number a a f f
+  pub visits-none : (s : InstancePort) (leaf number : ℕ) (a : List InstancePort) (f : List Connection) → ((n : Reached) → StepsTo instances indices s n → ⊥) → Visits instances indices s leaf number a a f f
   visits-none s leaf number a f none = record {
-    seen = gains-none (λ u. StepsTo uses indices s (next.Start u)) a;
+    seen = gains-none (λ u. StepsTo instances indices s (next.Start u)) a;
     seen_all = λ u h. absurd (none (next.Start u) h);
-    found = gains-none (IsAtOnce uses indices s leaf number) f;
+    found = gains-none (IsAtOnce instances indices s leaf number) f;
     found_all = λ k h. absurd (none (next.Leaf h.0) h.1);
   }
 
-  pub no-use : (s : Start) → slice_get uses s.within ≡ None → (n : Next) → StepsTo uses indices s n → ⊥
+  pub no-use : (s : InstancePort) → slice_get instances s.within ≡ None → (n : Reached) → StepsTo instances indices s n → ⊥
   no-use s e n h = let x = sym e ∙ h.used_there in cc x
 
-  pub no-index : (s : Start) (one : Use) → slice_get uses s.within ≡ Some one → slice_get indices one.scope ≡ None → (n : Next) → StepsTo uses indices s n → ⊥
+  pub no-index : (s : InstancePort) (one : Instance) → slice_get instances s.within ≡ Some one → slice_get indices one.scope ≡ None → (n : Reached) → StepsTo instances indices s n → ⊥
   no-index s one t e n h =
       let p : h.used ≡ one = some_same (sym h.used_there ∙ t) in
-      let x = sym e ∙ ap (λ (u : Use). slice_get indices u.scope) (sym p) ∙ h.index_there in cc x
+      let x = sym e ∙ ap (λ (u : Instance). slice_get indices u.scope) (sym p) ∙ h.index_there in cc x
 
-  module _ (leaf : ℕ) (origin : Start) where
+  module _ (leaf : ℕ) (origin : InstancePort) where
     -- A search from an origin has gone on from the first of the starts that are seen.
-    pub record Goes (seen : List Start) (old found : List Connection) (at : ℕ) : Type 0 where
-      pub leads : (t : Start) → Contains seen t → (i : Input) → Arrives uses indices t i → Arrives uses indices origin i
-      pub gains : Gains (IsFrom uses indices leaf origin) old found
+    pub record Goes (seen : List InstancePort) (old found : List Connection) (at : ℕ) : Type 0 where
+      pub leads : (t : InstancePort) → Contains seen t → (i : FlatInput) → Arrives instances indices t i → Arrives instances indices origin i
+      pub gains : Gains (IsFrom instances indices leaf origin) old found
       pub begins : Contains seen origin
-      pub on : (j : ℕ) (t u : Start) → j < at → slice_get seen j ≡ Some t → StepsTo uses indices t (next.Start u) → Contains seen u
-      pub ends : (j : ℕ) (t : Start) (i : Input) → j < at → slice_get seen j ≡ Some t → StepsTo uses indices t (next.Leaf i) → Contains found (connection leaf origin.port.number i)
+      pub on : (j : ℕ) (t u : InstancePort) → j < at → slice_get seen j ≡ Some t → StepsTo instances indices t (next.Start u) → Contains seen u
+      pub ends : (j : ℕ) (t : InstancePort) (i : FlatInput) → j < at → slice_get seen j ≡ Some t → StepsTo instances indices t (next.Leaf i) → Contains found (connection leaf origin.port.number i)
 
-    pub goes-first : (seen : List Start) (found : List Connection) → seen ≡ insert_key same_start [] origin → Goes seen found found 0
+    pub goes-first : (seen : List InstancePort) (found : List Connection) → seen ≡ insert_key same_start [] origin → Goes seen found found 0
     goes-first seen found e = record {
-      leads = λ t h i a. subst (λ x. Arrives uses indices x i) (sym (contains-single origin t (subst (λ l. Contains l t) e h))) a;
-      gains = gains-none (IsFrom uses indices leaf origin) found;
+      leads = λ t h i a. subst (λ x. Arrives instances indices x i) (sym (contains-single origin t (subst (λ l. Contains l t) e h))) a;
+      gains = gains-none (IsFrom instances indices leaf origin) found;
       begins = subst (λ l. Contains l origin) (sym e) (0, omega arith, refl);
       on = λ j t u l. absurd (omega (arith, l));
       ends = λ j t i l. absurd (omega (arith, l));
     }
 
-    module _ (a b : List Start) (old f g : List Connection) (at : ℕ) (s : Start) (there : slice_get a at ≡ Some s)
-        (v : Visits uses indices s leaf origin.port.number a b f g) (w : Goes a old f at) where
-      leads-next : (t : Start) → Contains b t → (i : Input) → Arrives uses indices t i → Arrives uses indices origin i
+    module _ (a b : List InstancePort) (old f g : List Connection) (at : ℕ) (s : InstancePort) (there : slice_get a at ≡ Some s)
+        (v : Visits instances indices s leaf origin.port.number a b f g) (w : Goes a old f at) where
+      leads-next : (t : InstancePort) → Contains b t → (i : FlatInput) → Arrives instances indices t i → Arrives instances indices origin i
       leads-next t h i r =
-          elim (gains-cases (λ u. StepsTo uses indices s (next.Start u)) a b v.seen t h) [
+          elim (gains-cases (λ u. StepsTo instances indices s (next.Start u)) a b v.seen t h) [
             | inl o ↦ w.leads t o i r
-            | inr o ↦ w.leads s (at-contains a at s there) i (behind s t i o r)
+            | inr o ↦ w.leads s (at-contains a at s there) i (after_connection s t i o r)
           ]
 
-      from-here : (k : Connection) → IsAtOnce uses indices s leaf origin.port.number k → IsFrom uses indices leaf origin k
+      from-here : (k : Connection) → IsAtOnce instances indices s leaf origin.port.number k → IsFrom instances indices leaf origin k
       from-here k h = record { to = h.0; arrives = w.leads s (at-contains a at s there) h.0 (at_once s h.0 h.1); is = h.2 }
 
       -- a start before the next one is an earlier one, or this one
-      earlier : (j : ℕ) (t : Start) → j < at + 1 → slice_get b j ≡ Some t → ((j < at) × (slice_get a j ≡ Some t)) ⊎ (t ≡ s)
+      earlier : (j : ℕ) (t : InstancePort) → j < at + 1 → slice_get b j ≡ Some t → ((j < at) × (slice_get a j ≡ Some t)) ⊎ (t ≡ s)
       earlier j t l h =
           let within = slice_get_within a at s there in
           elim (cases_order j at) [
-            | inl e ↦ inr (some_same (sym h ∙ gains-at (λ u. StepsTo uses indices s (next.Start u)) a b v.seen j (omega (arith, e, within)) ∙ ap (slice_get a) e ∙ there))
-            | inr (inl m) ↦ inl (m, sym (gains-at (λ u. StepsTo uses indices s (next.Start u)) a b v.seen j (omega (arith, m, within))) ∙ h)
+            | inl e ↦ inr (some_same (sym h ∙ gains-at (λ u. StepsTo instances indices s (next.Start u)) a b v.seen j (omega (arith, e, within)) ∙ ap (slice_get a) e ∙ there))
+            | inr (inl m) ↦ inl (m, sym (gains-at (λ u. StepsTo instances indices s (next.Start u)) a b v.seen j (omega (arith, m, within))) ∙ h)
             | inr (inr m) ↦ absurd (omega (arith, l, m))
           ]
 
       pub goes-next : Goes b old g (at + 1)
       goes-next = record {
         leads = leads-next;
-        gains = gains-trans (IsFrom uses indices leaf origin) old f g w.gains
-            (gains-weaken (IsAtOnce uses indices s leaf origin.port.number) (IsFrom uses indices leaf origin) f g from-here v.found);
-        begins = gains-kept (λ u. StepsTo uses indices s (next.Start u)) a b v.seen origin w.begins;
+        gains = gains-trans (IsFrom instances indices leaf origin) old f g w.gains
+            (gains-weaken (IsAtOnce instances indices s leaf origin.port.number) (IsFrom instances indices leaf origin) f g from-here v.found);
+        begins = gains-kept (λ u. StepsTo instances indices s (next.Start u)) a b v.seen origin w.begins;
         on = λ j t u l h st. elim (earlier j t l h) [
-          | inl o ↦ gains-kept (λ u. StepsTo uses indices s (next.Start u)) a b v.seen u (w.on j t u o.0 o.1 st)
-          | inr e ↦ v.seen_all u (subst (λ x. StepsTo uses indices x (next.Start u)) e st)
+          | inl o ↦ gains-kept (λ u. StepsTo instances indices s (next.Start u)) a b v.seen u (w.on j t u o.0 o.1 st)
+          | inr e ↦ v.seen_all u (subst (λ x. StepsTo instances indices x (next.Start u)) e st)
         ];
         ends = λ j t i l h st. elim (earlier j t l h) [
-          | inl o ↦ gains-kept (IsAtOnce uses indices s leaf origin.port.number) f g v.found (connection leaf origin.port.number i) (w.ends j t i o.0 o.1 st)
-          | inr e ↦ v.found_all (connection leaf origin.port.number i) (i, subst (λ x. StepsTo uses indices x (next.Leaf i)) e st, refl)
+          | inl o ↦ gains-kept (IsAtOnce instances indices s leaf origin.port.number) f g v.found (connection leaf origin.port.number i) (w.ends j t i o.0 o.1 st)
+          | inr e ↦ v.found_all (connection leaf origin.port.number i) (i, subst (λ x. StepsTo instances indices x (next.Leaf i)) e st, refl)
         ];
       }
 
-    module _ (seen : List Start) (old found : List Connection) (at : ℕ) (w : Goes seen old found at) (done : length seen ≤ at) where
-      arrived : (s : Start) (i : Input) → Contains seen s → Arrives uses indices s i → Contains found (connection leaf origin.port.number i)
+    module _ (seen : List InstancePort) (old found : List Connection) (at : ℕ) (w : Goes seen old found at) (done : length seen ≤ at) where
+      arrived : (s : InstancePort) (i : FlatInput) → Contains seen s → Arrives instances indices s i → Contains found (connection leaf origin.port.number i)
       arrived s i h (at_once _ _ st) =
           let p = contains-at seen s h in
           let l = slice_get_within seen p.0 s p.1 in w.ends p.0 s i (omega (arith, l, done)) p.1 st
-      arrived s i h (behind _ t _ st r) =
+      arrived s i h (after_connection _ t _ st r) =
           let p = contains-at seen s h in
           let l = slice_get_within seen p.0 s p.1 in arrived t i (w.on p.0 s t (omega (arith, l, done)) p.1 st) r
 
-      pub goes-all : HasAll (IsFrom uses indices leaf origin) found
+      pub goes-all : HasAll (IsFrom instances indices leaf origin) found
       goes-all k h = subst (Contains found) (sym h.is) (arrived origin h.to w.begins h.arrives)

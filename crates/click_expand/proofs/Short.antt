@@ -19,8 +19,8 @@ use Rattle.click_text.specs.declared.lexer.Piece.TheVariants as piece
 use Rattle.click_text.specs.Pieces.{span, IsPiece, token_of, Reads, ends, passes, takes, stuck}
 use Rattle.click_text.specs.Grammar.{IsPort, no_port, bracketed, IsString, no_string, string, IsEnd, semicolon, before_close, at_end, IsFormals, last_formal, more_formals, IsHeader, no_header, header, IsNames, last_name, more_names, IsBody, braces, IsClass, by_name, by_body, IsHead, word, declared, compound, IsElement, an_element, IsLinks, no_links, more_links, IsStatement, chained, declarations, definition, synonym, requirement, IsStatements, no_more, empty, stated, body}
 use Rattle.click_text.specs.Spelling.{Spells}
-use Rattle.click_expand.specs.Standing.{Each}
-use Rattle.click_expand.specs.Wrongs.{AreShort}
+use Rattle.click_expand.specs.kept.Standing.{Each}
+use Rattle.click_expand.specs.kept.FirstFault.{AreShort}
 use Rattle.click_expand.proofs.Keeping.{each-append}
 
 -- an open brace begins before the end of a text of that many bytes

@@ -10,18 +10,18 @@ use Rattle.click_text.specs.declared.syntax.Statement.{Statement}
 use Rattle.click_text.specs.declared.syntax.Statement.TheVariants as statement
 use Rattle.click_text.specs.Spans.{bytes_at}
 use Rattle.click_expand.specs.Classes.{Meaning, compound, meaning, primitive_of}
-use Rattle.click_expand.specs.Tables.{meaning_by, IsBelow, IsShown, Shows, entry_found, entry_from, first_names, second_names, third_names}
-use Rattle.click_expand.specs.declared.classes.Entry.{Entry}
+use Rattle.click_expand.specs.kept.Tables.{meaning_by, IsBelow, IsShown, Shows, entry_found, entry_from, first_names, second_names, third_names}
+use Rattle.click_expand.specs.declared.classes.ClassEntry.{ClassEntry}
 
 any_append : {X : Type 0} (p : X → Bool) (xs ys : List X) → list_any p (xs ++ ys) ≡ (list_any p xs || list_any p ys)
 any_append p [] ys = refl
 any_append p (x ∷ xs) ys = elim (p x) as (λ b. (b || list_any p (xs ++ ys)) ≡ ((b || list_any p xs) || list_any p ys)) [ true ↦ refl | false ↦ any_append p xs ys ]
 
-abbrev place_of : Option (ℕ × Entry) → ℕ → ℕ
+abbrev place_of : Option (ℕ × ClassEntry) → ℕ → ℕ
 place_of None d = d
 place_of (Some x) d = x.0
 
-abbrev entry_part : Option (ℕ × Entry) → Option Entry
+abbrev entry_part : Option (ℕ × ClassEntry) → Option ClassEntry
 entry_part None = None
 entry_part (Some x) = Some x.1
 
@@ -42,18 +42,18 @@ any_third w h k = any_class w ∙ ap (λ b. b || (list_any (bytes_eq w) second_n
 some_same : {X : Type 0} {x y : X} → Some x ≡ Some y → x ≡ y
 some_same h = cc h
 
-pub found-entry : (entries : List Entry) (at : Option ℕ) (limit : ℕ) (i : ℕ) (e : Entry) → Some (i, e) ≡ entry_from entries at limit →
+pub found-entry : (entries : List ClassEntry) (at : Option ℕ) (limit : ℕ) (i : ℕ) (e : ClassEntry) → Some (i, e) ≡ entry_from entries at limit →
     (i < limit) × (at ≡ Some i) × (slice_get entries i ≡ Some e)
 found-entry entries None limit i e h = absurd (cc h)
 found-entry entries (Some j) limit i e h = by_test (nat_lt j limit) refl (slice_get entries j) refl h
   where
-    by_test : (t : Bool) → nat_lt j limit ≡ t → (o : Option Entry) → slice_get entries j ≡ o → Some (i, e) ≡ cond t (entry_found j o) None →
+    by_test : (t : Bool) → nat_lt j limit ≡ t → (o : Option ClassEntry) → slice_get entries j ≡ o → Some (i, e) ≡ cond t (entry_found j o) None →
         (i < limit) × (Some j ≡ Some i) × (slice_get entries i ≡ Some e)
     by_test true t None q h = absurd (cc h)
     by_test true t (Some d) q h =
-        let same : j ≡ i = ap (λ (x : Option (ℕ × Entry)). place_of x j) (sym h) in
+        let same : j ≡ i = ap (λ (x : Option (ℕ × ClassEntry)). place_of x j) (sym h) in
         let lt : j < limit = ltb-true j limit t in
-        (subst (λ k. k < limit) same lt, ap Some same, ap (slice_get entries) (sym same) ∙ q ∙ ap (λ (x : Option (ℕ × Entry)). entry_part x) (sym h))
+        (subst (λ k. k < limit) same lt, ap Some same, ap (slice_get entries) (sym same) ∙ q ∙ ap (λ (x : Option (ℕ × ClassEntry)). entry_part x) (sym h))
     by_test false t o q h = absurd (cc h)
 
 module _ (text : List ℕ) where
@@ -83,8 +83,8 @@ module _ (text : List ℕ) where
   unfolding meaning
   meaning-synonym n d older w = refl
 
-  module _ (entries : List Entry) where
-    -- behind no definition a word means what it means before the text
+  module _ (entries : List ClassEntry) where
+    -- after no definition a word means what it means before the text
     pub found-nothing : (vs : List Statement) (w : List ℕ) → Shows text entries None vs → meaning text vs w ≡ primitive_of w
     found-nothing [] w h = meaning-nil w
     found-nothing (statement.Chain k ∷ vs) w h = meaning-chain k vs w ∙ found-nothing vs w h
@@ -95,7 +95,7 @@ module _ (text : List ℕ) where
 
     -- what stands at a place, and what is visible before it
     pub record Found (i : ℕ) (vs : List Statement) (w : List ℕ) : Type 0 where
-      pub entry : Entry
+      pub entry : ClassEntry
       pub there : slice_get entries i ≡ Some entry
       pub before : List Statement
       pub shows : Shows text entries entry.older before
@@ -136,7 +136,7 @@ module _ (text : List ℕ) where
     shown-below (Some i) vs h = let f = found i vs [] h in slice_get_within entries i f.entry f.there
 
     -- one definition further
-    pub found-older : (at : Option ℕ) (limit : ℕ) (i : ℕ) (e : Entry) (vs : List Statement) (w : List ℕ) → Some (i, e) ≡ entry_from entries at limit →
+    pub found-older : (at : Option ℕ) (limit : ℕ) (i : ℕ) (e : ClassEntry) (vs : List Statement) (w : List ℕ) → Some (i, e) ≡ entry_from entries at limit →
         Shows text entries at vs →
         (before : List Statement) × Shows text entries e.older before × IsBelow e.older i
         × (meaning text vs w ≡ cond (bytes_eq (bytes_at text e.name) w) (meaning_by text e.class) (meaning text before w))
@@ -145,9 +145,9 @@ module _ (text : List ℕ) where
         let f = found i vs w (subst (λ t. Shows text entries t vs) r.1 s) in
         let same : f.entry ≡ e = some_same (sym f.there ∙ r.2) in (
           f.before,
-          subst (λ (x : Entry). Shows text entries x.older f.before) same f.shows,
-          subst (λ (x : Entry). IsBelow x.older i) same f.below,
-          subst (λ (x : Entry). meaning text vs w ≡ cond (bytes_eq (bytes_at text x.name) w) (meaning_by text x.class) (meaning text f.before w)) same f.means,
+          subst (λ (x : ClassEntry). Shows text entries x.older f.before) same f.shows,
+          subst (λ (x : ClassEntry). IsBelow x.older i) same f.below,
+          subst (λ (x : ClassEntry). meaning text vs w ≡ cond (bytes_eq (bytes_at text x.name) w) (meaning_by text x.class) (meaning text f.before w)) same f.means,
         )
 
     pub found-end : (at : Option ℕ) (limit : ℕ) (vs : List Statement) (w : List ℕ) → Shows text entries at vs → IsBelow at limit →

@@ -9,47 +9,47 @@ use Rattle.std.proofs.lemmas.Option.{slice_get_within}
 use Rattle.std.proofs.lemmas.List.Elements.{Contains-push, Contains-push_cases, Contains-append_left}
 use Rattle.indexmap.specs.IndexSet.{insert_key}
 use Rattle.indexmap.proofs.CallerLemmas.{Contains-insert_key}
-use Rattle.click_expand.specs.declared.members.Local.{Local as LocalKept}
-use Rattle.click_expand.specs.declared.joints.Owner.TheVariants as owner
-use Rattle.click_expand.specs.declared.starts.Port.{Port}
-use Rattle.click_expand.specs.Wiring.{port, same_port, ends_by, ends_in, Gains}
-use Rattle.click_expand.specs.Through.{local_body, scope_body, body_at, LeadsThrough, StandsIn, same, alike, AreStoodFor, AreEndsOf}
-use Rattle.click_expand.specs.contracts.starts.PortPartialEq.TheImpl as ports
+use Rattle.click_expand.specs.declared.scope_elements.Local.{Local as LocalKept}
+use Rattle.click_expand.specs.declared.written_connections.Owner.TheVariants as owner
+use Rattle.click_expand.specs.declared.connection_index.ScopePort.{ScopePort}
+use Rattle.click_expand.specs.kept.Wiring.{scope_port, same_port, ends_or_none, ends_in, Gains}
+use Rattle.click_expand.specs.kept.Passthrough.{local_body, scope_body, body_at, LeadsThrough, StandsIn, same, alike, AreStoodFor, AreEndsOf}
+use Rattle.click_expand.specs.contracts.connection_index.ScopePortPartialEq.TheImpl as ports
 use Rattle.click_expand.proofs.Chains.{some_same}
 use Rattle.click_expand.proofs.Derived.{port-eq}
 use Rattle.click_expand.proofs.Indexing.{port-exact, port-same, key-at}
 use Rattle.click_expand.proofs.Searching.{gains-insert, gains-kept, gains-cases}
 
 -- a map at which a value was put, by the test of the definitions
-pub changed-by : (old new : List (Port × Vec Port Global)) (p : Port) (v : Vec Port Global) → ((q : Port) → lookup (ports.ghosts.eq q) new ≡ cond (ports.ghosts.eq p q) (Some v) (lookup (ports.ghosts.eq q) old)) →
-    (q : Port) → lookup (same_port q) new ≡ cond (same_port p q) (Some v) (lookup (same_port q) old)
-changed-by old new p v h q = subst (λ (e : Port → Port → Bool). lookup (e q) new ≡ cond (e p q) (Some v) (lookup (e q) old)) port-eq (h q)
+pub changed-by : (old new : List (ScopePort × Vec ScopePort Global)) (p : ScopePort) (v : Vec ScopePort Global) → ((q : ScopePort) → lookup (ports.ghosts.eq q) new ≡ cond (ports.ghosts.eq p q) (Some v) (lookup (ports.ghosts.eq q) old)) →
+    (q : ScopePort) → lookup (same_port q) new ≡ cond (same_port p q) (Some v) (lookup (same_port q) old)
+changed-by old new p v h q = subst (λ (e : ScopePort → ScopePort → Bool). lookup (e q) new ≡ cond (e p q) (Some v) (lookup (e q) old)) port-eq (h q)
 
 -- what ports are at a port once some are put at another: those, or what was there
-pub changed-at : (old new : List (Port × Vec Port Global)) (p : Port) (v : Vec Port Global) → ((q : Port) → lookup (same_port q) new ≡ cond (same_port p q) (Some v) (lookup (same_port q) old)) → (q : Port) →
+pub changed-at : (old new : List (ScopePort × Vec ScopePort Global)) (p : ScopePort) (v : Vec ScopePort Global) → ((q : ScopePort) → lookup (same_port q) new ≡ cond (same_port p q) (Some v) (lookup (same_port q) old)) → (q : ScopePort) →
     ((q ≡ p) × (ends_in new q ≡ v.items)) ⊎ (ends_in new q ≡ ends_in old q)
 changed-at old new p v changed q =
     elim (cases_Bool (same_port p q)) [
-      | inl t ↦ inl (sym (port-exact p q t), ap ends_by (changed q ∙ ap (λ b. cond b (Some v) (lookup (same_port q) old)) t))
-      | inr f ↦ inr (ap ends_by (changed q ∙ ap (λ b. cond b (Some v) (lookup (same_port q) old)) f))
+      | inl t ↦ inl (sym (port-exact p q t), ap ends_or_none (changed q ∙ ap (λ b. cond b (Some v) (lookup (same_port q) old)) t))
+      | inr f ↦ inr (ap ends_or_none (changed q ∙ ap (λ b. cond b (Some v) (lookup (same_port q) old)) f))
     ]
 
-pub changed-here : (old new : List (Port × Vec Port Global)) (p : Port) (v : Vec Port Global) → ((q : Port) → lookup (same_port q) new ≡ cond (same_port p q) (Some v) (lookup (same_port q) old)) → ends_in new p ≡ v.items
-changed-here old new p v changed = ap ends_by (changed p ∙ ap (λ b. cond b (Some v) (lookup (same_port p) old)) (port-same p))
+pub changed-here : (old new : List (ScopePort × Vec ScopePort Global)) (p : ScopePort) (v : Vec ScopePort Global) → ((q : ScopePort) → lookup (same_port q) new ≡ cond (same_port p q) (Some v) (lookup (same_port q) old)) → ends_in new p ≡ v.items
+changed-here old new p v changed = ap ends_or_none (changed p ∙ ap (λ b. cond b (Some v) (lookup (same_port p) old)) (port-same p))
 
-module _ (ends : ℕ → Port → List Port) (body : ℕ → ℕ → Option ℕ) (short : ℕ → Port → List Port) (s : ℕ) where
-  pub stands-number : (p : Port) (i k inner : ℕ) → p.owner ≡ owner.Element i → body s i ≡ Some inner → (k ≡ p.number) ⊎ LeadsThrough ends body inner p.number (short inner (port owner.Input k)) →
-      StandsIn ends body short s p (port p.owner k)
+module _ (ends : ℕ → ScopePort → List ScopePort) (body : ℕ → ℕ → Option ℕ) (short : ℕ → ScopePort → List ScopePort) (s : ℕ) where
+  pub stands-number : (p : ScopePort) (i k inner : ℕ) → p.owner ≡ owner.Element i → body s i ≡ Some inner → (k ≡ p.number) ⊎ LeadsThrough ends body inner p.number (short inner (scope_port owner.Input k)) →
+      StandsIn ends body short s p (scope_port p.owner k)
   stands-number p i k inner is there h =
       elim h [
-        | inl e ↦ subst (λ n. StandsIn ends body short s p (port p.owner n)) (sym e) (same p)
-        | inr l ↦ subst (λ o. StandsIn ends body short s (port o p.number) (port o k)) (sym is) (alike i p.number k inner there l)
+        | inl e ↦ subst (λ n. StandsIn ends body short s p (scope_port p.owner n)) (sym e) (same p)
+        | inr l ↦ subst (λ o. StandsIn ends body short s (scope_port o p.number) (scope_port o k)) (sym is) (alike i p.number k inner there l)
       ]
 
   pub stood-none : AreStoodFor ends body short s [] []
   stood-none = record { each = λ p h. absurd (omega (arith, h.1)); back = λ q h. absurd (omega (arith, h.1)) }
 
-  stood-push : (ps qs new : List Port) (p q : Port) → AreStoodFor ends body short s ps qs → StandsIn ends body short s p q → new ≡ insert_key same_port qs q → AreStoodFor ends body short s (ps ++ p ∷ []) new
+  stood-push : (ps qs new : List ScopePort) (p q : ScopePort) → AreStoodFor ends body short s ps qs → StandsIn ends body short s p q → new ≡ insert_key same_port qs q → AreStoodFor ends body short s (ps ++ p ∷ []) new
   stood-push ps qs new p q h st e =
       let g : Gains (λ x. x ≡ q) qs new = gains-insert (λ x. x ≡ q) same_port qs new q e refl in
       record {
@@ -63,33 +63,33 @@ module _ (ends : ℕ → Port → List Port) (body : ℕ → ℕ → Option ℕ)
         ];
       }
 
-  pub stood-next : (ps qs new : List Port) (i : ℕ) (p d q : Port) → i < length ps → p ≡ get_or ps i d → AreStoodFor ends body short s (take i ps) qs → StandsIn ends body short s p q →
+  pub stood-next : (ps qs new : List ScopePort) (i : ℕ) (p d q : ScopePort) → i < length ps → p ≡ get_or ps i d → AreStoodFor ends body short s (take i ps) qs → StandsIn ends body short s p q →
       new ≡ insert_key same_port qs q → AreStoodFor ends body short s (take (i + 1) ps) new
   stood-next ps qs new i p d q l is h st e =
       subst (λ xs. AreStoodFor ends body short s xs new) (ap (λ x. take i ps ++ x ∷ []) is ∙ sym (take_more ps i d l)) (stood-push (take i ps) qs new p q h st e)
 
-  module _ (raw : List (Port × Vec Port Global)) where
+  module _ (raw : List (ScopePort × Vec ScopePort Global)) where
     -- Below a place, those at the keys of the old index are stood for. At the other ports nothing is yet.
-    pub record Reduces (i : ℕ) (new : List (Port × Vec Port Global)) : Type 0 where
-      pub each : (q : Port) → (ends_in new q ≡ []) ⊎ AreStoodFor ends body short s (ends_in raw q) (ends_in new q)
-      pub all : (j : ℕ) (q : Port) (v : Vec Port Global) → j < i → slice_get raw j ≡ Some (q, v) → AreStoodFor ends body short s (ends_in raw q) (ends_in new q)
+    pub record Reduces (i : ℕ) (new : List (ScopePort × Vec ScopePort Global)) : Type 0 where
+      pub each : (q : ScopePort) → (ends_in new q ≡ []) ⊎ AreStoodFor ends body short s (ends_in raw q) (ends_in new q)
+      pub all : (j : ℕ) (q : ScopePort) (v : Vec ScopePort Global) → j < i → slice_get raw j ≡ Some (q, v) → AreStoodFor ends body short s (ends_in raw q) (ends_in new q)
 
-    module _ (i : ℕ) (old new : List (Port × Vec Port Global)) (p : Port) (v w : Vec Port Global) (there : slice_get raw i ≡ Some (p, w)) (stood : AreStoodFor ends body short s (ends_in raw p) v.items)
-        (changed : (q : Port) → lookup (same_port q) new ≡ cond (same_port p q) (Some v) (lookup (same_port q) old)) (h : Reduces i old) where
-      put : (q : Port) → q ≡ p → ends_in new q ≡ v.items → AreStoodFor ends body short s (ends_in raw q) (ends_in new q)
+    module _ (i : ℕ) (old new : List (ScopePort × Vec ScopePort Global)) (p : ScopePort) (v w : Vec ScopePort Global) (there : slice_get raw i ≡ Some (p, w)) (stood : AreStoodFor ends body short s (ends_in raw p) v.items)
+        (changed : (q : ScopePort) → lookup (same_port q) new ≡ cond (same_port p q) (Some v) (lookup (same_port q) old)) (h : Reduces i old) where
+      put : (q : ScopePort) → q ≡ p → ends_in new q ≡ v.items → AreStoodFor ends body short s (ends_in raw q) (ends_in new q)
       put q e is = subst (AreStoodFor ends body short s (ends_in raw q)) (sym is) (subst (λ x. AreStoodFor ends body short s (ends_in raw x) v.items) (sym e) stood)
 
-      kept : (q : Port) → ends_in new q ≡ ends_in old q → AreStoodFor ends body short s (ends_in raw q) (ends_in old q) → AreStoodFor ends body short s (ends_in raw q) (ends_in new q)
+      kept : (q : ScopePort) → ends_in new q ≡ ends_in old q → AreStoodFor ends body short s (ends_in raw q) (ends_in old q) → AreStoodFor ends body short s (ends_in raw q) (ends_in new q)
       kept q is a = subst (AreStoodFor ends body short s (ends_in raw q)) (sym is) a
 
-      each-more : (q : Port) → (ends_in new q ≡ []) ⊎ AreStoodFor ends body short s (ends_in raw q) (ends_in new q)
+      each-more : (q : ScopePort) → (ends_in new q ≡ []) ⊎ AreStoodFor ends body short s (ends_in raw q) (ends_in new q)
       each-more q =
           elim (changed-at old new p v changed q) [
             | inl c ↦ inr (put q c.0 c.1)
             | inr c ↦ elim (h.each q) [ inl e ↦ inl (c ∙ e) | inr a ↦ inr (kept q c a) ]
           ]
 
-      all-more : (j : ℕ) (q : Port) (u : Vec Port Global) → j < i + 1 → slice_get raw j ≡ Some (q, u) → AreStoodFor ends body short s (ends_in raw q) (ends_in new q)
+      all-more : (j : ℕ) (q : ScopePort) (u : Vec ScopePort Global) → j < i + 1 → slice_get raw j ≡ Some (q, u) → AreStoodFor ends body short s (ends_in raw q) (ends_in new q)
       all-more j q u l at =
           elim (changed-at old new p v changed q) [
             | inl c ↦ put q c.0 c.1
@@ -106,7 +106,7 @@ module _ (ends : ℕ → Port → List Port) (body : ℕ → ℕ → Option ℕ)
       pub reduces-more : Reduces (i + 1) new
       reduces-more = record { each = each-more; all = all-more }
 
-    pub reduces-past : (i : ℕ) (new : List (Port × Vec Port Global)) → None ≡ slice_get raw i → Reduces i new → Reduces (i + 1) new
+    pub reduces-past : (i : ℕ) (new : List (ScopePort × Vec ScopePort Global)) → None ≡ slice_get raw i → Reduces i new → Reduces (i + 1) new
     reduces-past i new none h = record {
       each = h.each;
       all = λ j q v l at. elim (cases_order j i) [
@@ -116,18 +116,18 @@ module _ (ends : ℕ → Port → List Port) (body : ℕ → ℕ → Option ℕ)
       ];
     }
 
-    module _ (i : ℕ) (new : List (Port × Vec Port Global)) (done : length raw ≤ i) (h : Reduces i new) where
-      at-port : (a : Port) → AreStoodFor ends body short s (ends_in raw a) (ends_in new a)
+    module _ (i : ℕ) (new : List (ScopePort × Vec ScopePort Global)) (done : length raw ≤ i) (h : Reduces i new) where
+      at-port : (a : ScopePort) → AreStoodFor ends body short s (ends_in raw a) (ends_in new a)
       at-port a = elim (h.each a) [ inl e ↦ by e (ends_in raw a) refl | inr st ↦ st ]
         where
-          by : ends_in new a ≡ [] → (ps : List Port) → ends_in raw a ≡ ps → AreStoodFor ends body short s (ends_in raw a) (ends_in new a)
+          by : ends_in new a ≡ [] → (ps : List ScopePort) → ends_in raw a ≡ ps → AreStoodFor ends body short s (ends_in raw a) (ends_in new a)
           by e [] r = subst (AreStoodFor ends body short s (ends_in raw a)) (sym e) (subst (λ x. AreStoodFor ends body short s x []) (sym r) stood-none)
           by e (b ∷ bs) r =
               let k = key-at raw a b (subst (λ x. Contains x b) (sym r) (0, omega arith, refl)) in
               let l = slice_get_within raw k.0 (a, k.1) k.2 in
               h.all k.0 a k.1 (omega (arith, l, done)) k.2
 
-      pub reduces-all : ((a : Port) → ends s a ≡ ends_in raw a) → AreEndsOf ends body short s (ends_in new)
+      pub reduces-all : ((a : ScopePort) → ends s a ≡ ends_in raw a) → AreEndsOf ends body short s (ends_in new)
       reduces-all is a = subst (λ x. AreStoodFor ends body short s x (ends_in new a)) (sym (is a)) (at-port a)
 
 -- none of the first elements of a scope stands for a body
@@ -163,7 +163,7 @@ no-bodies-all locals s n ls e l h i =
     outside m = ap (scope_body i) e ∙ ap local_body (beyond ls.items i m)
 
 -- each port may stand for itself
-pub stood-same : (ends : ℕ → Port → List Port) (body : ℕ → ℕ → Option ℕ) (short : ℕ → Port → List Port) (s : ℕ) (ps qs : List Port) → ps ≡ qs → AreStoodFor ends body short s ps qs
+pub stood-same : (ends : ℕ → ScopePort → List ScopePort) (body : ℕ → ℕ → Option ℕ) (short : ℕ → ScopePort → List ScopePort) (s : ℕ) (ps qs : List ScopePort) → ps ≡ qs → AreStoodFor ends body short s ps qs
 stood-same ends body short s ps qs e = record {
   each = λ p h. (p, subst (λ z. Contains z p) e h, same p);
   back = λ q h. (q, subst (λ z. Contains z q) (sym e) h, same q);

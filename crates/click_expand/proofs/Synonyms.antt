@@ -11,11 +11,11 @@ use Rattle.click_text.specs.declared.syntax.Statement.TheVariants as statement
 use Rattle.click_text.specs.Spans.{bytes_at}
 use Rattle.click_expand.specs.Classes.{Meaning, meaning}
 use Rattle.click_expand.specs.Faults.{port_number}
-use Rattle.click_expand.specs.Tables.{meaning_by, Shows, IsEntry, IsMore}
-use Rattle.click_expand.specs.Scoped.{ports_of, ports_in}
-use Rattle.click_expand.specs.Standing.{kept_link, kept_name, kept_elements, written_ports, IsDefined, HasSynonym, IsSynonymAmong, AddsSynonyms}
-use Rattle.click_expand.specs.declared.classes.Entry.{Entry}
-use Rattle.click_expand.specs.declared.scopes.Written.{Written}
+use Rattle.click_expand.specs.kept.Tables.{meaning_by, Shows, IsEntry, IsMore}
+use Rattle.click_expand.specs.kept.Scoped.{ports_of, ports_in}
+use Rattle.click_expand.specs.kept.Standing.{kept_link, kept_name, kept_elements, written_ports, IsDefined, HasSynonym, IsSynonymAmong, AddsSynonyms}
+use Rattle.click_expand.specs.declared.classes.ClassEntry.{ClassEntry}
+use Rattle.click_expand.specs.declared.scopes.WrittenElement.{WrittenElement}
 use Rattle.click_expand.proofs.Keeping.{slice_get-more, slice_get-last}
 
 ports-links : (top : Option ℕ) (ls : List Link) → written_ports (map (λ l. kept_link top l) ls) ≡ map (λ (l : Link). Some (port_number l.from, port_number l.to)) ls
@@ -33,18 +33,18 @@ ports-statement top (statement.Definition n b) = refl
 ports-statement top (statement.Synonym n d) = refl
 ports-statement top (statement.Requirement t) = refl
 
-pub ports-next : (ws vs : List Written) (top : Option ℕ) (all : List Statement) (i : ℕ) (d st : Statement) → i < length all → st ≡ get_or all i d → vs ≡ ws ++ kept_elements top st →
+pub ports-next : (ws vs : List WrittenElement) (top : Option ℕ) (all : List Statement) (i : ℕ) (d st : Statement) → i < length all → st ≡ get_or all i d → vs ≡ ws ++ kept_elements top st →
     written_ports ws ++ ports_in (drop i all) ≡ ports_in all → written_ports vs ++ ports_in (drop (i + 1) all) ≡ ports_in all
 ports-next ws vs top all i d st l is w h =
     let rest = ports_in (drop (i + 1) all) in
     ap (λ x. written_ports x ++ rest) w
-    ∙ ap (λ x. x ++ rest) (map-append (λ (x : Written). x.ports) ws (kept_elements top st) ∙ ap (λ x. written_ports ws ++ x) (ports-statement top st))
+    ∙ ap (λ x. x ++ rest) (map-append (λ (x : WrittenElement). x.ports) ws (kept_elements top st) ∙ ap (λ x. written_ports ws ++ x) (ports-statement top st))
     ∙ append_assoc (written_ports ws) (ports_of st) rest
     ∙ ap (λ (x : Statement). written_ports ws ++ (ports_of x ++ rest)) is
     ∙ ap (λ x. written_ports ws ++ x) (sym (at_drop_more ports_in all i d l))
     ∙ h
 
-pub ports-all : (ws : List Written) (all : List Statement) (i : ℕ) → length all ≤ i → written_ports ws ++ ports_in (drop i all) ≡ ports_in all → written_ports ws ≡ ports_in all
+pub ports-all : (ws : List WrittenElement) (all : List Statement) (i : ℕ) → length all ≤ i → written_ports ws ++ ports_in (drop i all) ≡ ports_in all → written_ports ws ≡ ports_in all
 ports-all ws all i l h = sym (append-nil (written_ports ws)) ∙ ap (λ x. written_ports ws ++ x) (sym (at_drop_all ports_in all i l)) ∙ h
 
 -- a list is split at one length in one way
@@ -59,7 +59,7 @@ split-same (x ∷ xs) (u ∷ us) ys vs a b e l =
     (ap (λ y. y ∷ xs) h ∙ ap (λ y. u ∷ y) r.0, r.1)
 
 -- what stands in a list with one more, or none
-added-cases : (es : List Entry) (o : Option Entry) (j : ℕ) (e : Entry) → slice_get (es ++ cons_option o []) j ≡ Some e → (slice_get es j ≡ Some e) ⊎ (o ≡ Some e)
+added-cases : (es : List ClassEntry) (o : Option ClassEntry) (j : ℕ) (e : ClassEntry) → slice_get (es ++ cons_option o []) j ≡ Some e → (slice_get es j ≡ Some e) ⊎ (o ≡ Some e)
 added-cases [] None j e h = absurd (cc h)
 added-cases [] (Some x) zero e h = inr h
 added-cases [] (Some x) (suc j) e h = absurd (cc h)
@@ -69,7 +69,7 @@ added-cases (y ∷ es) o (suc j) e h = added-cases es o j e h
 some_same : {X : Type 0} {x y : X} → Some x ≡ Some y → x ≡ y
 some_same h = cc h
 
-pub synonym-grown : (text : List ℕ) (es new : List Entry) (w : Span) (m : Option Meaning) → IsMore es new → HasSynonym text es w m → HasSynonym text new w m
+pub synonym-grown : (text : List ℕ) (es new : List ClassEntry) (w : Span) (m : Option Meaning) → IsMore es new → HasSynonym text es w m → HasSynonym text new w m
 synonym-grown text es new w m g h = record {
   place = h.place;
   entry = h.entry;
@@ -80,7 +80,7 @@ synonym-grown text es new w m g h = record {
 
 module _ (text : List ℕ) (vs : List Statement) (top : Option ℕ) where
   -- a definition with an original is a synonym
-  entry-synonym : (st : Statement) (e : Entry) (w : Span) → IsEntry text vs top st (Some e) → e.original ≡ Some w →
+  entry-synonym : (st : Statement) (e : ClassEntry) (w : Span) → IsEntry text vs top st (Some e) → e.original ≡ Some w →
       (n : Span) × (st ≡ statement.Synonym n w) × (meaning_by text e.class ≡ meaning text vs (bytes_at text w))
   entry-synonym (statement.Chain k) e w d o = absurd d
   entry-synonym (statement.Declaration k) e w d o = absurd d
@@ -90,23 +90,23 @@ module _ (text : List ℕ) (vs : List Statement) (top : Option ℕ) where
       (n, ap (λ x. statement.Synonym n x) same, d.1 ∙ ap (λ x. meaning text vs (bytes_at text x)) same)
   entry-synonym (statement.Requirement t) e w d o = absurd d
 
-  synonym-entry : (n w : Span) (o : Option Entry) → IsEntry text vs top (statement.Synonym n w) o →
-      (e : Entry) × (o ≡ Some e) × (e.original ≡ Some w) × (meaning_by text e.class ≡ meaning text vs (bytes_at text w))
+  synonym-entry : (n w : Span) (o : Option ClassEntry) → IsEntry text vs top (statement.Synonym n w) o →
+      (e : ClassEntry) × (o ≡ Some e) × (e.original ≡ Some w) × (meaning_by text e.class ≡ meaning text vs (bytes_at text w))
   synonym-entry n w None d = absurd d
   synonym-entry n w (Some e) d = (e, refl, d.3, d.1)
 
 -- The synonyms among the first of these statements are among the definitions, and no others are added.
-pub record Renamed (text : List ℕ) (visible : List Statement) (old new : List Entry) (i : ℕ) (all : List Statement) : Type 0 where
-  pub sound : (j : ℕ) (e : Entry) (w : Span) → slice_get new j ≡ Some e → e.original ≡ Some w →
+pub record Renamed (text : List ℕ) (visible : List Statement) (old new : List ClassEntry) (i : ℕ) (all : List Statement) : Type 0 where
+  pub sound : (j : ℕ) (e : ClassEntry) (w : Span) → slice_get new j ≡ Some e → e.original ≡ Some w →
       (slice_get old j ≡ Some e) ⊎ IsSynonymAmong text visible all w (meaning_by text e.class)
   pub complete : (before after : List Statement) (n w : Span) → all ≡ before ++ statement.Synonym n w ∷ after → length before < i →
       HasSynonym text new w (meaning text (reverse before ++ visible) (bytes_at text w))
 
 module _ (text : List ℕ) (visible : List Statement) where
-  pub renamed-first : (es : List Entry) (all : List Statement) → Renamed text visible es es 0 all
+  pub renamed-first : (es : List ClassEntry) (all : List Statement) → Renamed text visible es es 0 all
   renamed-first es all = record { sound = λ j e w t o. inl t; complete = λ before after n w s l. absurd (omega (arith, l)) }
 
-  synonym-last : (es new : List Entry) (top : Option ℕ) (seen : List Statement) (n w : Span) → IsDefined text (reverse seen ++ visible) top (statement.Synonym n w) es new →
+  synonym-last : (es new : List ClassEntry) (top : Option ℕ) (seen : List Statement) (n w : Span) → IsDefined text (reverse seen ++ visible) top (statement.Synonym n w) es new →
       HasSynonym text new w (meaning text (reverse seen ++ visible) (bytes_at text w))
   synonym-last es new top seen n w d =
       let r = synonym-entry text (reverse seen ++ visible) top n w d.entry d.is in
@@ -118,7 +118,7 @@ module _ (text : List ℕ) (visible : List Statement) where
         class = r.3;
       }
 
-  pub renamed-next : (old es new : List Entry) (top : Option ℕ) (all : List Statement) (i : ℕ) (d st : Statement) → i < length all → st ≡ get_or all i d →
+  pub renamed-next : (old es new : List ClassEntry) (top : Option ℕ) (all : List Statement) (i : ℕ) (d st : Statement) → i < length all → st ≡ get_or all i d →
       Shows text es top (reverse (take i all) ++ visible) → ((ss : List Statement) → Shows text es top ss → IsDefined text ss top st es new) →
       Renamed text visible old es i all → Renamed text visible old new (i + 1) all
   renamed-next old es new top all i d st l is s f k =
@@ -150,7 +150,7 @@ module _ (text : List ℕ) (visible : List Statement) where
         ];
       }
 
-  pub renamed-all : (old new : List Entry) (all : List Statement) (i : ℕ) → length all ≤ i → Renamed text visible old new i all → AddsSynonyms text visible all old new
+  pub renamed-all : (old new : List ClassEntry) (all : List Statement) (i : ℕ) → length all ≤ i → Renamed text visible old new i all → AddsSynonyms text visible all old new
   renamed-all old new all i l k = record {
     sound = k.sound;
     complete = λ before after n w e. k.complete before after n w e (let t = ap length e ∙ length-append before (statement.Synonym n w ∷ after) in omega (arith, t, l));

@@ -11,18 +11,18 @@ use Rattle.click_expand.specs.Elements.{Local}
 use Rattle.click_expand.specs.Faults.{first_token}
 use Rattle.click_expand.specs.Instances.{Leaf}
 use Rattle.click_expand.specs.Flat.{AreDistinct, is_whole, flat_name, flat_names, flat_element}
-use Rattle.click_expand.specs.Found.{names_in, IsRepeated, IsBroken}
-use Rattle.click_expand.specs.Tables.{local_of}
-use Rattle.click_expand.specs.Wrongs.{first_in}
-use Rattle.click_expand.specs.Located.{AreAllLocals}
-use Rattle.click_expand.specs.Uses.{Used, locals_at, AreUses}
-use Rattle.click_expand.specs.Tabled.{local_head, scope_head, use_head, place_head, head_in, IsRefusedOf}
+use Rattle.click_expand.specs.kept.FinalChecks.{flat_names_in, IsRepeated, IsBroken}
+use Rattle.click_expand.specs.kept.Tables.{local_of}
+use Rattle.click_expand.specs.kept.FirstFault.{first_in}
+use Rattle.click_expand.specs.kept.ScopeElements.{AreAllLocals}
+use Rattle.click_expand.specs.kept.KnownInstances.{KnownInstance, locals_at, AreInstances}
+use Rattle.click_expand.specs.kept.Tabled.{local_head, scope_head, use_head, place_head, head_in, IsRefusedOf}
 use Rattle.click_expand.specs.declared.fault.FaultKind.TheVariants as kind
 use Rattle.click_expand.specs.declared.flat.FlatElement.{FlatElement}
-use Rattle.click_expand.specs.declared.flattening.Refused.TheVariants as refused
-use Rattle.click_expand.specs.declared.members.Local.{Local as LocalKept}
-use Rattle.click_expand.specs.declared.uses.Place.{Place}
-use Rattle.click_expand.specs.declared.uses.Use.{Use as UseKept}
+use Rattle.click_expand.specs.declared.flattening.Refusal.TheVariants as refused
+use Rattle.click_expand.specs.declared.scope_elements.Local.{Local as LocalKept}
+use Rattle.click_expand.specs.declared.instances.Place.{Place}
+use Rattle.click_expand.specs.declared.instances.Instance.{Instance as InstanceKept}
 use Rattle.click_expand.proofs.Contained.{at-place}
 
 pub some-at : {X : Type 0} (xs : List X) (n : ℕ) → n < length xs → (x : X) × (slice_get xs n ≡ Some x)
@@ -35,21 +35,21 @@ map-at f [] i y e = absurd (none-some y e)
 map-at f (x ∷ xs) zero y e = (x, refl, same_Some (f x) y e)
 map-at f (x ∷ xs) (suc i) y e = map-at f xs i y e
 
-head-found : (locals : List (Vec LocalKept Global)) (uses : List UseKept) (places : List Place) (n : ℕ) (p : Place) (k : UseKept) (ls : Vec LocalKept Global) (l : LocalKept) →
-    slice_get places n ≡ Some p → slice_get uses p.within ≡ Some k → slice_get locals k.scope ≡ Some ls → slice_get ls.items p.element ≡ Some l →
-    head_in locals uses places n ≡ Some l.head
-head-found locals uses places n p k ls l a b d e =
-    ap (place_head locals uses) a ∙ ap (use_head locals p.element) b ∙ ap (scope_head p.element) d ∙ ap local_head e
+head-found : (locals : List (Vec LocalKept Global)) (instances : List InstanceKept) (places : List Place) (n : ℕ) (p : Place) (k : InstanceKept) (ls : Vec LocalKept Global) (l : LocalKept) →
+    slice_get places n ≡ Some p → slice_get instances p.within ≡ Some k → slice_get locals k.scope ≡ Some ls → slice_get ls.items p.element ≡ Some l →
+    head_in locals instances places n ≡ Some l.head
+head-found locals instances places n p k ls l a b d e =
+    ap (place_head locals instances) a ∙ ap (use_head locals p.element) b ∙ ap (scope_head p.element) d ∙ ap local_head e
 
 -- what a flat element begins with, by the tables
-pub record IsHeaded (c : Config) (locals : List (Vec LocalKept Global)) (uses : List UseKept) (places : List Place) (n : ℕ) (f : Leaf) : Type 0 where
+pub record IsHeaded (c : Config) (locals : List (Vec LocalKept Global)) (instances : List InstanceKept) (places : List Place) (n : ℕ) (f : Leaf) : Type 0 where
   pub head : Head
-  pub there : head_in locals uses places n ≡ Some head
+  pub there : head_in locals instances places n ≡ Some head
   pub first : first_token c head ≡ f.first
 
-pub leaf-head : (c : Config) (locals : List (Vec LocalKept Global)) (uses : List UseKept) (places : List Place) (known : List Used) (leaves : List Leaf) → AreAllLocals c locals →
-    AreUses c uses places known leaves → (n : ℕ) (f : Leaf) → slice_get leaves n ≡ Some f → IsHeaded c locals uses places n f
-leaf-head c locals uses places known leaves all used n f e =
+pub leaf-head : (c : Config) (locals : List (Vec LocalKept Global)) (instances : List InstanceKept) (places : List Place) (known : List KnownInstance) (leaves : List Leaf) → AreAllLocals c locals →
+    AreInstances c instances places known leaves → (n : ℕ) (f : Leaf) → slice_get leaves n ≡ Some f → IsHeaded c locals instances places n f
+leaf-head c locals instances places known leaves all used n f e =
     let p = some-at places n (subst (λ k. n < k) (sym used.as_many_leaves) (slice_get_within leaves n f e)) in
     let r = used.leaf n p.0 p.1 in
     let same : r.0 ≡ f = same_Some r.0 f (sym r.1 ∙ e) in
@@ -60,11 +60,11 @@ leaf-head c locals uses places known leaves all used n f e =
     let m = map-at (local_of c.text) ls.0.items p.0.element g.local (ap (λ zs. slice_get zs p.0.element) (ls.2 ∙ ap (locals_at c) here) ∙ g.local_there) in
     record {
       head = m.0.head;
-      there = head-found locals uses places n p.0 g.use_kept ls.0 m.0 p.1 g.use_there (ap (slice_get locals) u.2.scope ∙ ls.1) m.1;
+      there = head-found locals instances places n p.0 g.use_kept ls.0 m.0 p.1 g.use_there (ap (slice_get locals) u.2.scope ∙ ls.1) m.1;
       first = ap (λ (l : Local). first_token c l.head) m.2 ∙ sym g.first ∙ ap (λ (l : Leaf). l.first) same;
     }
 
-names-of-leaves : (leaves : List Leaf) → names_in (map flat_element leaves) ≡ flat_names leaves
+names-of-leaves : (leaves : List Leaf) → flat_names_in (map flat_element leaves) ≡ flat_names leaves
 names-of-leaves [] = refl
 names-of-leaves (l ∷ leaves) = ap (λ ns. flat_name l.path ∷ ns) (names-of-leaves leaves)
 
@@ -115,15 +115,15 @@ pub repeated-in : (leaves : List Leaf) (es : List FlatElement) (i : ℕ) (t : Sp
     ((f : Leaf) → slice_get leaves i ≡ Some f → t ≡ f.first) → IsRefusedOf leaves (Some (refused.At kind.DeclaredTwice t))
 repeated-in leaves es i t h r first =
     let a = leaf-at leaves es i r.element h r.there in
-    let names : names_in (take i es) ≡ flat_names a.front = ap names_in a.before ∙ names-of-leaves a.front in
+    let names : flat_names_in (take i es) ≡ flat_names a.front = ap flat_names_in a.before ∙ names-of-leaves a.front in
     let name : r.element.name ≡ flat_name a.leaf.path = ap (λ (e : FlatElement). e.name) (sym a.same) in
     (refl, (a.front, a.back, a.leaf, a.splits, subst AreDistinct names r.front, subst (λ n. Contains (flat_names a.front) n) name (subst (λ ns. Contains ns r.element.name) names r.taken), first a.leaf a.there))
 
-pub broken-in : (leaves : List Leaf) (es : List FlatElement) (i : ℕ) (name : List ℕ) → es ≡ map flat_element leaves → AreDistinct (names_in es) → IsBroken es i →
+pub broken-in : (leaves : List Leaf) (es : List FlatElement) (i : ℕ) (name : List ℕ) → es ≡ map flat_element leaves → AreDistinct (flat_names_in es) → IsBroken es i →
     ((e : FlatElement) → slice_get es i ≡ Some e → name ≡ e.name) → IsRefusedOf leaves (Some (refused.Broken name))
 broken-in leaves es i name h d b named =
     let a = leaf-at leaves es i b.element h b.there in (
-      subst AreDistinct (ap names_in h ∙ names-of-leaves leaves) d,
+      subst AreDistinct (ap flat_names_in h ∙ names-of-leaves leaves) d,
       (
         a.front,
         a.back,
@@ -135,10 +135,10 @@ broken-in leaves es i name h d b named =
       ),
     )
 
-pub nothing-in : (leaves : List Leaf) (es : List FlatElement) → es ≡ map flat_element leaves → AreDistinct (names_in es) → All (λ (e : FlatElement). is_whole e.text ≡ true) es →
+pub nothing-in : (leaves : List Leaf) (es : List FlatElement) → es ≡ map flat_element leaves → AreDistinct (flat_names_in es) → All (λ (e : FlatElement). is_whole e.text ≡ true) es →
     IsRefusedOf leaves None
 nothing-in leaves es h d w =
-    (subst AreDistinct (ap names_in h ∙ names-of-leaves leaves) d, whole-leaves leaves (subst (All (λ (e : FlatElement). is_whole e.text ≡ true)) h w))
+    (subst AreDistinct (ap flat_names_in h ∙ names-of-leaves leaves) d, whole-leaves leaves (subst (All (λ (e : FlatElement). is_whole e.text ≡ true)) h w))
 
 first-in : (c : Config) (h : Head) → first_in c.bodies h ≡ first_token c h
 first-in c (head.Word s) = refl

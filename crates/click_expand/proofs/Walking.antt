@@ -13,11 +13,11 @@ use Rattle.click_text.specs.declared.syntax.Body.{Body}
 use Rattle.click_text.specs.declared.syntax.Config.{Config}
 use Rattle.click_expand.specs.Scopes.{Scope, whole, inside, statements_of, Stands, at_top, nested}
 use Rattle.click_expand.specs.Elements.{placed}
-use Rattle.click_expand.specs.Tables.{meaning_by, Shows, AreWritten, IsMore}
-use Rattle.click_expand.specs.Nesting.{direct, Nests, no_bodies, next_body, IsNested}
-use Rattle.click_expand.specs.Standing.{Each, IsRoot, AreRoots, written_ports, HasSynonym, AddsSynonyms}
-use Rattle.click_expand.specs.Scoped.{place_of, outer_of, ports_in, IsScope, AreScopes, IsSynonym, AreSynonyms}
-use Rattle.click_expand.specs.declared.classes.Entry.{Entry}
+use Rattle.click_expand.specs.kept.Tables.{meaning_by, Shows, AreWritten, IsMore}
+use Rattle.click_expand.specs.kept.Nesting.{direct, Nests, no_bodies, next_body, IsNested}
+use Rattle.click_expand.specs.kept.Standing.{Each, IsRoot, AreRoots, written_ports, HasSynonym, AddsSynonyms}
+use Rattle.click_expand.specs.kept.Scoped.{table_place, outer_of, ports_in, IsScope, AreScopes, IsSynonym, AreSynonyms}
+use Rattle.click_expand.specs.declared.classes.ClassEntry.{ClassEntry}
 use Rattle.click_expand.specs.declared.scopes.Root.{Root}
 use Rattle.click_expand.specs.declared.scopes.Scope.{Scope as ScopeKept}
 use Rattle.click_expand.proofs.Keeping.{shows-grown, written-grown, each-append, slice_get-more, slice_get-last}
@@ -47,7 +47,7 @@ nests-last bodies a (x ∷ xs) b z (next_body from c to bs n h k) =
 
 module _ (c : Config) where
   -- A body that is left, and where it stands.
-  pub record IsPending (es : List Entry) (r : Root) : Type 0 where
+  pub record IsPending (es : List ClassEntry) (r : Root) : Type 0 where
     pub visible : List Statement
     pub around : List Scope
     pub stands : Stands c (inside r.body) visible around
@@ -55,16 +55,16 @@ module _ (c : Config) where
     pub outer : r.outer ≡ outer_of c around
 
   -- the synonyms of a scope are among the definitions
-  abbrev pub HasAll : List Entry → Scope → List Statement → Type 0
+  abbrev pub HasAll : List ClassEntry → Scope → List Statement → Type 0
   HasAll es s v = (before after : List Statement) (n w : Span) → statements_of c s ≡ before ++ statement.Synonym n w ∷ after →
       HasSynonym c.text es w (meaning c.text (reverse before ++ v) (bytes_at c.text w))
 
   -- the definitions with an original are synonyms
-  abbrev pub AreSound : List Entry → Type 0
-  AreSound es = (i : ℕ) (e : Entry) (w : Span) → slice_get es i ≡ Some e → e.original ≡ Some w → IsSynonym c w (meaning_by c.text e.class)
+  abbrev pub AreSound : List ClassEntry → Type 0
+  AreSound es = (i : ℕ) (e : ClassEntry) (w : Span) → slice_get es i ≡ Some e → e.original ≡ Some w → IsSynonym c w (meaning_by c.text e.class)
 
   -- A body that is done.
-  pub record IsDone (es : List Entry) (ks : List ScopeKept) (p : ℕ) : Type 0 where
+  pub record IsDone (es : List ClassEntry) (ks : List ScopeKept) (p : ℕ) : Type 0 where
     pub visible : List Statement
     pub around : List Scope
     pub scope : ScopeKept
@@ -74,7 +74,7 @@ module _ (c : Config) where
     pub synonyms : HasAll es (inside p) visible
 
   -- The whole text and all bodies from a place on are done; those that are left stand before it.
-  pub record Walked (es : List Entry) (rs : List Root) (ks : List ScopeKept) : Type 0 where
+  pub record Walked (es : List ClassEntry) (rs : List Root) (ks : List ScopeKept) : Type 0 where
     pub left : ℕ
     pub count : left + length ks ≡ length c.bodies + 1
     pub nests : Nests c.bodies 0 (places rs) left
@@ -86,20 +86,20 @@ module _ (c : Config) where
     pub sound : AreSound es
     pub done : (p : ℕ) → left ≤ p → p < length c.bodies → IsDone es ks p
 
-  pending-grown : (es new : List Entry) (rs : List Root) → IsMore es new → Each (IsPending es) rs → Each (IsPending new) rs
+  pending-grown : (es new : List ClassEntry) (rs : List Root) → IsMore es new → Each (IsPending es) rs → Each (IsPending new) rs
   pending-grown es new [] m h = tt
   pending-grown es new (r ∷ rs) m h = (
     record { visible = h.0.visible; around = h.0.around; stands = h.0.stands; shows = shows-grown c.text es new r.top h.0.visible m h.0.shows; outer = h.0.outer },
     pending-grown es new rs m h.1,
   )
 
-  scope-grown : (es new : List Entry) (s : Scope) (v : List Statement) (a : List Scope) (k : ScopeKept) → IsMore es new → IsScope c es s v a k → IsScope c new s v a k
+  scope-grown : (es new : List ClassEntry) (s : Scope) (v : List Statement) (a : List Scope) (k : ScopeKept) → IsMore es new → IsScope c es s v a k → IsScope c new s v a k
   scope-grown es new s v a k m h = record { written = written-grown c.text es new k.written.items (placed v (statements_of c s)) m h.written; ports = h.ports; outer = h.outer }
 
-  all-grown : (es new : List Entry) (s : Scope) (v : List Statement) → IsMore es new → HasAll es s v → HasAll new s v
+  all-grown : (es new : List ClassEntry) (s : Scope) (v : List Statement) → IsMore es new → HasAll es s v → HasAll new s v
   all-grown es new s v m h = λ before after n w e. synonym-grown c.text es new w (meaning c.text (reverse before ++ v) (bytes_at c.text w)) m (h before after n w e)
 
-  sound-more : (es new : List Entry) (s : Scope) (v : List Statement) (a : List Scope) → Stands c s v a → AddsSynonyms c.text v (statements_of c s) es new → AreSound es → AreSound new
+  sound-more : (es new : List ClassEntry) (s : Scope) (v : List Statement) (a : List Scope) → Stands c s v a → AddsSynonyms c.text v (statements_of c s) es new → AreSound es → AreSound new
   sound-more es new s v a st k h = λ i e w t o. elim (k.sound i e w t o) [
     | inl p ↦ h i e w p o
     | inr p ↦ record {
@@ -118,8 +118,8 @@ module _ (c : Config) where
   sound-none : AreSound []
   sound-none = λ i e w t o. let q : None ≡ Some e = t in absurd (cc q)
 
-  roots-pending : (es : List Entry) (s : Scope) (v : List Statement) (a : List Scope) (rs : List Root) → Stands c s v a →
-      Each (IsRoot c.text es (place_of c s) v (statements_of c s)) rs → Each (IsPending es) rs
+  roots-pending : (es : List ClassEntry) (s : Scope) (v : List Statement) (a : List Scope) (rs : List Root) → Stands c s v a →
+      Each (IsRoot c.text es (table_place c s) v (statements_of c s)) rs → Each (IsPending es) rs
   roots-pending es s v a [] k h = tt
   roots-pending es s v a (r ∷ rs) k h = (
     record {
@@ -132,7 +132,7 @@ module _ (c : Config) where
     roots-pending es s v a rs k h.1,
   )
 
-  pub walked-first : (es : List Entry) (rs : List Root) (k : ScopeKept) → IsNested c → AreWritten c.text es k.written.items (placed [] c.statements) → written_ports k.written.items ≡ ports_in c.statements → k.outer ≡ length c.bodies →
+  pub walked-first : (es : List ClassEntry) (rs : List Root) (k : ScopeKept) → IsNested c → AreWritten c.text es k.written.items (placed [] c.statements) → written_ports k.written.items ≡ ports_in c.statements → k.outer ≡ length c.bodies →
       AreRoots c.text es (length c.bodies) [] c.statements [] rs → AddsSynonyms c.text [] c.statements [] es → Walked es rs (k ∷ [])
   walked-first es rs k n w ports o r y = record {
     left = length c.bodies;
@@ -152,14 +152,14 @@ module _ (c : Config) where
   each-front P (x ∷ xs) y h = let r = each-front P xs y h.1 in ((h.0, r.0), r.1)
 
   -- what is known of the body that is taken
-  pub record IsTaken (es : List Entry) (rs : List Root) (r : Root) (ks : List ScopeKept) : Type 0 where
+  pub record IsTaken (es : List ClassEntry) (rs : List Root) (r : Root) (ks : List ScopeKept) : Type 0 where
     pub pending : IsPending es r
     pub last : LastBody c.bodies 0 (places rs) r.body (r.body + 1)
     pub count : r.body + 1 + length ks ≡ length c.bodies + 1
     pub rest : Each (IsPending es) rs
     pub done : (p : ℕ) → r.body + 1 ≤ p → p < length c.bodies → IsDone es ks p
 
-  pub taken : (es : List Entry) (all rs : List Root) (r : Root) (ks : List ScopeKept) → all ≡ rs ++ r ∷ [] → Walked es all ks → IsTaken es rs r ks
+  pub taken : (es : List ClassEntry) (all rs : List Root) (r : Root) (ks : List ScopeKept) → all ≡ rs ++ r ∷ [] → Walked es all ks → IsTaken es rs r ks
   taken es all rs r ks e w =
       let n : Nests c.bodies 0 (places rs ++ r.body ∷ []) w.left =
       subst (λ x. Nests c.bodies 0 x w.left) (ap places e ∙ map-append (λ (x : Root). x.body) rs (r ∷ [])) w.nests in
@@ -173,7 +173,7 @@ module _ (c : Config) where
         done = λ p q m. w.done p (omega (arith, l.next, q)) m;
       }
 
-  done-grown : (es new : List Entry) (ks ls : List ScopeKept) (k : ScopeKept) (p : ℕ) → ls ≡ ks ++ k ∷ [] → IsMore es new → IsDone es ks p → IsDone new ls p
+  done-grown : (es new : List ClassEntry) (ks ls : List ScopeKept) (k : ScopeKept) (p : ℕ) → ls ≡ ks ++ k ∷ [] → IsMore es new → IsDone es ks p → IsDone new ls p
   done-grown es new ks ls k p e m d = record {
     visible = d.visible;
     around = d.around;
@@ -184,7 +184,7 @@ module _ (c : Config) where
     synonyms = all-grown es new (inside p) d.visible m d.synonyms;
   }
 
-  done-next : (es new : List Entry) (ks ls : List ScopeKept) (k : ScopeKept) (b x : ℕ) → ls ≡ ks ++ k ∷ [] → IsMore es new → IsDone new ls b →
+  done-next : (es new : List ClassEntry) (ks ls : List ScopeKept) (k : ScopeKept) (b x : ℕ) → ls ≡ ks ++ k ∷ [] → IsMore es new → IsDone new ls b →
       ((p : ℕ) → b + 1 ≤ p → p < length c.bodies → IsDone es ks p) → b ≤ x → x < length c.bodies → IsDone new ls x
   done-next es new ks ls k b x e m h f l n =
       elim (cases_order x b) [
@@ -196,7 +196,7 @@ module _ (c : Config) where
   at_end : (b m n : ℕ) → b + 1 + m ≡ n + 1 → n - b ≡ m
   at_end b m n h = omega (arith, h)
 
-  pub walked-next : (es new : List Entry) (all rs more : List Root) (r : Root) (ks ls : List ScopeKept) (k : ScopeKept) → all ≡ rs ++ r ∷ [] → Walked es all ks → IsMore es new →
+  pub walked-next : (es new : List ClassEntry) (all rs more : List Root) (r : Root) (ks ls : List ScopeKept) (k : ScopeKept) → all ≡ rs ++ r ∷ [] → Walked es all ks → IsMore es new →
       ((v : List Statement) → Shows c.text es r.top v → AreWritten c.text new k.written.items (placed v (statements_of c (inside r.body)))) →
       written_ports k.written.items ≡ ports_in (statements_of c (inside r.body)) → k.outer ≡ r.outer →
       ((v : List Statement) → Shows c.text es r.top v → AreRoots c.text new r.body v (statements_of c (inside r.body)) rs more) →
@@ -256,7 +256,7 @@ module _ (c : Config) where
       ∙ ap Some (get_or-reverse xs i d l ∙ ap (λ n. get_or xs n d) k)
       ∙ sym (slice_get-get_or xs j d (omega (arith, e)))
 
-  pub walked-all : (es : List Entry) (rs : List Root) (ks : List ScopeKept) → IsNested c → rs ≡ [] → Walked es rs ks → AreScopes c es (reverse ks)
+  pub walked-all : (es : List ClassEntry) (rs : List Root) (ks : List ScopeKept) → IsNested c → rs ≡ [] → Walked es rs ks → AreScopes c es (reverse ks)
   walked-all es rs ks n e w s v a st = by_scope s st
     where
       none : 0 ≡ w.left
@@ -279,11 +279,11 @@ module _ (c : Config) where
             subst (λ x. IsScope c es (inside p) x a d.scope) (sym o.0) (subst (λ x. IsScope c es (inside p) d.visible x d.scope) (sym o.1) d.is),
           )
 
-      by_scope : (s : Scope) → Stands c s v a → (k : ScopeKept) × (slice_get (reverse ks) (place_of c s) ≡ Some k) × IsScope c es s v a k
+      by_scope : (s : Scope) → Stands c s v a → (k : ScopeKept) × (slice_get (reverse ks) (table_place c s) ≡ Some k) × IsScope c es s v a k
       by_scope whole h = by_whole v a h
       by_scope (inside p) h = by_body p h
 
-  pub walked-synonyms : (es : List Entry) (rs : List Root) (ks : List ScopeKept) → IsNested c → rs ≡ [] → Walked es rs ks → AreSynonyms c es
+  pub walked-synonyms : (es : List ClassEntry) (rs : List Root) (ks : List ScopeKept) → IsNested c → rs ≡ [] → Walked es rs ks → AreSynonyms c es
   walked-synonyms es rs ks n e w = record {
     sound = w.sound;
     complete = λ s v a before after m x st q. let h = by_scope s v a st before after m x q in (h.place, h.entry, h.there, h.is, h.class);
@@ -306,10 +306,10 @@ module _ (c : Config) where
       by_scope (inside p) v a h = by_body p v a h
 
   -- the same for what the code reads
-  pub walk-first : (text : List ℕ) (ss : List Statement) (n : ℕ) (es : List Entry) (rs0 rs : List Root) (ks0 ks : List ScopeKept) (k : ScopeKept) →
+  pub walk-first : (text : List ℕ) (ss : List Statement) (n : ℕ) (es : List ClassEntry) (rs0 rs : List Root) (ks0 ks : List ScopeKept) (k : ScopeKept) →
       ks ≡ ks0 ++ k ∷ [] → ks0 ≡ [] → rs0 ≡ [] → text ≡ c.text → ss ≡ c.statements → n ≡ length c.bodies → IsNested c →
       AreWritten text es k.written.items (placed [] ss) → written_ports k.written.items ≡ ports_in ss → k.outer ≡ n → AreRoots text es n [] ss rs0 rs →
-      (es0 : List Entry) → es0 ≡ [] → AddsSynonyms text [] ss es0 es → Walked es rs ks
+      (es0 : List ClassEntry) → es0 ≡ [] → AddsSynonyms text [] ss es0 es → Walked es rs ks
   walk-first text ss n es rs0 rs ks0 ks k e e0 r0 te se ne is_nested w ports o r es0 y0 y =
       subst (Walked es rs) (sym (e ∙ ap (λ x. x ++ k ∷ []) e0))
       (walked-first es rs k is_nested
@@ -324,7 +324,7 @@ module _ (c : Config) where
       (subst (λ x. AddsSynonyms text [] x [] es) se
       (subst (λ x. AddsSynonyms text [] ss x es) y0 y))))
 
-  pub walk-next : (text : List ℕ) (ss : List Statement) (es new : List Entry) (all rs more : List Root) (r : Root) (ks ls : List ScopeKept) (k : ScopeKept) →
+  pub walk-next : (text : List ℕ) (ss : List Statement) (es new : List ClassEntry) (all rs more : List Root) (r : Root) (ks ls : List ScopeKept) (k : ScopeKept) →
       ls ≡ ks ++ k ∷ [] → all ≡ rs ++ r ∷ [] → text ≡ c.text → ss ≡ statements_of c (inside r.body) → Walked es all ks → IsMore es new →
       ((v : List Statement) → Shows text es r.top v → AreWritten text new k.written.items (placed v ss)) → written_ports k.written.items ≡ ports_in ss → k.outer ≡ r.outer →
       ((v : List Statement) → Shows text es r.top v → AreRoots text new r.body v ss rs more) →

@@ -13,16 +13,16 @@ use Rattle.click_expand.specs.Elements.{Local}
 use Rattle.click_expand.specs.Faults.{scope_locals}
 use Rattle.click_expand.specs.Parameters.{Bindings}
 use Rattle.click_expand.specs.Instances.{Leaf, AreLeaves}
-use Rattle.click_expand.specs.Nesting.{IsNested}
-use Rattle.click_expand.specs.Scoped.{place_of}
-use Rattle.click_expand.specs.Located.{AreAllLocals}
-use Rattle.click_expand.specs.Tables.{meaning_by, local_of}
+use Rattle.click_expand.specs.kept.Nesting.{IsNested}
+use Rattle.click_expand.specs.kept.Scoped.{table_place}
+use Rattle.click_expand.specs.kept.ScopeElements.{AreAllLocals}
+use Rattle.click_expand.specs.kept.Tables.{meaning_by, local_of}
 use Rattle.click_expand.specs.Flat.{most_elements, most_paths}
-use Rattle.click_expand.specs.Sizes.{IsSize, IsSizeOf}
-use Rattle.click_expand.specs.Counted.{size_or, size_inside, elements_in, paths_in, IsSum}
+use Rattle.click_expand.specs.kept.Sizes.{IsSize, IsSizeOf}
+use Rattle.click_expand.specs.kept.Counted.{size_or, size_inside, elements_in, paths_in, IsSum}
 use Rattle.click_expand.specs.declared.classes.ClassOf.{ClassOf}
 use Rattle.click_expand.specs.declared.classes.ClassOf.TheVariants as class
-use Rattle.click_expand.specs.declared.members.Local.{Local as LocalKept}
+use Rattle.click_expand.specs.declared.scope_elements.Local.{Local as LocalKept}
 use Rattle.click_expand.specs.declared.sizes.Size.{Size}
 use Rattle.click_expand.proofs.Keeping.{slice_get-more, slice_get-last}
 use Rattle.click_expand.proofs.Founded.{founded-at}
@@ -46,8 +46,8 @@ module _ (c : Config) where
   -- the scopes up to a place have their sizes
   abbrev pub AreWeighed : List Size → Type 0
   AreWeighed sizes =
-      (s : Scope) (visible : List Statement) (around : List Scope) → Stands c s visible around → place_of c s < length sizes →
-      (size : Size) × (slice_get sizes (place_of c s) ≡ Some size) × IsScopeSize s visible around size
+      (s : Scope) (visible : List Statement) (around : List Scope) → Stands c s visible around → table_place c s < length sizes →
+      (size : Size) × (slice_get sizes (table_place c s) ≡ Some size) × IsScopeSize s visible around size
 
   -- the numbers of some elements' leaves and of the paths to them
   pub record AreCounted (sizes : List Size) (vs : List LocalKept) (leaves : List Leaf) (n : ℕ) : Type 0 where
@@ -55,7 +55,7 @@ module _ (c : Config) where
     pub all_paths : min n (most_paths + 1) ≡ min (sum_by (paths_in sizes) vs) (most_paths + 1)
 
   module _ (nested : IsNested c) (sizes : List Size) (weighed : AreWeighed sizes) (s : Scope) (visible : List Statement) (around : List Scope) (stands : Stands c s visible around)
-      (next : place_of c s ≡ length sizes) (path : List (List ℕ)) (bindings : Bindings) where
+      (next : table_place c s ≡ length sizes) (path : List (List ℕ)) (bindings : Bindings) where
     -- an element that is one of the router's classes
     counted-leaf : (v : LocalKept) (vs : List LocalKept) (leaves : List Leaf) (n : ℕ) → (size_inside sizes v.class).elements ≡ 1 → (size_inside sizes v.class).paths ≡ 0 →
         (r : LeafCase c s around path bindings (local_of c.text v) (map (local_of c.text) vs) leaves n) → AreCounted sizes vs r.leaves r.m → AreCounted sizes (v ∷ vs) leaves n
@@ -91,7 +91,7 @@ module _ (c : Config) where
         scope_locals c s visible ≡ (done ++ local_of c.text v ∷ []) ++ map (local_of c.text) vs
     behind v vs done e = e ∙ sym (append_assoc done (local_of c.text v ∷ []) (map (local_of c.text) vs))
 
-    -- what a first element adds to those behind it
+    -- what a first element adds to those after it
     by-class : (v : LocalKept) (vs : List LocalKept) (done : List Local) (leaves : List Leaf) (n : ℕ) (o : Option ClassOf) → v.class ≡ o →
         scope_locals c s visible ≡ done ++ local_of c.text v ∷ map (local_of c.text) vs →
         AreLeaves c s around path bindings (local_of c.text v ∷ map (local_of c.text) vs) leaves n →
@@ -126,7 +126,7 @@ module _ (c : Config) where
     counted (v ∷ vs) done leaves n e h = by-class v vs done leaves n v.class refl e h (λ further m k. counted vs (done ++ local_of c.text v ∷ []) further m (behind v vs done e) k)
 
   -- the size of the scope at the next place
-  scope-weighed : IsNested c → (sizes : List Size) → AreWeighed sizes → (s : Scope) (visible : List Statement) (around : List Scope) → Stands c s visible around → place_of c s ≡ length sizes →
+  scope-weighed : IsNested c → (sizes : List Size) → AreWeighed sizes → (s : Scope) (visible : List Statement) (around : List Scope) → Stands c s visible around → table_place c s ≡ length sizes →
       (vs : List LocalKept) → map (local_of c.text) vs ≡ scope_locals c s visible → (size : Size) → IsSum sizes vs size → IsScopeSize s visible around size
   scope-weighed nested sizes weighed s visible around stands next vs e size h path bindings leaves n k =
       let r = counted nested sizes weighed s visible around stands next path bindings vs [] leaves n (sym e) (subst (λ ls. AreLeaves c s around path bindings ls leaves n) (sym e) k) in
@@ -137,11 +137,11 @@ module _ (c : Config) where
 
   pub weighed-next : IsNested c → (locals : List (Vec LocalKept Global)) → AreAllLocals c locals → (sizes new : List Size) (v : Vec LocalKept Global) (size : Size) →
       slice_get locals (length sizes) ≡ Some v → IsSum sizes v.items size → new ≡ sizes ++ size ∷ [] → AreWeighed sizes → AreWeighed new
-  weighed-next nested locals all sizes new v size there h e weighed = subst AreWeighed (sym e) (λ s visible around stands l. by_place s visible around stands (cases_order (place_of c s) (length sizes)) l)
+  weighed-next nested locals all sizes new v size there h e weighed = subst AreWeighed (sym e) (λ s visible around stands l. by_place s visible around stands (cases_order (table_place c s) (length sizes)) l)
     where
       by_place : (s : Scope) (visible : List Statement) (around : List Scope) → Stands c s visible around →
-          ((place_of c s ≡ length sizes) ⊎ ((place_of c s < length sizes) ⊎ (length sizes < place_of c s))) → place_of c s < length (sizes ++ size ∷ []) →
-          (one : Size) × (slice_get (sizes ++ size ∷ []) (place_of c s) ≡ Some one) × IsScopeSize s visible around one
+          ((table_place c s ≡ length sizes) ⊎ ((table_place c s < length sizes) ⊎ (length sizes < table_place c s))) → table_place c s < length (sizes ++ size ∷ []) →
+          (one : Size) × (slice_get (sizes ++ size ∷ []) (table_place c s) ≡ Some one) × IsScopeSize s visible around one
       by_place s visible around stands (inl q) l =
           let r = all s visible around stands in
           let same : v ≡ r.0 = same_some (sym there ∙ ap (slice_get locals) (sym q) ∙ r.1) in
@@ -150,7 +150,7 @@ module _ (c : Config) where
             ap (slice_get (sizes ++ size ∷ [])) q ∙ slice_get-last sizes size,
             scope-weighed nested sizes weighed s visible around stands q v.items items size h,
           )
-      by_place s visible around stands (inr (inl q)) l = let r = weighed s visible around stands q in (r.0, slice_get-more sizes (size ∷ []) (place_of c s) r.0 r.1, r.2)
+      by_place s visible around stands (inr (inl q)) l = let r = weighed s visible around stands q in (r.0, slice_get-more sizes (size ∷ []) (table_place c s) r.0 r.1, r.2)
       by_place s visible around stands (inr (inr q)) l = let n : length (sizes ++ size ∷ []) ≡ length sizes + 1 = length_push sizes size in absurd (omega (arith, q, l, n))
 
   -- all scopes have their sizes, and so has the whole text

@@ -12,30 +12,30 @@ use Rattle.click_text.specs.declared.syntax.Config.{Config}
 use Rattle.click_text.specs.Spans.{bytes_at}
 use Rattle.click_expand.specs.Scopes.{Scope, whole, statement_elements}
 use Rattle.click_expand.specs.Classes.{compound}
-use Rattle.click_expand.specs.Elements.{Placed, place, Role, pseudo, refers, makes, role_by, has_name, Local}
-use Rattle.click_expand.specs.Faults.{End, Joint, Names, names_of, end_of, number_behind, number_after, joints_behind, joints_from, statement_joints, scope_locals, scope_joints, first_token}
+use Rattle.click_expand.specs.Elements.{Placed, place, Role, pseudo, refers, makes, role_of_head, has_name, Local}
+use Rattle.click_expand.specs.Faults.{End, WrittenConnection, ScopeNames, scope_names, written_end, number_behind, number_after_all, joints_behind, joints_from, statement_joints, scope_locals, scope_joints, first_token}
 use Rattle.click_expand.specs.Parameters.{Bindings}
 use Rattle.click_expand.specs.Instances.{Leaf, AreLeaves, no_elements, leaf, branch, LeadsTo, to_whole, to_inner}
-use Rattle.click_expand.specs.Connections.{Node, output_of, input_of, begins_by, ends_by, Leads, joined, further}
+use Rattle.click_expand.specs.Connections.{Node, output_of, input_of, begin_node, end_node, Leads, by_connection, further}
 use Rattle.click_expand.specs.Flat.{IsFlat}
-use Rattle.click_expand.specs.OneScope.{HasNoCompounds, IsWritten}
+use Rattle.click_expand.specs.OneScope.{HasNoCompounds, IsConnectionAsWritten}
 use Rattle.click_expand.specs.declared.flat.Connection.{Connection}
 use Rattle.click_expand.specs.declared.flat.Flat.{Flat}
 use Rattle.click_expand.proofs.Once.{contains-nil, contains-cons}
 use Rattle.click_expand.proofs.Contained.{contains-here, contains-behind}
 
 module _ (c : Config) where
-  abbrev top : Names
-  top = names_of c whole []
+  abbrev top : ScopeNames
+  top = scope_names c whole []
 
   -- an end of the whole text is no port of a body
   abbrev IsOwn : End → Type 0
   IsOwn e = e.role ≡ pseudo → ⊥
 
-  abbrev AreOwn : Joint → Type 0
+  abbrev AreOwn : WrittenConnection → Type 0
   AreOwn j = IsOwn j.from × IsOwn j.to
 
-  role-own : (d : List (List ℕ)) (h : Head) (t : Option Span) → role_by c.text false d h t ≡ pseudo → ⊥
+  role-own : (d : List (List ℕ)) (h : Head) (t : Option Span) → role_of_head c.text false d h t ≡ pseudo → ⊥
   role-own d (head.Word s) None e = by_test (has_name (bytes_at c.text s) d) e
     where
       by_test : (x : Bool) → cond x refers makes ≡ pseudo → ⊥
@@ -45,45 +45,45 @@ module _ (c : Config) where
   role-own d (head.Declared s g) t e = cc e
   role-own d (head.Compound b) t e = cc e
 
-  end-own : (n : ℕ) (p : Placed) → IsOwn (end_of c top n p)
+  end-own : (n : ℕ) (p : Placed) → IsOwn (written_end c top n p)
   end-own n p e = role-own top.declared p.element.head p.element.text e
 
-  behind-own : (visible : List Statement) (n : ℕ) (a : End) (ls : List Link) (j : Joint) → IsOwn a → Contains (joints_behind c top visible n a ls) j → AreOwn j
+  behind-own : (visible : List Statement) (n : ℕ) (a : End) (ls : List Link) (j : WrittenConnection) → IsOwn a → Contains (joints_behind c top visible n a ls) j → AreOwn j
   unfolding joints_behind
   behind-own visible n a [] j p i = absurd (contains-nil j i)
   behind-own visible n a (l ∷ ls) j p i =
       let q = end-own n (place visible l.element) in
       elim (contains-cons _ _ j i) [
         | inl e ↦ subst AreOwn e (p, q)
-        | inr k ↦ behind-own visible (number_behind c top n (place visible l.element)) (end_of c top n (place visible l.element)) ls j q k
+        | inr k ↦ behind-own visible (number_behind c top n (place visible l.element)) (written_end c top n (place visible l.element)) ls j q k
       ]
 
-  statement-own : (visible : List Statement) (n : ℕ) (st : Statement) (j : Joint) → Contains (statement_joints c top visible n st) j → AreOwn j
+  statement-own : (visible : List Statement) (n : ℕ) (st : Statement) (j : WrittenConnection) → Contains (statement_joints c top visible n st) j → AreOwn j
   statement-own visible n (statement.Chain k) j i =
-      behind-own visible (number_behind c top n (place visible k.first)) (end_of c top n (place visible k.first)) k.links j (end-own n (place visible k.first)) i
+      behind-own visible (number_behind c top n (place visible k.first)) (written_end c top n (place visible k.first)) k.links j (end-own n (place visible k.first)) i
   statement-own visible n (statement.Declaration d) j i = absurd (contains-nil j i)
   statement-own visible n (statement.Definition m b) j i = absurd (contains-nil j i)
   statement-own visible n (statement.Synonym m d) j i = absurd (contains-nil j i)
   statement-own visible n (statement.Requirement t) j i = absurd (contains-nil j i)
 
-  statements-own : (visible : List Statement) (n : ℕ) (ss : List Statement) (j : Joint) → Contains (joints_from c top visible n ss) j → AreOwn j
+  statements-own : (visible : List Statement) (n : ℕ) (ss : List Statement) (j : WrittenConnection) → Contains (joints_from c top visible n ss) j → AreOwn j
   unfolding joints_from
   statements-own visible n [] j i = absurd (contains-nil j i)
   statements-own visible n (st ∷ ss) j i =
       elim (Contains-append_cases (statement_joints c top visible n st) _ j i) [
         | inl k ↦ statement-own visible n st j k
-        | inr k ↦ statements-own (st ∷ visible) (number_after c top n (map (place visible) (statement_elements st))) ss j k
+        | inr k ↦ statements-own (st ∷ visible) (number_after_all c top n (map (place visible) (statement_elements st))) ss j k
       ]
 
-  pub whole-roles : (j : Joint) → Contains (scope_joints c whole []) j → (j.from.role ≡ pseudo → ⊥) × (j.to.role ≡ pseudo → ⊥)
+  pub whole-roles : (j : WrittenConnection) → Contains (scope_joints c whole []) j → (j.from.role ≡ pseudo → ⊥) × (j.to.role ≡ pseudo → ⊥)
   whole-roles j i = statements-own [] 0 c.statements j i
 
-  begins-own : (e : End) (r : Role) (port : ℕ) → (r ≡ pseudo → ⊥) → begins_by [] e r port ≡ output_of (e.name ∷ []) port
+  begins-own : (e : End) (r : Role) (port : ℕ) → (r ≡ pseudo → ⊥) → begin_node [] e r port ≡ output_of (e.name ∷ []) port
   begins-own e pseudo port h = absurd (h refl)
   begins-own e refers port h = refl
   begins-own e makes port h = refl
 
-  ends-own : (e : End) (r : Role) (port : ℕ) → (r ≡ pseudo → ⊥) → ends_by [] e r port ≡ input_of (e.name ∷ []) port
+  ends-own : (e : End) (r : Role) (port : ℕ) → (r ≡ pseudo → ⊥) → end_node [] e r port ≡ input_of (e.name ∷ []) port
   ends-own e pseudo port h = absurd (h refl)
   ends-own e refers port h = refl
   ends-own e makes port h = refl
@@ -126,13 +126,13 @@ module _ (c : Config) where
 
     -- the nodes of one connection of the whole text
     pub record IsWire (a b : Node) : Type 0 where
-      pub joint : Joint
+      pub joint : WrittenConnection
       pub there : Contains (scope_joints c whole []) joint
       pub begins : a ≡ output_of (joint.from.name ∷ []) joint.out_port
       pub ends : b ≡ input_of (joint.to.name ∷ []) joint.in_port
 
-    wire-at : (path : List (List ℕ)) (j : Joint) → path ≡ [] → Contains (scope_joints c whole []) j →
-        IsWire (begins_by path j.from j.from.role j.out_port) (ends_by path j.to j.to.role j.in_port)
+    wire-at : (path : List (List ℕ)) (j : WrittenConnection) → path ≡ [] → Contains (scope_joints c whole []) j →
+        IsWire (begin_node path j.from j.from.role j.out_port) (end_node path j.to j.to.role j.in_port)
     wire-at path j e i =
         let r = whole-roles j i in
         record {
@@ -143,7 +143,7 @@ module _ (c : Config) where
         }
 
     pub leads-one : {a b : Node} → Leads c a b → IsWire a b
-    leads-one (joined path s visible j t m) =
+    leads-one (by_connection path s visible j t m) =
         let i = only-whole t in
         let n : Contains (scope_joints c whole []) j = rw (i.1, i.2) at m in
         wire-at path j i.0 n
@@ -154,7 +154,7 @@ module _ (c : Config) where
         let f = y.begins in
         absurd (cc (e, f))
 
-    pub written-of : (f : Flat) (k : Connection) → IsFlat c f → Contains f.connections k → IsWritten c k
+    pub written-of : (f : Flat) (k : Connection) → IsFlat c f → Contains f.connections k → IsConnectionAsWritten c k
     written-of f k h i =
         let j = h.meant.connections.sound k i in
         let from = leaf-local none h.meant.elements k.from j.from j.from_there in
@@ -173,16 +173,16 @@ module _ (c : Config) where
           in_port = cc e;
         }
 
-    pub all-written : (f : Flat) (k : Connection) → IsFlat c f → IsWritten c k → Contains f.connections k
+    pub all-written : (f : Flat) (k : Connection) → IsFlat c f → IsConnectionAsWritten c k → Contains f.connections k
     all-written f k h w =
         let j = w.joint in
         let from = local-leaf none h.meant.elements k.from w.from.0 w.from.1 in
         let to = local-leaf none h.meant.elements k.to w.to.0 w.to.1 in
         let r = whole-roles j w.there in
-        let l : Leads c (begins_by [] j.from j.from.role j.out_port) (ends_by [] j.to j.to.role j.in_port) = joined [] whole [] j to_whole w.there in
-        let a : begins_by [] j.from j.from.role j.out_port ≡ output_of from.0.path k.out_port =
+        let l : Leads c (begin_node [] j.from j.from.role j.out_port) (end_node [] j.to j.to.role j.in_port) = by_connection [] whole [] j to_whole w.there in
+        let a : begin_node [] j.from j.from.role j.out_port ≡ output_of from.0.path k.out_port =
         begins-own j.from j.from.role j.out_port r.0 ∙ (let p = from.2 in let n = w.from.2 in let o = w.out_port in cc (p, n, o)) in
-        let b : ends_by [] j.to j.to.role j.in_port ≡ input_of to.0.path k.in_port =
+        let b : end_node [] j.to j.to.role j.in_port ≡ input_of to.0.path k.in_port =
         ends-own j.to j.to.role j.in_port r.1 ∙ (let p = to.2 in let n = w.to.2 in let o = w.in_port in cc (p, n, o)) in
         let leads : Leads c (output_of from.0.path k.out_port) (input_of to.0.path k.in_port) = rw (← a, ← b) l in
         h.meant.connections.complete k (record { from = from.0; from_there = from.1; to = to.0; to_there = to.1; leads = leads })

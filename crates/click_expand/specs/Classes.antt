@@ -26,7 +26,7 @@ pub data Meaning : Type 0 where
 abbrev pub primitive_of : List ℕ → Option Meaning
 primitive_of w = if list_any (bytes_eq w) class_names then Some (primitive w) else None
 
--- what a word means behind these statements, the last first
+-- what a word means after these statements, the last first
 unfoldable pub meaning : List ℕ → List Statement → List ℕ → Option Meaning
 meaning text [] w = primitive_of w
 meaning text (statement.Definition n b ∷ older) w = if bytes_eq (bytes_at text n) w then Some (compound b) else meaning text older w

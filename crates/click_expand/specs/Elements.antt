@@ -21,7 +21,7 @@ pub record Placed : Type 0 where
 abbrev pub place : List Statement → Element → Placed
 place visible e = record { visible = visible; element = e }
 
--- the elements of statements behind those that are visible before them, in the order of the text
+-- the elements of statements after those that are visible before them, in the order of the text
 abbrev pub placed : List Statement → List Statement → List Placed
 placed visible [] = []
 placed visible (s ∷ ss) = map (place visible) (statement_elements s) ++ placed (s ∷ visible) ss
@@ -61,24 +61,24 @@ abbrev pub word_role : Bool → List (List ℕ) → List ℕ → Role
 word_role in_body declared w =
     if in_body && is_port_name w then pseudo else if has_name w declared then refers else makes
 
-abbrev pub role_by : List ℕ → Bool → List (List ℕ) → Head → Option Span → Role
-role_by text in_body declared (head.Word s) None = word_role in_body declared (bytes_at text s)
-role_by text in_body declared (head.Word s) (Some string) = makes
-role_by text in_body declared (head.Declared s c) string = makes
-role_by text in_body declared (head.Compound b) string = makes
+abbrev pub role_of_head : List ℕ → Bool → List (List ℕ) → Head → Option Span → Role
+role_of_head text in_body declared (head.Word s) None = word_role in_body declared (bytes_at text s)
+role_of_head text in_body declared (head.Word s) (Some string) = makes
+role_of_head text in_body declared (head.Declared s c) string = makes
+role_of_head text in_body declared (head.Compound b) string = makes
 
 abbrev pub role : List ℕ → Bool → List (List ℕ) → Element → Role
-role text in_body declared e = role_by text in_body declared e.head e.text
+role text in_body declared e = role_of_head text in_body declared e.head e.text
 
 -- a class used as an element makes one called after its class and its number, which counts from 1
-abbrev pub numbered : List ℕ → ℕ → List ℕ
-numbered class before = class ++ codes "@" ++ decimal (before + 1)
+abbrev pub name_with_number : List ℕ → ℕ → List ℕ
+name_with_number class before = class ++ codes "@" ++ decimal (before + 1)
 
 -- the local name of an element before which so many stand in the scope
 abbrev pub made_name : List ℕ → ℕ → Head → List ℕ
-made_name text n (head.Word s) = numbered (bytes_at text s) n
+made_name text n (head.Word s) = name_with_number (bytes_at text s) n
 made_name text n (head.Declared s c) = bytes_at text s
-made_name text n (head.Compound b) = numbered (codes "Compound") n
+made_name text n (head.Compound b) = name_with_number (codes "Compound") n
 
 abbrev pub word_of : List ℕ → Head → List ℕ
 word_of text (head.Word s) = bytes_at text s
@@ -91,10 +91,10 @@ name_by text n h pseudo = word_of text h
 name_by text n h refers = word_of text h
 name_by text n h makes = made_name text n h
 
-abbrev pub counts : Role → ℕ → ℕ
-counts makes n = n + 1
-counts refers n = n
-counts pseudo n = n
+abbrev pub count_with : Role → ℕ → ℕ
+count_with makes n = n + 1
+count_with refers n = n
+count_with pseudo n = n
 
 -- the class of an element that makes one
 abbrev pub head_class : Head → Class
@@ -112,15 +112,15 @@ pub record Local : Type 0 where
   pub text : List ℕ
   pub head : Head
 
-abbrev pub string_by : List ℕ → Option Span → List ℕ
-string_by text None = []
-string_by text (Some s) = string_text text s
+abbrev pub string_or_empty : List ℕ → Option Span → List ℕ
+string_or_empty text None = []
+string_or_empty text (Some s) = string_text text s
 
 abbrev pub local : List ℕ → ℕ → Placed → Local
 local text n p = record {
   name = made_name text n p.element.head;
   meaning = element_meaning text p;
-  text = string_by text p.element.text;
+  text = string_or_empty text p.element.text;
   head = p.element.head;
 }
 
@@ -134,4 +134,4 @@ unfoldable pub locals_from : List ℕ → Bool → List (List ℕ) → ℕ → L
 locals_from text in_body declared n [] = []
 locals_from text in_body declared n (p ∷ ps) =
     let r = role text in_body declared p.element in
-    local_by r (local text n p) (locals_from text in_body declared (counts r n) ps)
+    local_by r (local text n p) (locals_from text in_body declared (count_with r n) ps)

@@ -16,11 +16,11 @@ use Rattle.click_text.specs.Pieces.{span}
 use Rattle.click_text.specs.Arguments.{AreArguments}
 use Rattle.click_expand.specs.Scopes.{Scope, inside, is_body, statements_of, formals_of, Stands, statement_elements}
 use Rattle.click_expand.specs.Classes.{Meaning, compound, meaning}
-use Rattle.click_expand.specs.Elements.{Placed, place, placed, head_name, declared_names, has_name, input_name, output_name, is_port_name, Role, pseudo, refers, makes, role, made_name, name_by, counts, element_meaning, Local, locals_from, string_by}
+use Rattle.click_expand.specs.Elements.{Placed, place, placed, head_name, declared_names, has_name, input_name, output_name, is_port_name, Role, pseudo, refers, makes, role, made_name, name_by, count_with, element_meaning, Local, locals_from, string_or_empty}
 use Rattle.click_expand.specs.declared.fault.FaultKind.{FaultKind}
 use Rattle.click_expand.specs.declared.fault.FaultKind.TheVariants as kind
 
--- the scope's elements as written, behind the statements that are visible before them
+-- the scope's elements as written, after the statements that are visible before them
 abbrev pub scope_placed : Config → Scope → List Statement → List Placed
 scope_placed c s visible = placed visible (statements_of c s)
 
@@ -66,20 +66,20 @@ declared_meaning text (p ∷ ps) name =
     if is_declared_as text name (head_name text p.element.head) then element_meaning text p else declared_meaning text ps name
 
 -- what a scope says of the names in it
-pub record Names : Type 0 where
+pub record ScopeNames : Type 0 where
   pub in_body : Bool
   pub declared : List (List ℕ)
   pub written : List Placed
 
-abbrev pub names_of : Config → Scope → List Statement → Names
-names_of c s visible = record { in_body = is_body s; declared = scope_declared c s visible; written = scope_placed c s visible }
+abbrev pub scope_names : Config → Scope → List Statement → ScopeNames
+scope_names c s visible = record { in_body = is_body s; declared = scope_declared c s visible; written = scope_placed c s visible }
 
-abbrev pub end_meaning : Config → Names → Placed → List ℕ → Role → Option Meaning
+abbrev pub end_meaning : Config → ScopeNames → Placed → List ℕ → Role → Option Meaning
 end_meaning c names p name pseudo = None
 end_meaning c names p name refers = declared_meaning c.text names.written name
 end_meaning c names p name makes = element_meaning c.text p
 
-abbrev pub end_by : Config → Names → ℕ → Placed → Role → End
+abbrev pub end_by : Config → ScopeNames → ℕ → Placed → Role → End
 end_by c names n p r = record {
   name = name_by c.text n p.element.head r;
   role = r;
@@ -87,11 +87,11 @@ end_by c names n p r = record {
   first = first_token c p.element.head;
 }
 
-abbrev pub end_of : Config → Names → ℕ → Placed → End
-end_of c names n p = end_by c names n p (role c.text names.in_body names.declared p.element)
+abbrev pub written_end : Config → ScopeNames → ℕ → Placed → End
+written_end c names n p = end_by c names n p (role c.text names.in_body names.declared p.element)
 
 -- a connection as written
-pub record Joint : Type 0 where
+pub record WrittenConnection : Type 0 where
   pub from : End
   pub out_port : ℕ
   pub to : End
@@ -102,47 +102,47 @@ abbrev pub port_number : Option Port → ℕ
 port_number None = 0
 port_number (Some p) = p.number
 
-abbrev pub joint : End → Link → End → Joint
+abbrev pub joint : End → Link → End → WrittenConnection
 joint a l b = record { from = a; out_port = port_number l.from; to = b; in_port = port_number l.to }
 
--- how many elements stand behind one as written
-abbrev pub number_behind : Config → Names → ℕ → Placed → ℕ
-number_behind c names n p = counts (role c.text names.in_body names.declared p.element) n
+-- how many elements stand after one as written
+abbrev pub number_behind : Config → ScopeNames → ℕ → Placed → ℕ
+number_behind c names n p = count_with (role c.text names.in_body names.declared p.element) n
 
-unfoldable pub joints_behind : Config → Names → List Statement → ℕ → End → List Link → List Joint
+unfoldable pub joints_behind : Config → ScopeNames → List Statement → ℕ → End → List Link → List WrittenConnection
 joints_behind c names visible n a [] = []
 joints_behind c names visible n a (l ∷ ls) =
-    let b = end_of c names n (place visible l.element) in
+    let b = written_end c names n (place visible l.element) in
     joint a l b ∷ joints_behind c names visible (number_behind c names n (place visible l.element)) b ls
 
-unfoldable pub number_after : Config → Names → ℕ → List Placed → ℕ
-number_after c names n [] = n
-number_after c names n (p ∷ ps) = number_after c names (number_behind c names n p) ps
+unfoldable pub number_after_all : Config → ScopeNames → ℕ → List Placed → ℕ
+number_after_all c names n [] = n
+number_after_all c names n (p ∷ ps) = number_after_all c names (number_behind c names n p) ps
 
-abbrev pub statement_joints : Config → Names → List Statement → ℕ → Statement → List Joint
+abbrev pub statement_joints : Config → ScopeNames → List Statement → ℕ → Statement → List WrittenConnection
 statement_joints c names visible n (statement.Chain k) =
-    joints_behind c names visible (number_behind c names n (place visible k.first)) (end_of c names n (place visible k.first)) k.links
+    joints_behind c names visible (number_behind c names n (place visible k.first)) (written_end c names n (place visible k.first)) k.links
 statement_joints c names visible n _ = []
 
-unfoldable pub joints_from : Config → Names → List Statement → ℕ → List Statement → List Joint
+unfoldable pub joints_from : Config → ScopeNames → List Statement → ℕ → List Statement → List WrittenConnection
 joints_from c names visible n [] = []
 joints_from c names visible n (st ∷ ss) =
     statement_joints c names visible n st
-    ++ joints_from c names (st ∷ visible) (number_after c names n (map (place visible) (statement_elements st))) ss
+    ++ joints_from c names (st ∷ visible) (number_after_all c names n (map (place visible) (statement_elements st))) ss
 
 -- the connections of a scope as written
-abbrev pub scope_joints : Config → Scope → List Statement → List Joint
-scope_joints c s visible = joints_from c (names_of c s visible) visible 0 (statements_of c s)
+abbrev pub scope_joints : Config → Scope → List Statement → List WrittenConnection
+scope_joints c s visible = joints_from c (scope_names c s visible) visible 0 (statements_of c s)
 
 -- the ports of `input` that stand as sources, and those of `output` that stand as targets
 abbrev pub is_pseudo : List ℕ → End → Bool
 is_pseudo w e = elim e.role [ pseudo ↦ bytes_eq e.name w | refers ↦ false | makes ↦ false ]
 
-abbrev pub input_ports : List Joint → List ℕ
+abbrev pub input_ports : List WrittenConnection → List ℕ
 input_ports [] = []
 input_ports (j ∷ js) = if is_pseudo input_name j.from then j.out_port ∷ input_ports js else input_ports js
 
-abbrev pub output_ports : List Joint → List ℕ
+abbrev pub output_ports : List WrittenConnection → List ℕ
 output_ports [] = []
 output_ports (j ∷ js) = if is_pseudo output_name j.to then j.in_port ∷ output_ports js else output_ports js
 
@@ -191,16 +191,16 @@ pub data IsWrong (c : Config) : FaultKind → Span → Type 0 where
   -- a compound's element with more or fewer arguments than it has parameters
   wrong_parameters : (s : Scope) (visible : List Statement) (around : List Scope) (front back : List Placed) (p : Placed) (b : ℕ) (arguments : List Span) → Stands c s visible around →
       scope_placed c s visible ≡ front ++ p ∷ back → role_in c s visible p ≡ makes → element_meaning c.text p ≡ Some (compound b) →
-      AreArguments (string_by c.text p.element.text) arguments → length arguments ≢ length (formals_of c (inside b)) →
+      AreArguments (string_or_empty c.text p.element.text) arguments → length arguments ≢ length (formals_of c (inside b)) →
       IsWrong c kind.WrongParameters (first_token c p.element.head)
   -- a port that the element's compound lacks; `output` as a source, and `input` as a target
-  no_output : (s : Scope) (visible : List Statement) (around : List Scope) (j : Joint) (b : ℕ) → Stands c s visible around → Contains (scope_joints c s visible) j →
+  no_output : (s : Scope) (visible : List Statement) (around : List Scope) (j : WrittenConnection) (b : ℕ) → Stands c s visible around → Contains (scope_joints c s visible) j →
       j.from.role ≢ pseudo → j.from.meaning ≡ Some (compound b) → port_count (outputs_of c b) ≤ j.out_port → IsWrong c kind.CompoundPort j.from.first
-  no_input : (s : Scope) (visible : List Statement) (around : List Scope) (j : Joint) (b : ℕ) → Stands c s visible around → Contains (scope_joints c s visible) j →
+  no_input : (s : Scope) (visible : List Statement) (around : List Scope) (j : WrittenConnection) (b : ℕ) → Stands c s visible around → Contains (scope_joints c s visible) j →
       j.to.role ≢ pseudo → j.to.meaning ≡ Some (compound b) → port_count (inputs_of c b) ≤ j.in_port → IsWrong c kind.CompoundPort j.to.first
-  output_as_source : (s : Scope) (visible : List Statement) (around : List Scope) (j : Joint) → Stands c s visible around → Contains (scope_joints c s visible) j →
+  output_as_source : (s : Scope) (visible : List Statement) (around : List Scope) (j : WrittenConnection) → Stands c s visible around → Contains (scope_joints c s visible) j →
       is_pseudo output_name j.from ≡ true → IsWrong c kind.CompoundPort j.from.first
-  input_as_target : (s : Scope) (visible : List Statement) (around : List Scope) (j : Joint) → Stands c s visible around → Contains (scope_joints c s visible) j →
+  input_as_target : (s : Scope) (visible : List Statement) (around : List Scope) (j : WrittenConnection) → Stands c s visible around → Contains (scope_joints c s visible) j →
       is_pseudo input_name j.to ≡ true → IsWrong c kind.CompoundPort j.to.first
   -- a port of a body below its highest one that is not in use
   input_gap : (b : ℕ) (visible : List Statement) (around : List Scope) (p : ℕ) → Stands c (inside b) visible around →
@@ -208,20 +208,20 @@ pub data IsWrong (c : Config) : FaultKind → Span → Type 0 where
   output_gap : (b : ℕ) (visible : List Statement) (around : List Scope) (p : ℕ) → Stands c (inside b) visible around →
       p < port_count (outputs_of c b) → (Contains (outputs_of c b) p → ⊥) → IsWrong c kind.CompoundPort (brace_of c b)
 
-abbrev pub number_of : FaultKind → ℕ
-number_of kind.NoMemory = 7
-number_of kind.UnknownName = 11
-number_of kind.DeclaredTwice = 12
-number_of kind.UnknownClass = 13
-number_of kind.WrongParameters = 14
-number_of kind.CompoundPort = 15
-number_of kind.TooMany = 16
-number_of kind.BrokenText = 17
+abbrev pub fault_number : FaultKind → ℕ
+fault_number kind.NoMemory = 7
+fault_number kind.UnknownName = 11
+fault_number kind.DeclaredTwice = 12
+fault_number kind.UnknownClass = 13
+fault_number kind.WrongParameters = 14
+fault_number kind.CompoundPort = 15
+fault_number kind.TooMany = 16
+fault_number kind.BrokenText = 17
 
 -- the wrong use whose place is first; of two at one place, that of the lower number
 pub record IsFirstWrong (c : Config) (k : FaultKind) (s : Span) : Type 0 where
   pub wrong : IsWrong c k s
-  pub first : (j : FaultKind) (t : Span) → IsWrong c j t → (s.start < t.start) ⊎ ((s.start ≡ t.start) × (number_of k ≤ number_of j))
+  pub first : (j : FaultKind) (t : Span) → IsWrong c j t → (s.start < t.start) ⊎ ((s.start ≡ t.start) × (fault_number k ≤ fault_number j))
 
-abbrev pub IsSound : Config → Type 0
-IsSound c = (k : FaultKind) (s : Span) → IsWrong c k s → ⊥
+abbrev pub IsFaultless : Config → Type 0
+IsFaultless c = (k : FaultKind) (s : Span) → IsWrong c k s → ⊥

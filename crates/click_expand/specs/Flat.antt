@@ -4,7 +4,7 @@ use Rattle.click_text.specs.declared.strings.Mode.TheVariants as mode
 use Rattle.click_text.specs.declared.syntax.Span.{Span}
 use Rattle.click_text.specs.declared.syntax.Config.{Config}
 use Rattle.click_text.specs.Strings.{closes}
-use Rattle.click_expand.specs.Faults.{IsFirstWrong, IsSound}
+use Rattle.click_expand.specs.Faults.{IsFirstWrong, IsFaultless}
 use Rattle.click_expand.specs.Instances.{Leaf, LeavesOf}
 use Rattle.click_expand.specs.Connections.{output_of, input_of, Leads}
 use Rattle.click_expand.specs.declared.flat.FlatElement.{FlatElement}
@@ -45,20 +45,20 @@ pub record Joins (c : Config) (leaves : List Leaf) (k : Connection) : Type 0 whe
   pub leads : Leads c (output_of from.path k.out_port) (input_of to.path k.in_port)
 
 -- one connection stands before another: by from-element, from-port, to-element, to-port
-abbrev pub Before : Connection → Connection → Type 0
-Before c d =
+abbrev pub StandsBefore : Connection → Connection → Type 0
+StandsBefore c d =
     (c.from < d.from) ⊎ ((c.from ≡ d.from) × ((c.out_port < d.out_port) ⊎ ((c.out_port ≡ d.out_port) ×
     ((c.to < d.to) ⊎ ((c.to ≡ d.to) × (c.in_port < d.in_port))))))
 
-abbrev pub InOrder : List Connection → Type 0
-InOrder [] = Unit {0}
-InOrder (c ∷ cs) = All (Before c) cs × InOrder cs
+abbrev pub AreOrdered : List Connection → Type 0
+AreOrdered [] = Unit {0}
+AreOrdered (c ∷ cs) = All (StandsBefore c) cs × AreOrdered cs
 
 -- the connections of leaves: each joined pair once, in order
 pub record AreConnections (c : Config) (leaves : List Leaf) (ks : List Connection) : Type 0 where
   pub sound : (k : Connection) → Contains ks k → Joins c leaves k
   pub complete : (k : Connection) → Joins c leaves k → Contains ks k
-  pub in_order : InOrder ks
+  pub in_order : AreOrdered ks
 
 abbrev pub text_size : List Leaf → ℕ
 text_size leaves = sum_by (λ (l : Leaf). length l.text) leaves
@@ -84,7 +84,7 @@ AreDistinct (n ∷ ns) = (Contains ns n → ⊥) × AreDistinct ns
 
 -- what a sound configuration stands for: its elements by their paths, how many paths there are, and its connections
 pub record Meant (c : Config) (leaves : List Leaf) (paths : ℕ) (ks : List Connection) : Type 0 where
-  pub sound : IsSound c
+  pub sound : IsFaultless c
   pub elements : LeavesOf c leaves paths
   pub connections : AreConnections c leaves ks
 
@@ -106,14 +106,14 @@ pub data Exceeds (c : Config) (leaves : List Leaf) (paths : ℕ) : Type 0 where
   many_elements : most_elements < length leaves → Exceeds c leaves paths
   many_paths : most_paths < paths → Exceeds c leaves paths
   much_text : most_text < text_size leaves → Exceeds c leaves paths
-  many_connections : (ks : List Connection) → InOrder ks → ((k : Connection) → Contains ks k → Joins c leaves k) → most_connections < length ks →
+  many_connections : (ks : List Connection) → AreOrdered ks → ((k : Connection) → Contains ks k → Joins c leaves k) → most_connections < length ks →
       Exceeds c leaves paths
 
 -- The first fault: a wrong use of a name, class, parameter or port; else a limit that is passed; else the first element whose flat name an earlier
 -- one has; else the first text that is no longer one string.
 pub data IsFlatFault (c : Config) : ExpandFault → Type 0 where
   wrong : (k : FaultKind) (s : Span) → IsFirstWrong c k s → IsFlatFault c (expand_fault k (Some s) [])
-  too_many : (leaves : List Leaf) (paths : ℕ) → IsSound c → LeavesOf c leaves paths → Exceeds c leaves paths →
+  too_many : (leaves : List Leaf) (paths : ℕ) → IsFaultless c → LeavesOf c leaves paths → Exceeds c leaves paths →
       IsFlatFault c (expand_fault kind.TooMany None [])
   repeated : (leaves front back : List Leaf) (l : Leaf) (paths : ℕ) (ks : List Connection) → Meant c leaves paths ks → WithinLimits leaves paths ks →
       leaves ≡ front ++ l ∷ back → AreDistinct (flat_names front) → Contains (flat_names front) (flat_name l.path) →
@@ -122,7 +122,7 @@ pub data IsFlatFault (c : Config) : ExpandFault → Type 0 where
       AreDistinct (flat_names leaves) → leaves ≡ front ++ l ∷ back → All (λ (k : Leaf). is_whole k.text ≡ true) front → is_whole l.text ≡ false →
       IsFlatFault c (expand_fault kind.BrokenText None (flat_name l.path))
 
--- want of memory
+-- out of memory
 abbrev pub no_memory : ExpandFault
 no_memory = expand_fault kind.NoMemory None []
 

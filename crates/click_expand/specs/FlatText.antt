@@ -19,15 +19,15 @@ out_port p = if nat_eq p 0 then [] else codes " [" ++ decimal p ++ codes "]"
 abbrev pub in_port : ℕ → List ℕ
 in_port p = if nat_eq p 0 then [] else codes "[" ++ decimal p ++ codes "] "
 
-abbrev pub name_in : Option FlatElement → List ℕ
-name_in None = []
-name_in (Some e) = e.name
+abbrev pub name_or_empty : Option FlatElement → List ℕ
+name_or_empty None = []
+name_or_empty (Some e) = e.name
 
-abbrev pub name_at : List FlatElement → ℕ → List ℕ
-name_at es i = name_in (slice_get es i)
+abbrev pub name_at_place : List FlatElement → ℕ → List ℕ
+name_at_place es i = name_or_empty (slice_get es i)
 
 abbrev pub connection_line : List FlatElement → Connection → List ℕ
-connection_line es k = name_at es k.from ++ out_port k.out_port ++ codes " -> " ++ in_port k.in_port ++ name_at es k.to ++ codes ";\n"
+connection_line es k = name_at_place es k.from ++ out_port k.out_port ++ codes " -> " ++ in_port k.in_port ++ name_at_place es k.to ++ codes ";\n"
 
-abbrev pub text_of : Flat → List ℕ
-text_of f = flat_map element_line f.elements ++ flat_map (connection_line f.elements) f.connections
+abbrev pub flat_text_of : Flat → List ℕ
+flat_text_of f = flat_map element_line f.elements ++ flat_map (connection_line f.elements) f.connections

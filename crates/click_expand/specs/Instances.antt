@@ -43,7 +43,7 @@ pub data AreLeaves (c : Config) : Scope → List Scope → List (List ℕ) → B
 abbrev pub LeavesOf : Config → List Leaf → ℕ → Type 0
 LeavesOf c leaves n = AreLeaves c whole [] [] [] (scope_locals c whole []) leaves n
 
--- the path leads to a use of that scope, which stands behind these statements
+-- the path leads to an instance of that scope, which stands after these statements
 pub data LeadsTo (c : Config) : List (List ℕ) → Scope → List Statement → Type 0 where
   to_whole : LeadsTo c [] whole []
   to_inner : (path : List (List ℕ)) (s : Scope) (visible before after : _) (l : Local) (b : ℕ) (inner : List Statement) (outer : List Scope) → LeadsTo c path s visible →

@@ -4,7 +4,7 @@ use Rattle.click_text.specs.declared.syntax.Config.{Config}
 use Rattle.click_expand.specs.Scopes.{whole}
 use Rattle.click_expand.specs.Classes.{Meaning, primitive, compound}
 use Rattle.click_expand.specs.Elements.{Local}
-use Rattle.click_expand.specs.Faults.{End, Joint, scope_locals, scope_joints}
+use Rattle.click_expand.specs.Faults.{End, WrittenConnection, scope_locals, scope_joints}
 use Rattle.click_expand.specs.declared.flat.FlatElement.{FlatElement}
 use Rattle.click_expand.specs.declared.flat.Connection.{Connection}
 
@@ -26,8 +26,8 @@ abbrev pub IsNamed : List Local → ℕ → End → Type 0
 IsNamed ls i e = (l : Local) × (slice_get ls i ≡ Some l) × (l.name ≡ e.name)
 
 -- a connection of the whole text, as written, joins these ports of these elements
-pub record IsWritten (c : Config) (k : Connection) : Type 0 where
-  pub joint : Joint
+pub record IsConnectionAsWritten (c : Config) (k : Connection) : Type 0 where
+  pub joint : WrittenConnection
   pub there : Contains (scope_joints c whole []) joint
   pub from : IsNamed (scope_locals c whole []) k.from joint.from
   pub out_port : joint.out_port ≡ k.out_port

@@ -15,15 +15,15 @@ abbrev pub byte_of : ItemKind → Option ℕ
 byte_of (kind.Byte b) = Some b
 byte_of _ = None
 
-abbrev pub passes : (ℕ → Bool) → Option ℕ → Bool
-passes test None = false
-passes test (Some b) = test b
+abbrev pub byte_passes : (ℕ → Bool) → Option ℕ → Bool
+byte_passes test None = false
+byte_passes test (Some b) = test b
 
 abbrev pub is_byte : ℕ → Item → Bool
-is_byte b i = passes (eqb b) (byte_of i.kind)
+is_byte b i = byte_passes (eqb b) (byte_of i.kind)
 
 abbrev pub is_name_item : Item → Bool
-is_name_item i = passes name_byte (byte_of i.kind)
+is_name_item i = byte_passes name_byte (byte_of i.kind)
 
 -- the longest run of name bytes
 abbrev pub name_run : List Item → List Item
@@ -42,7 +42,7 @@ abbrev pub is_closed : List Item → Bool
 is_closed [] = false
 is_closed (i ∷ items) = is_byte 125 i
 
--- behind `$`
+-- after `$`
 abbrev pub formal_behind : List Item → Option Formal
 formal_behind [] = None
 formal_behind (i ∷ items) =
@@ -75,7 +75,7 @@ replaced value n (i ∷ items) =
     then found_bytes (value_by value (formal_at (i ∷ items))) i ++ replaced value (found_size (value_by value (formal_at (i ∷ items))) - 1) items
     else replaced value (n - 1) items
 
--- the arguments of a body's use, by the body's place
+-- the arguments of a body's instance, by the body's place
 abbrev pub Bindings : Type 0
 Bindings = List (ℕ × List (List ℕ))
 
@@ -89,9 +89,9 @@ argument_of text [] values name = None
 argument_of text (f ∷ fs) [] name = None
 argument_of text (f ∷ fs) (v ∷ values) name = if bytes_eq (drop 1 (bytes_at text f)) name then Some v else argument_of text fs values name
 
-abbrev pub or_else : Option (List ℕ) → Option (List ℕ) → Option (List ℕ)
-or_else None o = o
-or_else (Some v) o = Some v
+abbrev pub first_value : Option (List ℕ) → Option (List ℕ) → Option (List ℕ)
+first_value None o = o
+first_value (Some v) o = Some v
 
 abbrev pub scope_value : Config → Bindings → Scope → List ℕ → Option (List ℕ)
 scope_value c bindings whole name = None
@@ -100,7 +100,7 @@ scope_value c bindings (inside b) name = argument_of c.text (formals_of c (insid
 -- the argument of the nearest of these bodies that has the parameter
 abbrev pub value_in : Config → Bindings → List Scope → List ℕ → Option (List ℕ)
 value_in c bindings [] name = None
-value_in c bindings (s ∷ around) name = or_else (scope_value c bindings s name) (value_in c bindings around name)
+value_in c bindings (s ∷ around) name = first_value (scope_value c bindings s name) (value_in c bindings around name)
 
 -- a text with the parameters of the bodies around it replaced
 pub record IsReplaced (c : Config) (bindings : Bindings) (around : List Scope) (text result : List ℕ) : Type 0 where

@@ -67,7 +67,7 @@ bodies_in (statement.Definition n b) = b ∷ []
 bodies_in (statement.Synonym n c) = []
 bodies_in (statement.Requirement t) = []
 
--- Behind these statements, the last first, a scope begins: those before it in the scopes around it. `around` are these scopes, the nearest first.
+-- After these statements, the last first, a scope begins: those before it in the scopes around it. `around` are these scopes, the nearest first.
 pub data Stands (c : Config) : Scope → List Statement → List Scope → Type 0 where
   at_top : Stands c whole [] []
   nested : (s : Scope) (visible : List Statement) (around : List Scope) (before after : List Statement) (st : Statement) (b : ℕ) →

@@ -6,7 +6,7 @@ ghost use Rattle.std.specs.Str.{bytes_eq};
 ghost use Rattle.click_text.specs.declared.syntax.Statement.{Statement as Stated};
 ghost use Rattle.click_text.specs.Spans.{bytes_at};
 ghost use Rattle.click_expand.specs.Classes.{class_names, primitive_of, meaning, class_meaning};
-ghost use Rattle.click_expand.specs.Tables.{meaning_by, Shows, entry_from, first_names, second_names, third_names};
+ghost use Rattle.click_expand.specs.kept.Tables.{meaning_by, Shows, entry_from, first_names, second_names, third_names};
 
 use click_text::syntax::{Class, Span, Statement};
 use std::alloc::AllocError;
@@ -22,7 +22,7 @@ pub enum ClassOf {
 
 /// A definition of a class, and where the one before it stands that is visible with it.
 #[derive(Clone, Copy)]
-pub struct Entry {
+pub struct ClassEntry {
     pub name: Span,
     pub class: Option<ClassOf>,
     pub older: Option<usize>,
@@ -97,7 +97,7 @@ fn primitive(text: &[u8], word: Span) -> Option<ClassOf>
 }
 
 /// The definition at a place, where that is below a limit, with its place.
-fn entry_at(entries: &[Entry], at: Option<usize>, limit: usize) -> Option<(usize, Entry)>
+fn entry_at(entries: &[ClassEntry], at: Option<usize>, limit: usize) -> Option<(usize, ClassEntry)>
     ensures { result ≡ entry_from entries.now at limit }
 {
     match at {
@@ -107,7 +107,7 @@ fn entry_at(entries: &[Entry], at: Option<usize>, limit: usize) -> Option<(usize
 }
 
 /// What a word means where these definitions are visible, the last of them at `top`.
-pub fn find(text: &[u8], entries: &[Entry], top: Option<usize>, word: Span) -> Option<ClassOf>
+pub fn find(text: &[u8], entries: &[ClassEntry], top: Option<usize>, word: Span) -> Option<ClassOf>
     ensures { (visible : List Stated) → Shows text.now entries.now top visible → meaning_by text.now result ≡ meaning text.now visible (bytes_at text.now word) }
 {
     let mut at = top;
@@ -123,7 +123,12 @@ pub fn find(text: &[u8], entries: &[Entry], top: Option<usize>, word: Span) -> O
 }
 
 /// What a class means there.
-pub fn class_at(text: &[u8], entries: &[Entry], top: Option<usize>, class: Class) -> Option<ClassOf>
+pub fn class_at(
+    text: &[u8],
+    entries: &[ClassEntry],
+    top: Option<usize>,
+    class: Class,
+) -> Option<ClassOf>
     ensures { (visible : List Stated) → Shows text.now entries.now top visible → meaning_by text.now result ≡ class_meaning text.now visible class }
 {
     match class {

@@ -1,18 +1,18 @@
 //! The elements of a flat configuration.
 
 ghost use Rattle.std.specs.Prelude.{◌≡◌, ◌<◌, ◌≤◌, ◌++◌, ◌∷◌, [], List, map, IfOk, OnOk, MatchOption};
-ghost use Rattle.click_expand.specs.Located.{AreAllLocals};
-ghost use Rattle.click_expand.specs.Called.{AreAllArguments};
-ghost use Rattle.click_expand.specs.Nesting.{IsNested};
+ghost use Rattle.click_expand.specs.kept.ScopeElements.{AreAllLocals};
+ghost use Rattle.click_expand.specs.kept.CompoundArguments.{AreAllArguments};
+ghost use Rattle.click_expand.specs.kept.Nesting.{IsNested};
 ghost use Rattle.click_expand.specs.Instances.{Leaf as Flattened};
-ghost use Rattle.click_expand.specs.Uses.{Used, AreUses};
+ghost use Rattle.click_expand.specs.kept.KnownInstances.{KnownInstance, AreInstances};
 ghost use Rattle.click_expand.specs.Flat.{flat_element, text_size, most_text};
 
 use crate::flat::FlatElement;
 use crate::flat_elements::element_at;
-use crate::members::Local;
+use crate::instances::Instances;
+use crate::scope_elements::Local;
 use crate::text_buffer::TextBuffer;
-use crate::uses::Uses;
 use click_text::sequence::Sequence;
 use click_text::syntax::{Config, Span};
 use std::alloc::{AllocError, Global};
@@ -31,24 +31,24 @@ pub fn elements_of(
     config: &Config,
     locals: &[Vec<Local>],
     arguments: &[Sequence<Sequence<Span>>],
-    uses: &Uses,
+    instances: &Instances,
 ) -> Result<Option<Vec<FlatElement>>, AllocError>
     requires nested { IsNested config.now }
     requires locals { AreAllLocals config.now locals.now }
     requires arguments { AreAllArguments config.now arguments.now }
-    requires used { (leaves : List Flattened) × (known : List Used) × AreUses config.now uses.now.uses.items uses.now.leaves.items known leaves }
-    ensures { IfOk result (λ r. (leaves : List Flattened) (known : List Used) → AreUses config.now uses.now.uses.items uses.now.leaves.items known leaves →
+    requires used { (leaves : List Flattened) × (known : List KnownInstance) × AreInstances config.now instances.now.instances.items instances.now.leaves.items known leaves }
+    ensures { IfOk result (λ r. (leaves : List Flattened) (known : List KnownInstance) → AreInstances config.now instances.now.instances.items instances.now.leaves.items known leaves →
         MatchOption r (most_text < text_size leaves) (λ elements. (elements.items ≡ map flat_element leaves) × (text_size leaves ≤ most_text))) }
 {
     let mut buffer = TextBuffer::new(alloc);
     let mut elements = Vec::new(alloc);
-    for place in uses.leaves.as_slice() {
+    for place in instances.leaves.as_slice() {
         let Some(element) = element_at(
             alloc,
             config,
             locals,
             arguments,
-            uses.uses.as_slice(),
+            instances.instances.as_slice(),
             &mut buffer,
             *place,
         )?

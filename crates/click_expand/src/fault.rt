@@ -2,29 +2,40 @@
 
 use click_text::sequence::Sequence;
 use click_text::syntax::Span;
+use std::fmt;
+use thiserror::Error;
 
-/// What is wrong. The numbers are those that operators see.
-#[derive(Clone, Copy, Debug, PartialEq, Eq)]
+/// What is wrong. The numbers are those that operators see, and it prints as its number and its name.
+#[derive(Clone, Copy, Debug, PartialEq, Eq, Error)]
 pub enum FaultKind {
+    #[error("7 NoMemory")]
     NoMemory = 7,
     /// A bare word names no element and no class.
+    #[error("11 UnknownName")]
     UnknownName = 11,
     /// A name has a second declaration in its scope, or two flat elements have one name.
+    #[error("12 DeclaredTwice")]
     DeclaredTwice = 12,
     /// A word stands for a class and names none.
+    #[error("13 UnknownClass")]
     UnknownClass = 13,
     /// A compound's element has more or fewer arguments than parameters.
+    #[error("14 WrongParameters")]
     WrongParameters = 14,
     /// A port that a compound lacks.
+    #[error("15 CompoundPort")]
     CompoundPort = 15,
     /// A limit is passed.
+    #[error("16 TooMany")]
     TooMany = 16,
     /// A text whose parameters are replaced is no longer one configuration string.
+    #[error("17 BrokenText")]
     BrokenText = 17,
 }
 
-/// The first fault of a configuration.
-#[derive(Drop)]
+/// The first fault of a configuration. It prints as its kind with its place, as `11 UnknownName at bytes 4 to 7` or `17 BrokenText at a/b`.
+#[derive(Debug, Drop, Error)]
+#[error(fmt = write_fault)]
 pub struct ExpandFault {
     pub kind: FaultKind,
     /// The token at which it stands, where it has one.
@@ -32,3 +43,26 @@ pub struct ExpandFault {
     /// The flat name of the element of a broken text, else empty.
     pub name: Sequence<u8>,
 }
+
+/// Writes a fault. A name's bytes are ASCII.
+fn write_fault<W: fmt::Write>(
+    kind: &FaultKind,
+    span: &Option<Span>,
+    name: &Sequence<u8>,
+    f: &mut fmt::Formatter<W>,
+) -> fmt::Result {
+    write!(f, "{kind}")?;
+    if let Some(span) = span {
+        write!(f, " at bytes {} to {}", span.start, span.end)?;
+    }
+    if name.len() > 0 {
+        write!(f, " at ")?;
+    }
+    for byte in name.as_slice() {
+        f.write_char(char::from(*byte))?;
+    }
+    Ok(())
+}
+
+#[cfg(test)]
+mod tests;

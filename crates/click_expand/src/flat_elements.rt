@@ -1,23 +1,23 @@
 //! A flat element by its place.
 
 ghost use Rattle.std.specs.Prelude.{◌≡◌, ◌<◌, ◌+◌, ℕ, List, length, slice_get, Some, IfOk, MatchOption};
-ghost use Rattle.click_expand.specs.Located.{AreAllLocals};
-ghost use Rattle.click_expand.specs.Called.{AreAllArguments};
-ghost use Rattle.click_expand.specs.Buffered.{AreKept};
+ghost use Rattle.click_expand.specs.kept.ScopeElements.{AreAllLocals};
+ghost use Rattle.click_expand.specs.kept.CompoundArguments.{AreAllArguments};
+ghost use Rattle.click_expand.specs.kept.Buffered.{AreKept};
 ghost use Rattle.click_expand.specs.Instances.{Leaf as Flattened};
-ghost use Rattle.click_expand.specs.Uses.{Used, AreUses};
+ghost use Rattle.click_expand.specs.kept.KnownInstances.{KnownInstance, AreInstances};
 ghost use Rattle.click_expand.specs.Flat.{flat_element};
-ghost use Rattle.click_expand.specs.Classed.{class_found};
-ghost use Rattle.click_expand.specs.declared.uses.Place.{Place as Placed};
+ghost use Rattle.click_expand.specs.kept.Classed.{class_found};
+ghost use Rattle.click_expand.specs.declared.instances.Place.{Place as Placed};
 
 use crate::classes::ClassOf;
 use crate::flat::FlatElement;
 use crate::flat_names::name_of;
-use crate::members::Local;
-use crate::readings::{Reading, string_at};
+use crate::instances::{Instance, Place};
+use crate::parameter_values::{UnreadText, string_at};
+use crate::scope_elements::Local;
 use crate::text_buffer::TextBuffer;
 use crate::texts::write_text;
-use crate::uses::{Place, Use};
 use click_text::sequence::Sequence;
 use click_text::syntax::{Config, Span};
 use std::alloc::{AllocError, Global};
@@ -44,29 +44,29 @@ pub fn element_at(
     config: &Config,
     locals: &[Vec<Local>],
     arguments: &[Sequence<Sequence<Span>>],
-    uses: &[Use],
+    instances: &[Instance],
     buffer: &mut TextBuffer,
     place: Place,
 ) -> Result<Option<FlatElement>, AllocError>
     requires locals { AreAllLocals config.now locals.now }
     requires arguments { AreAllArguments config.now arguments.now }
-    requires within { place.within < length uses.now }
-    requires kept { AreKept config.now uses.now buffer.old }
-    ensures kept { IfOk result (λ _. AreKept config.now uses.now buffer.new) }
-    ensures made { IfOk result (λ r. (places : List Placed) (known : List Used) (leaves : List Flattened) (n : ℕ) (leaf : Flattened) → AreUses config.now uses.now places known leaves →
+    requires within { place.within < length instances.now }
+    requires kept { AreKept config.now instances.now buffer.old }
+    ensures kept { IfOk result (λ _. AreKept config.now instances.now buffer.new) }
+    ensures made { IfOk result (λ r. (places : List Placed) (known : List KnownInstance) (leaves : List Flattened) (n : ℕ) (leaf : Flattened) → AreInstances config.now instances.now places known leaves →
         slice_get places n ≡ Some place → slice_get leaves n ≡ Some leaf →
         MatchOption r (buffer.old.room < length leaf.text) (λ e. (e ≡ flat_element leaf) × (buffer.new.room + length leaf.text ≡ buffer.old.room))) }
 {
     let text = config.text.as_slice();
-    let one = &uses[place.within];
+    let one = &instances[place.within];
     let class = Vec::from_slice(alloc, class_name(text, locals, one.scope, place.element))?;
-    let name = name_of(alloc, locals, uses, place)?;
-    let first = Reading {
+    let name = name_of(alloc, locals, instances, place)?;
+    let first = UnreadText {
         within: place.within,
         rest: string_at(text, locals, one.scope, place.element),
     };
     let start = buffer.text.len();
-    if !write_text(alloc, config, locals, arguments, uses, buffer, first)? {
+    if !write_text(alloc, config, locals, arguments, instances, buffer, first)? {
         return Ok(None);
     }
     let replaced = Vec::from_slice(alloc, buffer.behind(start))?;

@@ -3,30 +3,30 @@
 ghost use Rattle.std.specs.Prelude.{◌≡◌, ◌≤◌, ℕ, List, map, length, slice_get, Some, IfOk, IfErr};
 ghost use Rattle.click_text.specs.Spelling.{Spells};
 ghost use Rattle.click_expand.specs.declared.flat.Flat.{Flat as FlatForm};
-ghost use Rattle.click_expand.specs.Faults.{IsSound};
+ghost use Rattle.click_expand.specs.Faults.{IsFaultless};
 ghost use Rattle.click_expand.specs.Flat.{IsFlat, IsFlatFault, IsMemoryOr, IsGiven, flat_element};
 ghost use Rattle.click_expand.specs.Instances.{Leaf as Flattened};
-ghost use Rattle.click_expand.specs.Located.{AreAllLocals};
-ghost use Rattle.click_expand.specs.Nesting.{IsNested};
-ghost use Rattle.click_expand.specs.Tabled.{AreTables, IsFirst, IsExpandedOr, IsRefused, IsRefusedOf, fault_for, head_in};
-ghost use Rattle.click_expand.specs.Uses.{Used, AreUses};
-ghost use Rattle.click_expand.specs.Wrongs.{AreShort};
+ghost use Rattle.click_expand.specs.kept.ScopeElements.{AreAllLocals};
+ghost use Rattle.click_expand.specs.kept.Nesting.{IsNested};
+ghost use Rattle.click_expand.specs.kept.Tabled.{AreTables, IsFirst, IsExpandedOr, IsRefused, IsRefusedOf, fault_for, head_in};
+ghost use Rattle.click_expand.specs.kept.KnownInstances.{KnownInstance, AreInstances};
+ghost use Rattle.click_expand.specs.kept.FirstFault.{AreShort};
 
-use crate::called::all_arguments;
+use crate::compound_arguments::all_arguments;
+use crate::compound_faults::first_compound_fault;
 use crate::elements::elements_of;
 use crate::fault::{ExpandFault, FaultKind};
+use crate::final_checks::{first_broken, first_repeated};
+use crate::first_fault::{TokenFault, first_of, first_token};
 use crate::flat::{Flat, FlatElement};
-use crate::flat_text::push_name;
-use crate::joints::{Joint, all_joints};
-use crate::members::{Local, all_locals};
-use crate::misnamed::first_misnamed;
-use crate::misused::first_misused;
+use crate::flat_writing::push_name;
+use crate::instances::{Instances, instances_of};
+use crate::name_faults::first_name_fault;
+use crate::scope_elements::{Local, all_locals};
 use crate::scopes::{Scopes, scopes_of};
 use crate::sizes::{MOST_ELEMENTS, MOST_PATHS, size_of};
-use crate::uses::{Uses, uses_of};
-use crate::whole::{first_broken, first_repeated};
 use crate::wiring::connections_of;
-use crate::wrong::{Wrong, first_of, first_token};
+use crate::written_connections::{WrittenConnection, all_joints};
 use click_text::sequence::Sequence;
 use click_text::syntax::{Config, Head, Span};
 use std::alloc::{AllocError, Global};
@@ -37,12 +37,12 @@ pub struct Tables {
     pub scopes: Scopes,
     pub locals: Vec<Vec<Local>>,
     pub arguments: Vec<Sequence<Sequence<Span>>>,
-    pub joints: Vec<Sequence<Joint>>,
+    pub joints: Vec<Sequence<WrittenConnection>>,
 }
 
 /// Why there is no flat form.
 #[derive(Drop)]
-pub enum Refused {
+pub enum Refusal {
     NoMemory,
     /// A wrong use, or a flat name that is taken, at a token.
     At(FaultKind, Span),
@@ -52,14 +52,14 @@ pub enum Refused {
     Broken(Sequence<u8>),
 }
 
-impl From<AllocError> for Refused {
+impl From<AllocError> for Refusal {
     ghost use Rattle.std.specs.Prelude.{◌≡◌};
-    ghost use Rattle.click_expand.specs.declared.flattening.Refused.TheVariants as why;
+    ghost use Rattle.click_expand.specs.declared.flattening.Refusal.TheVariants as why;
 
     ghost from_gives = { λ _ r. r ≡ why.NoMemory };
 
-    fn from(_error: AllocError) -> Refused {
-        Refused::NoMemory
+    fn from(_error: AllocError) -> Refusal {
+        Refusal::NoMemory
     }
 }
 
@@ -82,7 +82,11 @@ fn tables_of(alloc: Global, config: &Config) -> Result<Tables, AllocError>
 }
 
 /// The first wrong use of a name, class, parameter or port.
-fn first_wrong(alloc: Global, config: &Config, tables: &Tables) -> Result<Option<Wrong>, AllocError>
+fn first_wrong(
+    alloc: Global,
+    config: &Config,
+    tables: &Tables,
+) -> Result<Option<TokenFault>, AllocError>
     requires nested { IsNested config.now }
     requires short { AreShort config.now.bodies }
     requires tables { AreTables config.now tables.now }
@@ -91,9 +95,9 @@ fn first_wrong(alloc: Global, config: &Config, tables: &Tables) -> Result<Option
     let locals = tables.locals.as_slice();
     let arguments = tables.arguments.as_slice();
     let joints = tables.joints.as_slice();
-    let misnamed = first_misnamed(alloc, config, &tables.scopes, locals)?;
-    let misused = first_misused(alloc, config, locals, arguments, joints)?;
-    Ok(first_of(misnamed, misused))
+    let name_fault = first_name_fault(alloc, config, &tables.scopes, locals)?;
+    let compound_fault = first_compound_fault(alloc, config, locals, arguments, joints)?;
+    Ok(first_of(name_fault, compound_fault))
 }
 
 /// The elements and connections, or none where there are too many.
@@ -101,22 +105,22 @@ fn expanded(
     alloc: Global,
     config: &Config,
     tables: &Tables,
-    uses: &Uses,
+    instances: &Instances,
 ) -> Result<Option<Flat>, AllocError>
     requires nested { IsNested config.now }
-    requires sound { IsSound config.now }
+    requires sound { IsFaultless config.now }
     requires tables { AreTables config.now tables.now }
-    requires used { (leaves : List Flattened) × (known : List Used) × AreUses config.now uses.now.uses.items uses.now.leaves.items known leaves }
-    ensures { IfOk result (λ r. (leaves : List Flattened) (known : List Used) (paths : ℕ) → AreUses config.now uses.now.uses.items uses.now.leaves.items known leaves →
+    requires used { (leaves : List Flattened) × (known : List KnownInstance) × AreInstances config.now instances.now.instances.items instances.now.leaves.items known leaves }
+    ensures { IfOk result (λ r. (leaves : List Flattened) (known : List KnownInstance) (paths : ℕ) → AreInstances config.now instances.now.instances.items instances.now.leaves.items known leaves →
         length leaves ≤ 4096 → paths ≤ 16384 → IsExpandedOr config.now leaves paths r) }
 {
     let locals = tables.locals.as_slice();
     let arguments = tables.arguments.as_slice();
-    let Some(elements) = elements_of(alloc, config, locals, arguments, uses)? else {
+    let Some(elements) = elements_of(alloc, config, locals, arguments, instances)? else {
         return Ok(None);
     };
     let joints = tables.joints.as_slice();
-    let Some(connections) = connections_of(alloc, config, locals, joints, uses)? else {
+    let Some(connections) = connections_of(alloc, config, locals, joints, instances)? else {
         return Ok(None);
     };
     Ok(Some(Flat {
@@ -126,24 +130,24 @@ fn expanded(
 }
 
 /// What the flat element at a place begins with.
-fn head_at(locals: &[Vec<Local>], uses: &Uses, place: usize) -> Option<Head>
-    ensures { result ≡ head_in locals.now uses.now.uses.items uses.now.leaves.items place }
+fn head_at(locals: &[Vec<Local>], instances: &Instances, place: usize) -> Option<Head>
+    ensures { result ≡ head_in locals.now instances.now.instances.items instances.now.leaves.items place }
 {
-    let leaf = uses.leaves.get(place)?;
-    let one = uses.uses.get(leaf.within)?;
+    let leaf = instances.leaves.get(place)?;
+    let one = instances.instances.get(leaf.within)?;
     let scope = locals.get(one.scope)?;
     let local = scope.get(leaf.element)?;
     Some(local.head)
 }
 
 /// The first token of the flat element at a place.
-fn token_of(config: &Config, locals: &[Vec<Local>], uses: &Uses, place: usize) -> Span
+fn token_of(config: &Config, locals: &[Vec<Local>], instances: &Instances, place: usize) -> Span
     requires short { AreShort config.now.bodies }
     requires locals { AreAllLocals config.now locals.now }
-    ensures { (leaves : List Flattened) (known : List Used) (leaf : Flattened) → AreUses config.now uses.now.uses.items uses.now.leaves.items known leaves →
+    ensures { (leaves : List Flattened) (known : List KnownInstance) (leaf : Flattened) → AreInstances config.now instances.now.instances.items instances.now.leaves.items known leaves →
         slice_get leaves place ≡ Some leaf → result ≡ leaf.first }
 {
-    match head_at(locals, uses, place) {
+    match head_at(locals, instances, place) {
         Some(head) => first_token(config.bodies.as_slice(), head),
         None => Span { start: 0, end: 0 },
     }
@@ -154,31 +158,31 @@ fn refused_of(
     alloc: Global,
     config: &Config,
     locals: &[Vec<Local>],
-    uses: &Uses,
+    instances: &Instances,
     elements: &[FlatElement],
-) -> Result<Option<Refused>, AllocError>
+) -> Result<Option<Refusal>, AllocError>
     requires short { AreShort config.now.bodies }
     requires locals { AreAllLocals config.now locals.now }
-    ensures { IfOk result (λ r. (leaves : List Flattened) (known : List Used) → AreUses config.now uses.now.uses.items uses.now.leaves.items known leaves →
+    ensures { IfOk result (λ r. (leaves : List Flattened) (known : List KnownInstance) → AreInstances config.now instances.now.instances.items instances.now.leaves.items known leaves →
         elements.now ≡ map flat_element leaves → IsRefusedOf leaves r) }
 {
     if let Some(place) = first_repeated(alloc, elements)? {
-        let token = token_of(config, locals, uses, place);
-        return Ok(Some(Refused::At(FaultKind::DeclaredTwice, token)));
+        let token = token_of(config, locals, instances, place);
+        return Ok(Some(Refusal::At(FaultKind::DeclaredTwice, token)));
     }
     if let Some(place) = first_broken(alloc, elements)? {
         let mut name = Vec::new(alloc);
         push_name(&mut name, elements, place)?;
-        return Ok(Some(Refused::Broken(Sequence::of(name))));
+        return Ok(Some(Refusal::Broken(Sequence::of(name))));
     }
     Ok(None)
 }
 
 /// The flat form of a configuration without a wrong use, or why it has none.
-fn sound_flat(alloc: Global, config: &Config, tables: &Tables) -> Result<Flat, Refused>
+fn sound_flat(alloc: Global, config: &Config, tables: &Tables) -> Result<Flat, Refusal>
     requires nested { IsNested config.now }
     requires short { AreShort config.now.bodies }
-    requires sound { IsSound config.now }
+    requires sound { IsFaultless config.now }
     requires tables { AreTables config.now tables.now }
     ensures flat { IfOk result (λ flat. IsFlat config.now flat) }
     ensures err { IfErr result (λ why. IsRefused config.now why) }
@@ -186,20 +190,20 @@ fn sound_flat(alloc: Global, config: &Config, tables: &Tables) -> Result<Flat, R
     let locals = tables.locals.as_slice();
     let size = size_of(alloc, config, locals)?;
     if size.elements > MOST_ELEMENTS || size.paths > MOST_PATHS {
-        return Err(Refused::TooMany);
+        return Err(Refusal::TooMany);
     }
-    let uses = uses_of(alloc, config, &tables.scopes, locals, size.paths)?;
-    let Some(flat) = expanded(alloc, config, tables, &uses)? else {
-        return Err(Refused::TooMany);
+    let instances = instances_of(alloc, config, &tables.scopes, locals, size.paths)?;
+    let Some(flat) = expanded(alloc, config, tables, &instances)? else {
+        return Err(Refusal::TooMany);
     };
-    match refused_of(alloc, config, locals, &uses, flat.elements.as_slice())? {
+    match refused_of(alloc, config, locals, &instances, flat.elements.as_slice())? {
         Some(why) => Err(why),
         None => Ok(flat),
     }
 }
 
 /// The flat form of a configuration, or why it has none.
-fn flat_of(alloc: Global, config: &Config) -> Result<Flat, Refused>
+fn flat_of(alloc: Global, config: &Config) -> Result<Flat, Refusal>
     requires nested { IsNested config.now }
     requires short { AreShort config.now.bodies }
     ensures flat { IfOk result (λ flat. IsFlat config.now flat) }
@@ -207,32 +211,32 @@ fn flat_of(alloc: Global, config: &Config) -> Result<Flat, Refused>
 {
     let tables = tables_of(alloc, config)?;
     match first_wrong(alloc, config, &tables)? {
-        Some(wrong) => Err(Refused::At(wrong.kind, wrong.span)),
+        Some(wrong) => Err(Refusal::At(wrong.kind, wrong.span)),
         None => sound_flat(alloc, config, &tables),
     }
 }
 
 /// The fault that tells why there is no flat form.
-fn fault_of(alloc: Global, refused: Refused) -> ExpandFault
+fn fault_of(alloc: Global, refused: Refusal) -> ExpandFault
     ensures { result ≡ fault_for refused }
 {
     match refused {
-        Refused::NoMemory => ExpandFault {
+        Refusal::NoMemory => ExpandFault {
             kind: FaultKind::NoMemory,
             span: None,
             name: Sequence::new(alloc),
         },
-        Refused::At(kind, span) => ExpandFault {
+        Refusal::At(kind, span) => ExpandFault {
             kind,
             span: Some(span),
             name: Sequence::new(alloc),
         },
-        Refused::TooMany => ExpandFault {
+        Refusal::TooMany => ExpandFault {
             kind: FaultKind::TooMany,
             span: None,
             name: Sequence::new(alloc),
         },
-        Refused::Broken(name) => ExpandFault {
+        Refusal::Broken(name) => ExpandFault {
             kind: FaultKind::BrokenText,
             span: None,
             name,

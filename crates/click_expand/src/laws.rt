@@ -9,13 +9,13 @@ ghost use Rattle.click_expand.specs.declared.flat.Flat.{Flat};
 ghost use Rattle.click_expand.specs.declared.flat.FlatElement.{FlatElement};
 ghost use Rattle.click_expand.specs.Scopes.{whole};
 ghost use Rattle.click_expand.specs.Faults.{scope_locals};
-ghost use Rattle.click_expand.specs.Flat.{Before, IsFlat, IsFlatFault};
-ghost use Rattle.click_expand.specs.OneScope.{HasNoCompounds, IsWritten, own_element};
-ghost use Rattle.click_expand.specs.FlatText.{text_of};
+ghost use Rattle.click_expand.specs.Flat.{StandsBefore, IsFlat, IsFlatFault};
+ghost use Rattle.click_expand.specs.OneScope.{HasNoCompounds, IsConnectionAsWritten, own_element};
+ghost use Rattle.click_expand.specs.FlatText.{flat_text_of};
 
 /// The text of a configuration's flat form spells a configuration, whose flat form it is too. `parse` reads it where it isn't too large.
 pub fn flat_text_reads_back()
-    ensures { (text : List ℕ) (config : Config) (flat : Flat) → Spells text config → IsFlat config flat → (again : Config) × Spells (text_of flat) again × IsFlat again flat }
+    ensures { (text : List ℕ) (config : Config) (flat : Flat) → Spells text config → IsFlat config flat → (again : Config) × Spells (flat_text_of flat) again × IsFlat again flat }
 {}
 
 /// A configuration that a text spells has one flat form at most, one first fault at most, and never both.
@@ -34,7 +34,7 @@ pub fn names_are_distinct()
 /// The connections of a flat form stand in order, each once: by from-element, from-port, to-element, to-port.
 pub fn connections_are_ordered()
     ensures { (config : Config) (flat : Flat) (i j : ℕ) (k l : Connection) → IsFlat config flat →
-        slice_get flat.connections i ≡ Some k → slice_get flat.connections j ≡ Some l → i < j → Before k l }
+        slice_get flat.connections i ≡ Some k → slice_get flat.connections j ≡ Some l → i < j → StandsBefore k l }
 {}
 
 /// Each connection of a flat form joins two of its elements.
@@ -47,6 +47,6 @@ pub fn ends_are_elements()
 /// that are written.
 pub fn flat_without_compounds()
     ensures elements { (config : Config) (flat : Flat) → HasNoCompounds config → IsFlat config flat → flat.elements ≡ map own_element (scope_locals config whole []) }
-    ensures written { (config : Config) (flat : Flat) (k : Connection) → HasNoCompounds config → IsFlat config flat → Contains flat.connections k → IsWritten config k }
-    ensures all { (config : Config) (flat : Flat) (k : Connection) → HasNoCompounds config → IsFlat config flat → IsWritten config k → Contains flat.connections k }
+    ensures written { (config : Config) (flat : Flat) (k : Connection) → HasNoCompounds config → IsFlat config flat → Contains flat.connections k → IsConnectionAsWritten config k }
+    ensures all { (config : Config) (flat : Flat) (k : Connection) → HasNoCompounds config → IsFlat config flat → IsConnectionAsWritten config k → Contains flat.connections k }
 {}

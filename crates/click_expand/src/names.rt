@@ -1,6 +1,6 @@
 //! Names in their order, each once.
 
-ghost use Rattle.std.specs.Prelude.{◌≡◌, [], ◌∷◌, ◌++◌, OnOk, position, if◌then◌else◌};
+ghost use Rattle.std.specs.Prelude.{◌≡◌, [], ◌∷◌, ◌++◌, OnOk, OnErr, position, if◌then◌else◌};
 ghost use Rattle.std.specs.Str.{bytes_eq};
 ghost use Rattle.click_expand.specs.Elements.{has_name};
 
@@ -46,9 +46,10 @@ impl Names {
         self.set.get_index_of(name)
     }
 
-    /// Adds the name at the end, if it is not there.
+    /// Adds the name at the end, if it is not there. An error leaves the names as they were.
     pub fn add(&mut self, alloc: Global, name: &[u8]) -> Result<(), AllocError>
-        ensures { OnOk result (self.new ≡ (if has_name name.now self.old then self.old else self.old ++ name.now ∷ [])) }
+        ensures added { OnOk result (self.new ≡ (if has_name name.now self.old then self.old else self.old ++ name.now ∷ [])) }
+        ensures err { OnErr result (self.new ≡ self.old) }
     {
         self.set.insert(Vec::from_slice(alloc, name)?)?;
         Ok(())

@@ -2,13 +2,13 @@
 
 ghost use Rattle.std.specs.Prelude.{◌↔◌, Contains};
 ghost use Rattle.click_expand.specs.declared.flat.Connection.{Connection as Joined};
-ghost use Rattle.click_expand.specs.Flat.{InOrder};
+ghost use Rattle.click_expand.specs.Flat.{AreOrdered};
 
 use crate::flat::Connection;
 
 /// The connections in their order, each once.
 pub fn in_order(mut connections: Vec<Connection>) -> Vec<Connection>
-    ensures order { InOrder result.items }
+    ensures order { AreOrdered result.items }
     ensures same { (c : Joined) → Contains result.items c ↔ Contains connections.items c }
 {
     connections.sort_unstable();

@@ -5,7 +5,7 @@ ghost use Rattle.std.specs.List.{prefix_len};
 ghost use Rattle.std.specs.Str.{bytes_eq};
 ghost use Rattle.click_text.specs.Pieces.{name_byte};
 ghost use Rattle.click_text.specs.Spans.{bytes_at};
-ghost use Rattle.click_expand.specs.Texts.{formal_of, formal_run, formal_in};
+ghost use Rattle.click_expand.specs.kept.Texts.{formal_of, formal_run, formal_in};
 
 use click_text::syntax::Span;
 

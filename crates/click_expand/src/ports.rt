@@ -1,11 +1,11 @@
 //! The ports of bodies.
 
 ghost use Rattle.std.specs.Prelude.{◌≡◌, ◌≤◌, ◌↔◌, ℕ, List, [], ◌∷◌, ◌++◌, length, slice_get, IsTrue, IfOk, OnOk};
-ghost use Rattle.click_expand.specs.Joined.{AreAllJoints};
-ghost use Rattle.click_expand.specs.Nesting.{IsNested};
-ghost use Rattle.click_expand.specs.Misused.{inputs_kept, outputs_kept, ports_or, row_of, HasGap, IsUsed, IsPorts, ArePorts};
+ghost use Rattle.click_expand.specs.kept.WrittenConnections.{AreAllJoints};
+ghost use Rattle.click_expand.specs.kept.Nesting.{IsNested};
+ghost use Rattle.click_expand.specs.kept.CompoundFaults.{inputs_kept, outputs_kept, ports_or, list_or_empty, HasGap, IsUsed, IsPorts, ArePorts};
 
-use crate::joints::{Joint, Owner};
+use crate::written_connections::{Owner, WrittenConnection};
 use click_text::sequence::Sequence;
 use click_text::syntax::Config;
 use std::alloc::{AllocError, Global};
@@ -20,19 +20,19 @@ pub struct Ports {
 
 /// The ports of one side of a body that are in use: how many there are by the highest, and which.
 #[derive(Drop)]
-struct Used {
+struct PortsInUse {
     count: usize,
     ports: [bool; 256],
     ghost few: { count ≤ 256 },
 }
 
-impl Used {
+impl PortsInUse {
     /// No port is in use.
-    fn none() -> Used
+    fn none() -> PortsInUse
         ensures { IsUsed [] result.count result.ports }
     {
         let ports = [false; 256];
-        Used { count: 0, ports }
+        PortsInUse { count: 0, ports }
     }
 
     /// A further port is in use.
@@ -60,10 +60,10 @@ impl Used {
 }
 
 /// The inputs of a body that its connections name.
-fn inputs_used(joints: &[Joint]) -> Used
+fn inputs_used(joints: &[WrittenConnection]) -> PortsInUse
     ensures { IsUsed (inputs_kept joints.now) result.count result.ports }
 {
-    let mut used = Used::none();
+    let mut used = PortsInUse::none();
     for joint in joints {
         if let Owner::Input = joint.from.owner {
             used.add(joint.out_port);
@@ -73,10 +73,10 @@ fn inputs_used(joints: &[Joint]) -> Used
 }
 
 /// The outputs of a body that its connections name.
-fn outputs_used(joints: &[Joint]) -> Used
+fn outputs_used(joints: &[WrittenConnection]) -> PortsInUse
     ensures { IsUsed (outputs_kept joints.now) result.count result.ports }
 {
-    let mut used = Used::none();
+    let mut used = PortsInUse::none();
     for joint in joints {
         if let Owner::Output = joint.to.owner {
             used.add(joint.in_port);
@@ -86,7 +86,7 @@ fn outputs_used(joints: &[Joint]) -> Used
 }
 
 /// The ports of a body with these connections.
-fn ports_by(joints: &[Joint]) -> Ports
+fn ports_by(joints: &[WrittenConnection]) -> Ports
     ensures { IsPorts (inputs_kept joints.now) (outputs_kept joints.now) result }
 {
     let inputs = inputs_used(joints);
@@ -99,8 +99,11 @@ fn ports_by(joints: &[Joint]) -> Ports
 }
 
 /// The connections of the scope at a place.
-pub(crate) fn joints_at(joints: &[Sequence<Joint>], place: usize) -> &[Joint]
-    ensures { result.now ≡ row_of (slice_get joints.now place) }
+pub(crate) fn joints_at(
+    joints: &[Sequence<WrittenConnection>],
+    place: usize,
+) -> &[WrittenConnection]
+    ensures { result.now ≡ list_or_empty (slice_get joints.now place) }
 {
     match joints.get(place) {
         Some(row) => row.as_slice(),
@@ -112,7 +115,7 @@ pub(crate) fn joints_at(joints: &[Sequence<Joint>], place: usize) -> &[Joint]
 pub(crate) fn all_ports(
     alloc: Global,
     config: &Config,
-    joints: &[Sequence<Joint>],
+    joints: &[Sequence<WrittenConnection>],
 ) -> Result<Vec<Ports>, AllocError>
     requires nested { IsNested config.now }
     requires joined { AreAllJoints config.now joints.now }

@@ -1,16 +1,16 @@
-//! The scopes of a configuration: each body by its place, and behind them the whole text.
+//! The scopes of a configuration: each body by its place, and after them the whole text.
 
 ghost use Rattle.std.specs.Prelude.{◌≡◌, List, [], ◌∷◌, ◌++◌, map, slice_get, IfOk, OnOk};
 ghost use Rattle.click_text.specs.declared.syntax.Statement.{Statement as Stated};
 ghost use Rattle.click_expand.specs.Scopes.{bodies_in, class_bodies, head_bodies, link_bodies, body_statements};
 ghost use Rattle.click_expand.specs.Elements.{placed};
 ghost use Rattle.click_expand.specs.Faults as faults;
-ghost use Rattle.click_expand.specs.Tables.{Shows, AreWritten, IsMore, IsEntry};
-ghost use Rattle.click_expand.specs.Nesting.{IsNested};
-ghost use Rattle.click_expand.specs.Scoped.{AreScopes, AreSynonyms, ports_in};
-ghost use Rattle.click_expand.specs.Standing.{kept_link, kept_name, kept_elements, root, AreRoots, written_ports, IsDefined, AddsSynonyms};
+ghost use Rattle.click_expand.specs.kept.Tables.{Shows, AreWritten, IsMore, IsEntry};
+ghost use Rattle.click_expand.specs.kept.Nesting.{IsNested};
+ghost use Rattle.click_expand.specs.kept.Scoped.{AreScopes, AreSynonyms, ports_in};
+ghost use Rattle.click_expand.specs.kept.Standing.{kept_link, kept_name, kept_elements, root, AreRoots, written_ports, IsDefined, AddsSynonyms};
 
-use crate::classes::{ClassOf, Entry, find};
+use crate::classes::{ClassEntry, ClassOf, find};
 use click_text::syntax::{
     Body, Chain, Class, Config, Declaration, Element, Head, Link, Port, Statement,
 };
@@ -18,7 +18,7 @@ use std::alloc::{AllocError, Global};
 
 /// An element as it is written: the last definition that is visible there, and the ports that join it to the element before it.
 #[derive(Clone, Copy)]
-pub struct Written {
+pub struct WrittenElement {
     pub element: Element,
     pub top: Option<usize>,
     pub ports: Option<(u8, u8)>,
@@ -35,15 +35,15 @@ pub struct Root {
 /// A scope: its elements as they are written, and the place of the scope that it stands in. The whole text names itself.
 #[derive(Drop)]
 pub struct Scope {
-    pub written: Vec<Written>,
+    pub written: Vec<WrittenElement>,
     pub outer: usize,
 }
 
-/// The scopes of a configuration, each body at its own place and the whole text behind them, and the definitions of classes in them.
+/// The scopes of a configuration, each body at its own place and the whole text after them, and the definitions of classes in them.
 #[derive(Drop)]
 pub struct Scopes {
     pub scopes: Vec<Scope>,
-    pub entries: Vec<Entry>,
+    pub entries: Vec<ClassEntry>,
 }
 
 /// The number of a port. One that is not written is 0.
@@ -58,14 +58,14 @@ fn port_number(port: Option<Port>) -> u8
 
 /// Adds the further elements of a chain.
 fn push_links(
-    written: &mut Vec<Written>,
+    written: &mut Vec<WrittenElement>,
     links: &[Link],
     top: Option<usize>,
 ) -> Result<(), AllocError>
     ensures { OnOk result (written.new.items ≡ written.old.items ++ map (λ l. kept_link top l) links.now) }
 {
     for link in links {
-        written.push(Written {
+        written.push(WrittenElement {
             element: link.element,
             top,
             ports: Some((port_number(link.from), port_number(link.to))),
@@ -76,14 +76,14 @@ fn push_links(
 
 /// Adds the elements of a declaration of several names.
 fn push_names(
-    written: &mut Vec<Written>,
+    written: &mut Vec<WrittenElement>,
     declaration: &Declaration,
     top: Option<usize>,
 ) -> Result<(), AllocError>
     ensures { OnOk result (written.new.items ≡ written.old.items ++ map (λ n. kept_name declaration.now top n) declaration.now.names) }
 {
     for name in declaration.names.as_slice() {
-        written.push(Written {
+        written.push(WrittenElement {
             element: Element {
                 head: Head::Declared(*name, declaration.class),
                 text: declaration.text,
@@ -97,13 +97,13 @@ fn push_names(
 
 /// Adds the first element of a chain and the further ones.
 fn push_chain(
-    written: &mut Vec<Written>,
+    written: &mut Vec<WrittenElement>,
     chain: &Chain,
     top: Option<usize>,
 ) -> Result<(), AllocError>
     ensures { OnOk result (written.new.items ≡ written.old.items ++ kept_elements top (Statement.Chain chain.now)) }
 {
-    written.push(Written {
+    written.push(WrittenElement {
         element: chain.first,
         top,
         ports: None,
@@ -113,7 +113,7 @@ fn push_chain(
 
 /// Adds the elements of a statement.
 fn push_elements(
-    written: &mut Vec<Written>,
+    written: &mut Vec<WrittenElement>,
     statement: &Statement,
     top: Option<usize>,
 ) -> Result<(), AllocError>
@@ -213,23 +213,23 @@ fn push_roots(
     }
 }
 
-/// The definition that a statement makes, behind those up to `top`.
+/// The definition that a statement makes, after those up to `top`.
 fn entry_of(
     text: &[u8],
-    entries: &[Entry],
+    entries: &[ClassEntry],
     statement: &Statement,
     top: Option<usize>,
-) -> Option<Entry>
+) -> Option<ClassEntry>
     ensures { (visible : List Stated) → Shows text.now entries.now top visible → IsEntry text.now visible top statement.now result }
 {
     match statement {
-        Statement::Definition { name, body } => Some(Entry {
+        Statement::Definition { name, body } => Some(ClassEntry {
             name: *name,
             class: Some(ClassOf::Compound(*body)),
             older: top,
             original: None,
         }),
-        Statement::Synonym { name, class } => Some(Entry {
+        Statement::Synonym { name, class } => Some(ClassEntry {
             name: *name,
             class: find(text, entries, top, *class),
             older: top,
@@ -239,10 +239,10 @@ fn entry_of(
     }
 }
 
-/// Adds the definition that a statement makes, and says what is visible behind it.
+/// Adds the definition that a statement makes, and says what is visible after it.
 fn define(
     text: &[u8],
-    entries: &mut Vec<Entry>,
+    entries: &mut Vec<ClassEntry>,
     statement: &Statement,
     top: Option<usize>,
 ) -> Result<Option<usize>, AllocError>
@@ -265,11 +265,11 @@ fn written_of(
     alloc: Global,
     text: &[u8],
     statements: &[Statement],
-    entries: &mut Vec<Entry>,
+    entries: &mut Vec<ClassEntry>,
     roots: &mut Vec<Root>,
     scope: usize,
     outside: Option<usize>,
-) -> Result<Vec<Written>, AllocError>
+) -> Result<Vec<WrittenElement>, AllocError>
     ensures grows { IsMore entries.old.items entries.new.items }
     ensures written { IfOk result (λ ws. (visible : List Stated) → Shows text.now entries.old.items outside visible → AreWritten text.now entries.new.items ws.items (placed visible statements.now)) }
     ensures roots { OnOk result ((visible : List Stated) → Shows text.now entries.old.items outside visible → AreRoots text.now entries.new.items scope visible statements.now roots.old.items roots.new.items) }

@@ -1,16 +1,16 @@
 //! How much a configuration stands for, before it is expanded.
 
 ghost use Rattle.std.specs.Prelude.{◌≡◌, ◌+◌, ◌++◌, ◌∷◌, [], min, slice_get, IfOk, OnOk};
-ghost use Rattle.click_expand.specs.Located.{AreAllLocals};
-ghost use Rattle.click_expand.specs.Nesting.{IsNested};
-ghost use Rattle.click_expand.specs.Faults.{IsSound};
-ghost use Rattle.click_expand.specs.Sizes.{IsSizeOf};
+ghost use Rattle.click_expand.specs.kept.ScopeElements.{AreAllLocals};
+ghost use Rattle.click_expand.specs.kept.Nesting.{IsNested};
+ghost use Rattle.click_expand.specs.Faults.{IsFaultless};
+ghost use Rattle.click_expand.specs.kept.Sizes.{IsSizeOf};
 ghost use Rattle.click_expand.specs.Flat.{most_elements, most_paths};
-ghost use Rattle.click_expand.specs.Counted as spec;
-ghost use Rattle.click_expand.specs.Counted.{size_or, IsSum};
+ghost use Rattle.click_expand.specs.kept.Counted as spec;
+ghost use Rattle.click_expand.specs.kept.Counted.{size_or, IsSum};
 
 use crate::classes::ClassOf;
-use crate::members::Local;
+use crate::scope_elements::Local;
 use click_text::syntax::Config;
 use std::alloc::{AllocError, Global};
 
@@ -75,7 +75,7 @@ fn with_element(all: Size, inside: Size) -> Size
     }
 }
 
-/// The size of a scope behind those that its elements can mean.
+/// The size of a scope after those that its elements can mean.
 fn scope_size(sizes: &[Size], locals: &[Local]) -> Size
     ensures { IsSum sizes.now locals.now result }
 {
@@ -97,10 +97,10 @@ fn push_size(sizes: &mut Vec<Size>, size: Size) -> Result<(), AllocError>
     Ok(())
 }
 
-/// The size of a configuration, counted once for each scope and not once for each use.
+/// The size of a configuration, counted once for each scope and not once for each instance.
 pub fn size_of(alloc: Global, config: &Config, locals: &[Vec<Local>]) -> Result<Size, AllocError>
     requires nested { IsNested config.now }
-    requires sound { IsSound config.now }
+    requires sound { IsFaultless config.now }
     requires locals { AreAllLocals config.now locals.now }
     ensures { IfOk result (λ size. IsSizeOf config.now size) }
 {

@@ -1,12 +1,12 @@
 //! What is written of the texts of elements, and the arguments that stand in it.
 
-ghost use Rattle.std.specs.Prelude.{◌≡◌, ◌<◌, ◌≤◌, ◌+◌, ◌++◌, [], length, drop, true, false, Some, IfOk, OnOk, if◌then◌else◌};
+ghost use Rattle.std.specs.Prelude.{◌≡◌, ◌<◌, ◌≤◌, ◌+◌, ◌++◌, [], length, drop, true, false, Some, IfOk, OnOk, OnErr, if◌then◌else◌};
 ghost use Rattle.std.specs.Map.{lookup};
 ghost use Rattle.click_text.specs.Spans.{bytes_at};
-ghost use Rattle.click_expand.specs.declared.readings.Argument.{Argument as Given};
-ghost use Rattle.click_expand.specs.Buffered.{same_argument};
+ghost use Rattle.click_expand.specs.declared.parameter_values.Argument.{Argument as Given};
+ghost use Rattle.click_expand.specs.kept.Buffered.{same_argument};
 
-use crate::readings::Argument;
+use crate::parameter_values::Argument;
 use click_text::syntax::Span;
 use indexmap::IndexMap;
 use std::alloc::{AllocError, Global};
@@ -14,7 +14,7 @@ use std::alloc::{AllocError, Global};
 /// How many bytes the argument texts of all flat elements may have.
 pub const MOST_TEXT: usize = 1_048_576;
 
-/// The texts of elements, one behind the other; where in them each argument stands that was read once, so that it is read no second time; and how
+/// The texts of elements, one after the other; where in them each argument stands that was read once, so that it is read no second time; and how
 /// many bytes there is still room for.
 #[derive(Drop)]
 pub struct TextBuffer {
@@ -51,12 +51,14 @@ impl TextBuffer {
         self.values.get(&argument).copied()
     }
 
-    /// Adds bytes, if there is room for them.
+    /// Adds bytes, if there is room for them. An error leaves the buffer as it was.
     pub fn add(&mut self, bytes: &[u8]) -> Result<bool, AllocError>
         ensures fits { IfOk result (λ fits. fits ≡ true → self.new.text.items ≡ self.old.text.items ++ bytes.now) }
         ensures full { IfOk result (λ fits. fits ≡ false → (self.new.text ≡ self.old.text) × (self.old.room < length bytes.now)) }
         ensures room { IfOk result (λ _. self.new.room + length self.new.text.items ≡ self.old.room + length self.old.text.items) }
         ensures same { self.new.values ≡ self.old.values }
+        ensures err { OnErr result (self.new.text.items ≡ self.old.text.items) }
+        ensures err_room { OnErr result (self.new.room ≡ self.old.room) }
     {
         if bytes.len() > self.room {
             return Ok(false);
@@ -66,7 +68,7 @@ impl TextBuffer {
         Ok(true)
     }
 
-    /// Adds bytes that stand in the text already, if there is room for them.
+    /// Adds bytes that stand in the text already, if there is room for them. An error leaves the buffer as it was.
     pub fn repeat(&mut self, span: Span) -> Result<bool, AllocError>
         requires ordered { span.start ≤ span.end }
         requires within { span.end ≤ length self.old.text.items }
@@ -74,6 +76,8 @@ impl TextBuffer {
         ensures full { IfOk result (λ fits. fits ≡ false → (self.new.text ≡ self.old.text) × (self.old.room < length (bytes_at self.old.text.items span))) }
         ensures room { IfOk result (λ _. self.new.room + length self.new.text.items ≡ self.old.room + length self.old.text.items) }
         ensures same { self.new.values ≡ self.old.values }
+        ensures err { OnErr result (self.new.text.items ≡ self.old.text.items) }
+        ensures err_room { OnErr result (self.new.room ≡ self.old.room) }
     {
         let len = span.end - span.start;
         if len > self.room {
@@ -84,12 +88,13 @@ impl TextBuffer {
         Ok(true)
     }
 
-    /// The argument stands in the text from a place to its end.
+    /// The argument stands in the text from a place to its end. An error leaves the buffer as it was.
     pub fn keep(&mut self, argument: Argument, start: usize) -> Result<(), AllocError>
         ensures kept { OnOk result ((a : Given) → lookup (same_argument a) self.new.values.entries ≡
             (if same_argument a argument then Some (record { start = start; end = length self.old.text.items }) else lookup (same_argument a) self.old.values.entries)) }
         ensures text { self.new.text ≡ self.old.text }
         ensures room { self.new.room ≡ self.old.room }
+        ensures err { OnErr result (self.new.values.entries ≡ self.old.values.entries) }
     {
         let end = self.text.len();
         self.values.insert(argument, Span { start, end })?;

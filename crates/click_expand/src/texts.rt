@@ -1,22 +1,22 @@
 //! Texts with their parameters replaced.
 
 ghost use Rattle.std.specs.Prelude.{◌≡◌, ℕ, ◌<◌, ◌≤◌, ◌+◌, ◌++◌, ◌∷◌, [], List, length, true, false, IfOk, OnOk};
-ghost use Rattle.click_expand.specs.Called.{AreAllArguments};
-ghost use Rattle.click_expand.specs.Located.{AreAllLocals};
+ghost use Rattle.click_expand.specs.kept.CompoundArguments.{AreAllArguments};
+ghost use Rattle.click_expand.specs.kept.ScopeElements.{AreAllLocals};
 ghost use Rattle.click_expand.specs.Instances.{Leaf as Flattened};
-ghost use Rattle.click_expand.specs.Uses.{Used, AreUses};
-ghost use Rattle.click_expand.specs.Values.{IsRead};
-ghost use Rattle.click_expand.specs.Spread.{Parts, IsShorter};
-ghost use Rattle.click_expand.specs.Buffered.{AreKept, AreSteps, BeginWithin, IsRest, weight};
-ghost use Rattle.click_expand.specs.declared.readings.Reading.{Reading as Remaining};
-ghost use Rattle.click_expand.specs.declared.texts.Step.TheVariants as step;
-ghost use Rattle.click_expand.specs.declared.uses.Place.{Place as Placed};
+ghost use Rattle.click_expand.specs.kept.KnownInstances.{KnownInstance, AreInstances};
+ghost use Rattle.click_expand.specs.kept.ParameterValues.{IsRead};
+ghost use Rattle.click_expand.specs.kept.Spread.{Parts, IsShorter};
+ghost use Rattle.click_expand.specs.kept.Buffered.{AreKept, AreSteps, BeginWithin, IsRest, weight};
+ghost use Rattle.click_expand.specs.declared.parameter_values.UnreadText.{UnreadText as Remaining};
+ghost use Rattle.click_expand.specs.declared.texts.TextStep.TheVariants as step;
+ghost use Rattle.click_expand.specs.declared.instances.Place.{Place as Placed};
 
-use crate::members::Local;
+use crate::instances::Instance;
+use crate::parameter_values::{Argument, ParameterValue, UnreadText, value_at};
 use crate::parameters::parameter_at;
-use crate::readings::{Argument, Reading, Value, value_at};
+use crate::scope_elements::Local;
 use crate::text_buffer::TextBuffer;
-use crate::uses::Use;
 use click_text::first_item;
 use click_text::sequence::Sequence;
 use click_text::syntax::{Config, Span};
@@ -24,16 +24,16 @@ use std::alloc::{AllocError, Global};
 
 /// What a text begins with: so many bytes that stay, or a parameter of so many bytes and what stands for it.
 #[derive(Clone, Copy)]
-pub enum Part<'a> {
+pub enum TextPart<'a> {
     Bytes(usize),
-    Value(usize, Value<'a>),
+    Value(usize, ParameterValue<'a>),
 }
 
 /// What is to be done while a text is written.
 #[derive(Clone, Copy)]
-pub enum Step<'a> {
+pub enum TextStep<'a> {
     /// To write what is read there.
-    Read(Reading<'a>),
+    Read(UnreadText<'a>),
     /// To keep that an argument stands in the text, from that place to where the text then ends.
     Keep(Argument, usize),
 }
@@ -43,48 +43,48 @@ fn part_of<'a>(
     config: &'a Config,
     locals: &[Vec<Local>],
     arguments: &[Sequence<Sequence<Span>>],
-    uses: &[Use],
-    reading: Reading<'a>,
-) -> Part<'a>
+    instances: &[Instance],
+    reading: UnreadText<'a>,
+) -> TextPart<'a>
     requires locals { AreAllLocals config.now locals.now }
     requires arguments { AreAllArguments config.now arguments.now }
     requires some { 0 < length reading.rest.now }
-    ensures parts { (places : List Placed) (known : List Used) (leaves : List Flattened) (whole : List ℕ) → AreUses config.now uses.now places known leaves → IsRead config.now known reading.entry whole →
+    ensures parts { (places : List Placed) (known : List KnownInstance) (leaves : List Flattened) (whole : List ℕ) → AreInstances config.now instances.now places known leaves → IsRead config.now known reading.entry whole →
         Parts config.now known reading.entry.within reading.entry.rest.now whole result }
     ensures shorter { IsShorter config.now.text reading.entry.within reading.entry.rest.now result }
 {
     if let Some(parameter) = parameter_at(reading.rest) {
         let name = parameter.name.of(reading.rest);
-        if let Some(value) = value_at(config, locals, arguments, uses, reading.within, name) {
-            return Part::Value(parameter.size, value);
+        if let Some(value) = value_at(config, locals, arguments, instances, reading.within, name) {
+            return TextPart::Value(parameter.size, value);
         }
     }
     let (_, len) = first_item(reading.rest);
-    Part::Bytes(len)
+    TextPart::Bytes(len)
 }
 
 /// Adds a step, to be done before the others.
-fn push_step<'a>(steps: &mut Vec<Step<'a>>, step: Step<'a>) -> Result<(), AllocError>
+fn push_step<'a>(steps: &mut Vec<TextStep<'a>>, step: TextStep<'a>) -> Result<(), AllocError>
     ensures { OnOk result (steps.new.items ≡ steps.old.items ++ step.entry ∷ []) }
 {
     steps.push(step)?;
     Ok(())
 }
 
-/// Adds the step to read what stands behind the first bytes of a text.
+/// Adds the step to read what stands after the first bytes of a text.
 fn push_rest<'a>(
-    steps: &mut Vec<Step<'a>>,
-    reading: Reading<'a>,
+    steps: &mut Vec<TextStep<'a>>,
+    reading: UnreadText<'a>,
     size: usize,
 ) -> Result<(), AllocError>
     requires { size ≤ length reading.rest.now }
     ensures { OnOk result ((rest : Remaining) × IsRest reading.entry size rest × (steps.new.items ≡ steps.old.items ++ step.Read rest ∷ [])) }
 {
-    let rest = Reading {
+    let rest = UnreadText {
         within: reading.within,
         rest: &reading.rest[size..],
     };
-    push_step(steps, Step::Read(rest))
+    push_step(steps, TextStep::Read(rest))
 }
 
 /// Writes what a text begins with, or adds the steps to write it: whether there is room for it. A value that was written before is not read again.
@@ -92,19 +92,19 @@ fn read_on<'a>(
     config: &'a Config,
     locals: &[Vec<Local>],
     arguments: &[Sequence<Sequence<Span>>],
-    uses: &[Use],
+    instances: &[Instance],
     buffer: &mut TextBuffer,
-    steps: &mut Vec<Step<'a>>,
-    reading: Reading<'a>,
+    steps: &mut Vec<TextStep<'a>>,
+    reading: UnreadText<'a>,
 ) -> Result<bool, AllocError>
     requires locals { AreAllLocals config.now locals.now }
     requires arguments { AreAllArguments config.now arguments.now }
-    requires kept { AreKept config.now uses.now buffer.old }
-    ensures kept { IfOk result (λ _. AreKept config.now uses.now buffer.new) }
+    requires kept { AreKept config.now instances.now buffer.old }
+    ensures kept { IfOk result (λ _. AreKept config.now instances.now buffer.new) }
     ensures room { IfOk result (λ _. buffer.new.room + length buffer.new.text.items ≡ buffer.old.room + length buffer.old.text.items) }
-    ensures led { IfOk result (λ fits. fits ≡ true → (places : List Placed) (known : List Used) (leaves : List Flattened) (whole : List ℕ) → AreUses config.now uses.now places known leaves →
+    ensures led { IfOk result (λ fits. fits ≡ true → (places : List Placed) (known : List KnownInstance) (leaves : List Flattened) (whole : List ℕ) → AreInstances config.now instances.now places known leaves →
         AreSteps config.now known (steps.old.items ++ step.Read reading.entry ∷ []) buffer.old.text.items whole → AreSteps config.now known steps.new.items buffer.new.text.items whole) }
-    ensures full { IfOk result (λ fits. fits ≡ false → (places : List Placed) (known : List Used) (leaves : List Flattened) (whole : List ℕ) → AreUses config.now uses.now places known leaves →
+    ensures full { IfOk result (λ fits. fits ≡ false → (places : List Placed) (known : List KnownInstance) (leaves : List Flattened) (whole : List ℕ) → AreInstances config.now instances.now places known leaves →
         AreSteps config.now known (steps.old.items ++ step.Read reading.entry ∷ []) buffer.old.text.items whole → buffer.old.room + length buffer.old.text.items < length whole) }
     ensures begin { IfOk result (λ _. BeginWithin (length buffer.old.text.items) steps.old.items → BeginWithin (length buffer.new.text.items) steps.new.items) }
     ensures less { IfOk result (λ fits. weight config.now.text steps.new.items < weight config.now.text (steps.old.items ++ step.Read reading.entry ∷ [])) }
@@ -112,18 +112,18 @@ fn read_on<'a>(
     if reading.rest.is_empty() {
         return Ok(true);
     }
-    match part_of(config, locals, arguments, uses, reading) {
-        Part::Bytes(len) => {
+    match part_of(config, locals, arguments, instances, reading) {
+        TextPart::Bytes(len) => {
             push_rest(steps, reading, len)?;
             buffer.add(&reading.rest[..len])
         }
-        Part::Value(size, value) => {
+        TextPart::Value(size, value) => {
             push_rest(steps, reading, size)?;
             if let Some(span) = buffer.place_of(value.argument) {
                 return buffer.repeat(span);
             }
-            push_step(steps, Step::Keep(value.argument, buffer.text.len()))?;
-            push_step(steps, Step::Read(value.reading))?;
+            push_step(steps, TextStep::Keep(value.argument, buffer.text.len()))?;
+            push_step(steps, TextStep::Read(value.reading))?;
             Ok(true)
         }
     }
@@ -135,28 +135,30 @@ pub fn write_text<'a>(
     config: &'a Config,
     locals: &[Vec<Local>],
     arguments: &[Sequence<Sequence<Span>>],
-    uses: &[Use],
+    instances: &[Instance],
     buffer: &mut TextBuffer,
-    first: Reading<'a>,
+    first: UnreadText<'a>,
 ) -> Result<bool, AllocError>
     requires locals { AreAllLocals config.now locals.now }
     requires arguments { AreAllArguments config.now arguments.now }
-    requires within { first.within < length uses.now }
-    requires kept { AreKept config.now uses.now buffer.old }
-    ensures kept { IfOk result (λ _. AreKept config.now uses.now buffer.new) }
+    requires within { first.within < length instances.now }
+    requires kept { AreKept config.now instances.now buffer.old }
+    ensures kept { IfOk result (λ _. AreKept config.now instances.now buffer.new) }
     ensures room { IfOk result (λ _. buffer.new.room + length buffer.new.text.items ≡ buffer.old.room + length buffer.old.text.items) }
-    ensures fits { IfOk result (λ fits. fits ≡ true → (places : List Placed) (known : List Used) (leaves : List Flattened) (whole : List ℕ) → AreUses config.now uses.now places known leaves →
+    ensures fits { IfOk result (λ fits. fits ≡ true → (places : List Placed) (known : List KnownInstance) (leaves : List Flattened) (whole : List ℕ) → AreInstances config.now instances.now places known leaves →
         IsRead config.now known first.entry whole → buffer.new.text.items ≡ buffer.old.text.items ++ whole) }
-    ensures full { IfOk result (λ fits. fits ≡ false → (places : List Placed) (known : List Used) (leaves : List Flattened) (whole : List ℕ) → AreUses config.now uses.now places known leaves →
+    ensures full { IfOk result (λ fits. fits ≡ false → (places : List Placed) (known : List KnownInstance) (leaves : List Flattened) (whole : List ℕ) → AreInstances config.now instances.now places known leaves →
         IsRead config.now known first.entry whole → buffer.old.room < length whole) }
 {
     let mut steps = Vec::new(alloc);
-    push_step(&mut steps, Step::Read(first))?;
+    push_step(&mut steps, TextStep::Read(first))?;
     'steps: while let Some(step) = steps.pop() {
         match step {
-            Step::Keep(argument, start) => buffer.keep(argument, start)?,
-            Step::Read(reading) => {
-                if !read_on(config, locals, arguments, uses, buffer, &mut steps, reading)? {
+            TextStep::Keep(argument, start) => buffer.keep(argument, start)?,
+            TextStep::Read(reading) => {
+                if !read_on(
+                    config, locals, arguments, instances, buffer, &mut steps, reading,
+                )? {
                     return Ok(false);
                 }
             }

@@ -12,8 +12,7 @@ ghost use Rattle.click_router.specs.Refused.{IsUnfit, IsUnlawful, IsConfigFault}
 
 use crate::fault::{ConfigFault, FaultKind, FaultPlace};
 use click_classes::{ArgFault, State, class_of, make};
-use click_expand::names::Names;
-use click_expand::{ExpandFault, FaultKind as ExpandKind, Flat, FlatElement, flatten};
+use click_expand::{ExpandFault, FaultKind as ExpandKind, Flat, FlatElement, Names, flatten};
 use click_ports::{FaultKind as PortKind, Net, PortFault, resolve};
 use click_text::sequence::Sequence;
 use click_text::syntax::{Config, FaultKind as TextKind, Span, TextFault};

@@ -10,7 +10,7 @@ use Rattle.click_text.specs.declared.lexer.Piece.TheVariants as piece
 use Rattle.click_text.specs.Pieces.{digit, is_word, IsPiece}
 use Rattle.click_text.proofs.Beginnings.{word_form}
 use Rattle.click_text.proofs.WordForms.{word_on}
-use Rattle.click_expand.specs.Elements.{numbered}
+use Rattle.click_expand.specs.Elements.{name_with_number}
 use Rattle.click_expand.specs.Flat.{flat_name}
 
 abbrev pub IsName : List ℕ → Type 0
@@ -57,9 +57,9 @@ decimal_digits : (n : ℕ) → list_all digit (decimal n) ≡ true
 unfolding digits
 decimal_digits n = onto_digits 64 n [] refl
 
-pub numbered_name : (w : List ℕ) (n : ℕ) → IsName w → IsName (numbered w n)
+pub numbered_name : (w : List ℕ) (n : ℕ) → IsName w → IsName (name_with_number w n)
 numbered_name w n h =
-    let e : numbered w n ≡ w ++ 64 ∷ decimal (n + 1) = append_assoc w (64 ∷ []) (decimal (n + 1)) in
+    let e : name_with_number w n ≡ w ++ 64 ∷ decimal (n + 1) = append_assoc w (64 ∷ []) (decimal (n + 1)) in
     let u : is_word (w ++ 64 ∷ decimal (n + 1)) ≡ true = rw (word_on w 64 (decimal (n + 1)) h.0) (at_word (decimal (n + 1)) (decimal_digits (n + 1))) in
     rw e (named_by 64 w (decimal (n + 1)) (refl, refl, refl, refl) u)
 

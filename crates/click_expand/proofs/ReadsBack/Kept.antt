@@ -27,10 +27,10 @@ use Rattle.click_expand.specs.declared.flat.Connection.{Connection}
 use Rattle.click_expand.specs.declared.flat.Flat.{Flat}
 use Rattle.click_expand.specs.Scopes.{Scope, whole, inside, statements_of, body_statements, statement_elements, is_body}
 use Rattle.click_expand.specs.Classes.{primitive, compound, class_names, meaning, class_meaning}
-use Rattle.click_expand.specs.Elements.{Placed, place, placed, Role, makes, refers, pseudo, role, made_name, head_class, Local, local, local_by, counts, locals_from}
-use Rattle.click_expand.specs.Faults.{End, Joint, Names, end_of, names_of, number_behind, port_number, joints_behind, joints_from, statement_joints, scope_joints, scope_locals, scope_declared, scope_placed}
+use Rattle.click_expand.specs.Elements.{Placed, place, placed, Role, makes, refers, pseudo, role, made_name, head_class, Local, local, local_by, count_with, locals_from}
+use Rattle.click_expand.specs.Faults.{End, WrittenConnection, ScopeNames, written_end, scope_names, number_behind, port_number, joints_behind, joints_from, statement_joints, scope_joints, scope_locals, scope_declared, scope_placed}
 use Rattle.click_expand.specs.Instances.{Leaf, AreLeaves, no_elements, leaf, branch}
-use Rattle.click_expand.specs.Connections.{Node, output_of, input_of, begins_by, ends_by, Leads, joined, further}
+use Rattle.click_expand.specs.Connections.{Node, output_of, input_of, begin_node, end_node, Leads, by_connection, further}
 use Rattle.click_expand.specs.Flat.{flat_name, IsFlat}
 use Rattle.click_expand.proofs.ReadsBack.FlatNames.{IsName, numbered_name, path_name}
 use Rattle.click_expand.proofs.ReadsBack.Right.{RightHead, RightPort, RightLink, RightStatement, RightBody, right_tokens, right_text}
@@ -138,7 +138,7 @@ unfolding locals_from
 locals_right text in_body declared n [] a = tt
 locals_right text in_body declared n (p ∷ ps) a =
     let r = role text in_body declared p.element in
-    by_right r (local text n p) (locals_from text in_body declared (counts r n) ps) (local_right text n p a.0) (locals_right text in_body declared (counts r n) ps a.1)
+    by_right r (local text n p) (locals_from text in_body declared (count_with r n) ps) (local_right text n p a.0) (locals_right text in_body declared (count_with r n) ps a.1)
 
 scope_locals_right : (c : Config) → IsRight c → (s : Scope) (visible : List Statement) → AllByRecursion RightLocal (scope_locals c s visible)
 scope_locals_right c r s visible = locals_right c.text (is_body s) (scope_declared c s visible) 0 (scope_placed c s visible) (placed_right c.text visible (statements_of c s) (scope_right c r s))
@@ -162,7 +162,7 @@ leaves_right {c} r (branch s around path bindings l ls b visible outer spans val
     (leaves_right r h p a.1)
 
 -- ports
-pub record RightJoint (j : Joint) : Type 0 where
+pub record RightJoint (j : WrittenConnection) : Type 0 where
   pub out_small : j.out_port < 256
   pub in_small : j.in_port < 256
 
@@ -170,22 +170,22 @@ port_small : (p : Option Port) → RightPort p → port_number p < 256
 port_small None h = omega arith
 port_small (Some p) h = h
 
-behind_right : (c : Config) (names : Names) (visible : List Statement) (n : ℕ) (a : End) (ls : List Link) → AllByRecursion (RightLink c.text) ls → AllByRecursion RightJoint (joints_behind c names visible n a ls)
+behind_right : (c : Config) (names : ScopeNames) (visible : List Statement) (n : ℕ) (a : End) (ls : List Link) → AllByRecursion (RightLink c.text) ls → AllByRecursion RightJoint (joints_behind c names visible n a ls)
 unfolding joints_behind
 behind_right c names visible n a [] r = tt
 behind_right c names visible n a (l ∷ ls) r = (
   record { out_small = port_small l.from r.0.0; in_small = port_small l.to r.0.1 },
-  behind_right c names visible (number_behind c names n (place visible l.element)) (end_of c names n (place visible l.element)) ls r.1,
+  behind_right c names visible (number_behind c names n (place visible l.element)) (written_end c names n (place visible l.element)) ls r.1,
 )
 
-statement_right : (c : Config) (names : Names) (visible : List Statement) (n : ℕ) (s : Statement) → RightStatement c.text s → AllByRecursion RightJoint (statement_joints c names visible n s)
+statement_right : (c : Config) (names : ScopeNames) (visible : List Statement) (n : ℕ) (s : Statement) → RightStatement c.text s → AllByRecursion RightJoint (statement_joints c names visible n s)
 statement_right c names visible n (statement.Chain k) r = behind_right c names visible _ _ k.links r.1
 statement_right c names visible n (statement.Declaration d) r = tt
 statement_right c names visible n (statement.Definition m b) r = tt
 statement_right c names visible n (statement.Synonym m d) r = tt
 statement_right c names visible n (statement.Requirement t) r = tt
 
-joints_right : (c : Config) (names : Names) (visible : List Statement) (n : ℕ) (ss : List Statement) → AllByRecursion (RightStatement c.text) ss → AllByRecursion RightJoint (joints_from c names visible n ss)
+joints_right : (c : Config) (names : ScopeNames) (visible : List Statement) (n : ℕ) (ss : List Statement) → AllByRecursion (RightStatement c.text) ss → AllByRecursion RightJoint (joints_from c names visible n ss)
 unfolding joints_from
 joints_right c names visible n [] r = tt
 joints_right c names visible n (s ∷ ss) r =
@@ -195,20 +195,20 @@ abbrev node_port : Node → ℕ
 node_port (output_of path n) = n
 node_port (input_of path n) = n
 
-begins_port : (path : List (List ℕ)) (e : End) (r : Role) (n : ℕ) → node_port (begins_by path e r n) ≡ n
+begins_port : (path : List (List ℕ)) (e : End) (r : Role) (n : ℕ) → node_port (begin_node path e r n) ≡ n
 begins_port path e makes n = refl
 begins_port path e refers n = refl
 begins_port path e pseudo n = refl
 
-ends_port : (path : List (List ℕ)) (e : End) (r : Role) (n : ℕ) → node_port (ends_by path e r n) ≡ n
+ends_port : (path : List (List ℕ)) (e : End) (r : Role) (n : ℕ) → node_port (end_node path e r n) ≡ n
 ends_port path e makes n = refl
 ends_port path e refers n = refl
 ends_port path e pseudo n = refl
 
 pub leads_right : {c : Config} {a b : Node} → IsRight c → Leads c a b → (node_port a < 256) × (node_port b < 256)
-leads_right {c} r (joined path s visible j t m) =
+leads_right {c} r (by_connection path s visible j t m) =
     let js = scope_joints c s visible in
-    let x = All-contains RightJoint js j (All-from_recursion RightJoint js (joints_right c (names_of c s visible) visible 0 (statements_of c s) (scope_right c r s))) m in
+    let x = All-contains RightJoint js j (All-from_recursion RightJoint js (joints_right c (scope_names c s visible) visible 0 (statements_of c s) (scope_right c r s))) m in
     (rw (begins_port path j.from j.from.role j.out_port) x.out_small, rw (ends_port path j.to j.to.role j.in_port) x.in_small)
 leads_right r (further a b d l m) = let x = leads_right r l in let y = leads_right r m in (x.0, y.1)
 

@@ -8,7 +8,7 @@ use Rattle.click_expand.specs.declared.flat.FlatElement.{FlatElement}
 use Rattle.click_expand.specs.declared.flat.Flat.{Flat}
 use Rattle.click_expand.specs.Instances.{Leaf}
 use Rattle.click_expand.specs.Flat.{IsFlat, AreDistinct, flat_element, flat_names, text_size, most_elements, most_text}
-use Rattle.click_expand.specs.FlatText.{text_of}
+use Rattle.click_expand.specs.FlatText.{flat_text_of}
 use Rattle.click_expand.proofs.ReadsBack.OneScope.{names, IsKnown}
 use Rattle.click_expand.proofs.ReadsBack.OneSound.{config_of}
 use Rattle.click_expand.proofs.ReadsBack.OneFlat.{IsItself, IsWholeText, element_sizes, one_flat, sizes_are, names_are, lengths_are, whole_elements}
@@ -50,12 +50,12 @@ writable c f r h =
     let P : ℕ → Type 0 = λ i. AllByRecursion (RightConnection i) f.connections in
     all_weaker (RightConnection (length f.elements)) (IsWritable f.elements) (λ k x. record { from_there = x.from_there; to_there = x.to_there; out_small = x.out_small; in_small = x.in_small }) f.connections (subst P n (flat_connections r h))
 
-pub reads_back : (text : List ℕ) (config : Config) (flat : Flat) → Spells text config → IsFlat config flat → (again : Config) × Spells (text_of flat) again × IsFlat again flat
+pub reads_back : (text : List ℕ) (config : Config) (flat : Flat) → Spells text config → IsFlat config flat → (again : Config) × Spells (flat_text_of flat) again × IsFlat again flat
 reads_back text config flat s h =
     let r = spelled_right text config s in
     let i = own config flat r h in
     let t = read_text flat (wordy config flat r h) (all_weaker IsKnown IsClassy (λ e x. class_word e.class x) flat.elements i.known) i.texts (writable config flat r h) in (
-      config_of (text_of flat) t.statements,
+      config_of (flat_text_of flat) t.statements,
       record { tokens = t.told.tokens; pieces = t.told.reads; nests = t.told.nests; tree = t.told.stated; copy = refl },
-      one_flat (text_of flat) flat t.statements i t.lines,
+      one_flat (flat_text_of flat) flat t.statements i t.lines,
     )

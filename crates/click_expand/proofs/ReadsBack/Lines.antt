@@ -9,9 +9,9 @@ use Rattle.click_text.specs.Grammar.{element, link, chain}
 use Rattle.click_text.specs.Spans.{bytes_at}
 use Rattle.click_expand.specs.declared.flat.FlatElement.{FlatElement}
 use Rattle.click_expand.specs.declared.flat.Connection.{Connection}
-use Rattle.click_expand.specs.Elements.{string_by}
+use Rattle.click_expand.specs.Elements.{string_or_empty}
 use Rattle.click_expand.specs.Faults.{port_number}
-use Rattle.click_expand.specs.FlatText.{name_at}
+use Rattle.click_expand.specs.FlatText.{name_at_place}
 
 abbrev pub element_statement : Span → Span → Option Span → Statement
 element_statement s w o = chain (element (head.Declared s (class.Named w)) o) []
@@ -23,14 +23,14 @@ connection_statement s t p q = chain (element (head.Word s) None) (link p q (ele
 pub record IsDeclared (text : List ℕ) (e : FlatElement) (s w : Span) (o : Option Span) : Type 0 where
   pub name : bytes_at text s ≡ e.name
   pub class : bytes_at text w ≡ e.class
-  pub string : string_by text o ≡ e.text
+  pub string : string_or_empty text o ≡ e.text
 
 -- the spans of a connection's line
 pub record IsJoined (text : List ℕ) (all : List FlatElement) (k : Connection) (s t : Span) (p q : Option Port) : Type 0 where
   pub from_there : k.from < length all
   pub to_there : k.to < length all
-  pub from : bytes_at text s ≡ name_at all k.from
-  pub to : bytes_at text t ≡ name_at all k.to
+  pub from : bytes_at text s ≡ name_at_place all k.from
+  pub to : bytes_at text t ≡ name_at_place all k.to
   pub out_port : port_number p ≡ k.out_port
   pub in_port : port_number q ≡ k.in_port
 

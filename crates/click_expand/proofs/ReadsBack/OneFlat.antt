@@ -12,12 +12,12 @@ use Rattle.click_expand.specs.declared.flat.Flat.{Flat}
 use Rattle.click_expand.specs.Scopes.{Scope, whole}
 use Rattle.click_expand.specs.Classes.{primitive}
 use Rattle.click_expand.specs.Elements.{Local}
-use Rattle.click_expand.specs.Faults.{Joint, scope_joints, scope_locals, first_token}
+use Rattle.click_expand.specs.Faults.{WrittenConnection, scope_joints, scope_locals, first_token}
 use Rattle.click_expand.specs.Parameters.{IsReplaced, value_in}
 use Rattle.click_expand.specs.Instances.{Leaf, AreLeaves, no_elements, leaf, LeadsTo, to_whole, to_inner}
-use Rattle.click_expand.specs.Connections.{Node, output_of, input_of, begins_by, ends_by, Leads, joined, further}
-use Rattle.click_expand.specs.Flat.{flat_name, flat_element, flat_names, Joins, InOrder, text_size, is_whole, AreDistinct, IsFlat, most_elements, most_connections, most_text}
-use Rattle.click_expand.specs.FlatText.{name_at}
+use Rattle.click_expand.specs.Connections.{Node, output_of, input_of, begin_node, end_node, Leads, by_connection, further}
+use Rattle.click_expand.specs.Flat.{flat_name, flat_element, flat_names, Joins, AreOrdered, text_size, is_whole, AreDistinct, IsFlat, most_elements, most_connections, most_text}
+use Rattle.click_expand.specs.FlatText.{name_at_place}
 use Rattle.click_expand.proofs.ReadsBack.Lines.{AreLines}
 use Rattle.click_expand.proofs.ReadsBack.TextItems.{items_of, items_bytes, replaced_none}
 use Rattle.click_expand.proofs.ReadsBack.OneScope.{names, IsKnown, AreLocals, no_locals, first_local, locals_are, plain_none}
@@ -97,12 +97,12 @@ whole_elements [] a = tt
 whole_elements (l ∷ ls) a = (a.0, whole_elements ls a.1)
 
 -- places
-leaf_at : {es : List FlatElement} {ls : List Leaf} → AreLeavesOf es ls → (i : ℕ) → i < length es → (l : Leaf) × (slice_get ls i ≡ Some l) × (l.path ≡ name_at es i ∷ [])
+leaf_at : {es : List FlatElement} {ls : List Leaf} → AreLeavesOf es ls → (i : ℕ) → i < length es → (l : Leaf) × (slice_get ls i ≡ Some l) × (l.path ≡ name_at_place es i ∷ [])
 leaf_at no_leaves i h = absurd (omega arith)
 leaf_at (first_leaf e es l ls h a) zero i = (l, refl, h.path)
 leaf_at (first_leaf e es l ls h a) (suc n) i = leaf_at a n (omega arith)
 
-leaf_from : {es : List FlatElement} {ls : List Leaf} → AreLeavesOf es ls → (i : ℕ) (k : Leaf) → slice_get ls i ≡ Some k → (i < length es) × (k.path ≡ name_at es i ∷ [])
+leaf_from : {es : List FlatElement} {ls : List Leaf} → AreLeavesOf es ls → (i : ℕ) (k : Leaf) → slice_get ls i ≡ Some k → (i < length es) × (k.path ≡ name_at_place es i ∷ [])
 leaf_from no_leaves i k e = cc
 leaf_from (first_leaf f es l ls h a) zero k e = let g : l ≡ k = cc in (omega arith, rw (← g) h.path)
 leaf_from (first_leaf f es l ls h a) (suc n) k e = let r = leaf_from a n k e in let lt : n < length es = r.0 in (omega arith, r.1)
@@ -110,13 +110,13 @@ leaf_from (first_leaf f es l ls h a) (suc n) k e = let r = leaf_from a n k e in 
 contains_more : {X : Type 0} (y : X) (xs : List X) (x : X) → Contains xs x → Contains (y ∷ xs) x
 contains_more y xs x c = Contains-append_right (y ∷ []) xs x c
 
-contains_name : (es : List FlatElement) (i : ℕ) → i < length es → Contains (names es) (name_at es i)
+contains_name : (es : List FlatElement) (i : ℕ) → i < length es → Contains (names es) (name_at_place es i)
 contains_name [] i h = absurd (omega arith)
 contains_name (e ∷ es) zero h = contains_first e.name (names es)
-contains_name (e ∷ es) (suc i) h = contains_more e.name (names es) (name_at es i) (contains_name es i (omega arith))
+contains_name (e ∷ es) (suc i) h = contains_more e.name (names es) (name_at_place es i) (contains_name es i (omega arith))
 
 -- distinct names stand at one place each
-distinct_at : (es : List FlatElement) (i j : ℕ) → AreDistinct (names es) → i < length es → j < length es → name_at es i ≡ name_at es j → i ≡ j
+distinct_at : (es : List FlatElement) (i j : ℕ) → AreDistinct (names es) → i < length es → j < length es → name_at_place es i ≡ name_at_place es j → i ≡ j
 distinct_at [] i j d h k e = absurd (omega arith)
 distinct_at (x ∷ es) zero zero d h k e = refl
 distinct_at (x ∷ es) zero (suc j) d h k e = absurd (d.0 (rw e (contains_name es j (omega arith))))
@@ -128,26 +128,26 @@ all_weaker : {X : Type 0} (P Q : X → Type 0) → ((x : X) → P x → Q x) →
 all_weaker P Q f [] a = tt
 all_weaker P Q f (x ∷ xs) a = (f x a.0, all_weaker P Q f xs a.1)
 
-abbrev HasJoint : List FlatElement → List Joint → Connection → Type 0
-HasJoint all js k = (j : Joint) × Contains js j × IsJointOf all k j
+abbrev HasJoint : List FlatElement → List WrittenConnection → Connection → Type 0
+HasJoint all js k = (j : WrittenConnection) × Contains js j × IsJointOf all k j
 
-abbrev HasConnection : List FlatElement → List Connection → Joint → Type 0
+abbrev HasConnection : List FlatElement → List Connection → WrittenConnection → Type 0
 HasConnection all ks j = (k : Connection) × Contains ks k × IsJointOf all k j
 
-joints_for : {all : List FlatElement} {ks : List Connection} {js : List Joint} → AreJoints all ks js → AllByRecursion (HasJoint all js) ks
+joints_for : {all : List FlatElement} {ks : List Connection} {js : List WrittenConnection} → AreJoints all ks js → AllByRecursion (HasJoint all js) ks
 joints_for no_joints = tt
 joints_for {all} (first_joint k ks j js h a) =
     ((j, contains_first j js, h), all_weaker (HasJoint all js) (HasJoint all (j ∷ js)) (λ k x. (x.0, contains_more j js x.0 x.1, x.2)) ks (joints_for a))
 
-connections_for : {all : List FlatElement} {ks : List Connection} {js : List Joint} → AreJoints all ks js → AllByRecursion (HasConnection all ks) js
+connections_for : {all : List FlatElement} {ks : List Connection} {js : List WrittenConnection} → AreJoints all ks js → AllByRecursion (HasConnection all ks) js
 connections_for no_joints = tt
 connections_for {all} (first_joint k ks j js h a) =
     ((k, contains_first k ks, h), all_weaker (HasConnection all ks) (HasConnection all (k ∷ ks)) (λ j x. (x.0, contains_more k ks x.0 x.1, x.2)) js (connections_for a))
 
-begins_is : (all : List FlatElement) (k : Connection) (j : Joint) → IsJointOf all k j → begins_by [] j.from j.from.role j.out_port ≡ output_of (name_at all k.from ∷ []) k.out_port
+begins_is : (all : List FlatElement) (k : Connection) (j : WrittenConnection) → IsJointOf all k j → begin_node [] j.from j.from.role j.out_port ≡ output_of (name_at_place all k.from ∷ []) k.out_port
 begins_is all k j h = rw (h.from.role, h.from.name, h.out_port) refl
 
-ends_is : (all : List FlatElement) (k : Connection) (j : Joint) → IsJointOf all k j → ends_by [] j.to j.to.role j.in_port ≡ input_of (name_at all k.to ∷ []) k.in_port
+ends_is : (all : List FlatElement) (k : Connection) (j : WrittenConnection) → IsJointOf all k j → end_node [] j.to j.to.role j.in_port ≡ input_of (name_at_place all k.to ∷ []) k.in_port
 ends_is all k j h = rw (h.to.role, h.to.name, h.in_port) refl
 
 -- the nodes of one of the connections
@@ -156,8 +156,8 @@ pub record IsWire (all : List FlatElement) (ks : List Connection) (a b : Node) :
   pub there : Contains ks wire
   pub from_there : wire.from < length all
   pub to_there : wire.to < length all
-  pub begins : a ≡ output_of (name_at all wire.from ∷ []) wire.out_port
-  pub ends : b ≡ input_of (name_at all wire.to ∷ []) wire.in_port
+  pub begins : a ≡ output_of (name_at_place all wire.from ∷ []) wire.out_port
+  pub ends : b ≡ input_of (name_at_place all wire.to ∷ []) wire.in_port
 
 abbrev IsPrimitive : Local → Type 0
 IsPrimitive l = (v : List ℕ) × (l.meaning ≡ Some (primitive v))
@@ -176,13 +176,13 @@ only_top {c} h (to_inner path s visible before after l b inner outer t e m st) =
     let k : l.meaning ≡ Some (primitive g.0) = g.1 in
     cc
 
-wire_at : (all : List FlatElement) (ks : List Connection) (path : List (List ℕ)) (j : Joint) (k : Connection) → path ≡ [] → Contains ks k → IsJointOf all k j →
-    IsWire all ks (begins_by path j.from j.from.role j.out_port) (ends_by path j.to j.to.role j.in_port)
+wire_at : (all : List FlatElement) (ks : List Connection) (path : List (List ℕ)) (j : WrittenConnection) (k : Connection) → path ≡ [] → Contains ks k → IsJointOf all k j →
+    IsWire all ks (begin_node path j.from j.from.role j.out_port) (end_node path j.to j.to.role j.in_port)
 wire_at all ks path j k e m h =
     record { wire = k; there = m; from_there = h.from_there; to_there = h.to_there; begins = rw e (begins_is all k j h); ends = rw e (ends_is all k j h) }
 
 wires : {c : Config} {all : List FlatElement} {ks : List Connection} {a b : Node} → Says c all ks → AllByRecursion IsPrimitive (scope_locals c whole []) → Leads c a b → IsWire all ks a b
-wires {c} {all} {ks} h p (joined path s visible j t m) =
+wires {c} {all} {ks} h p (by_connection path s visible j t m) =
     let i = only_top p t in
     let n : Contains (scope_joints c whole []) j = rw (i.1, i.2) at m in
     let js = scope_joints c whole [] in
@@ -199,11 +199,11 @@ same_connection : (j k : Connection) → j.from ≡ k.from → j.out_port ≡ k.
 same_connection j k a b c d = rw (a, b, c, d) refl
 
 leads_to : {c : Config} {all : List FlatElement} {ks : List Connection} → Says c all ks → (k : Connection) → Contains ks k →
-    (k.from < length all) × (k.to < length all) × Leads c (output_of (name_at all k.from ∷ []) k.out_port) (input_of (name_at all k.to ∷ []) k.in_port)
+    (k.from < length all) × (k.to < length all) × Leads c (output_of (name_at_place all k.from ∷ []) k.out_port) (input_of (name_at_place all k.to ∷ []) k.in_port)
 leads_to {c} {all} {ks} h k m =
     let js = scope_joints c whole [] in
     let j = All-contains (HasJoint all js) ks k (All-from_recursion (HasJoint all js) ks (joints_for h.joints)) m in
-    let l : Leads c (begins_by [] j.0.from j.0.from.role j.0.out_port) (ends_by [] j.0.to j.0.to.role j.0.in_port) = joined [] whole [] j.0 to_whole j.1 in
+    let l : Leads c (begin_node [] j.0.from j.0.from.role j.0.out_port) (end_node [] j.0.to j.0.to.role j.0.in_port) = by_connection [] whole [] j.0 to_whole j.1 in
     (j.2.from_there, j.2.to_there, rw (← begins_is all k j.0 j.2, ← ends_is all k j.0 j.2) l)
 
 joins_all : {c : Config} {all : List FlatElement} {ks : List Connection} {ls : List Leaf} → Says c all ks → AreLeavesOf all ls → (k : Connection) → Contains ks k → Joins c ls k
@@ -223,8 +223,8 @@ joins_only {c} {all} {ks} h p d a k j =
     let y = w.ends in
     let fe = f.1 in
     let te = t.1 in
-    let from-name : name_at all k.from ≡ name_at all w.wire.from = cc in
-    let to-name : name_at all k.to ≡ name_at all w.wire.to = cc in
+    let from-name : name_at_place all k.from ≡ name_at_place all w.wire.from = cc in
+    let to-name : name_at_place all k.to ≡ name_at_place all w.wire.to = cc in
     let from : k.from ≡ w.wire.from = distinct_at all k.from w.wire.from d f.0 w.from_there from-name in
     let to : k.to ≡ w.wire.to = distinct_at all k.to w.wire.to d t.0 w.to_there to-name in
     let e : k ≡ w.wire = same_connection k w.wire from (cc) to (cc) in
@@ -235,7 +235,7 @@ pub record IsItself (f : Flat) : Type 0 where
   pub known : AllByRecursion IsKnown f.elements
   pub distinct : AreDistinct (names f.elements)
   pub texts : AllByRecursion IsWholeText f.elements
-  pub in_order : InOrder f.connections
+  pub in_order : AreOrdered f.connections
   pub few_elements : length f.elements ≤ most_elements
   pub few_connections : length f.connections ≤ most_connections
   pub short : element_sizes f.elements ≤ most_text

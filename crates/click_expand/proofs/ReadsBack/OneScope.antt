@@ -16,7 +16,7 @@ use Rattle.click_expand.specs.declared.flat.FlatElement.{FlatElement}
 use Rattle.click_expand.specs.declared.flat.Connection.{Connection}
 use Rattle.click_expand.specs.Classes.{primitive, class_names, primitive_of, meaning}
 use Rattle.click_expand.specs.Elements.{Placed, place, placed, declared_names, has_name, refers, role, Local, local, locals_from}
-use Rattle.click_expand.specs.FlatText.{name_at}
+use Rattle.click_expand.specs.FlatText.{name_at_place}
 use Rattle.click_expand.proofs.ReadsBack.Lines.{element_statement, connection_statement, AreLines, no_lines, first_connection, first_element}
 
 -- the names of elements
@@ -27,7 +27,7 @@ names es = map (λ (e : FlatElement). e.name) es
 abbrev pub IsKnown : FlatElement → Type 0
 IsKnown e = list_any (bytes_eq e.class) class_names ≡ true
 
--- no class is defined behind these statements
+-- no class is defined after these statements
 abbrev pub IsPlain : List ℕ → List Statement → Type 0
 IsPlain text visible = (w : List ℕ) → meaning text visible w ≡ primitive_of w
 
@@ -48,13 +48,13 @@ declared_are visible no_lines = refl
 declared_are visible (first_connection k ks s t p q ss j l) = declared_are (connection_statement s t p q ∷ visible) l
 declared_are visible (first_element e es ks s w o ss d l) = rw d.name (ap (λ (ns : List (List ℕ)). e.name ∷ ns) (declared_are (element_statement s w o ∷ visible) l))
 
-has_at : (es : List FlatElement) (i : ℕ) → i < length es → has_name (name_at es i) (names es) ≡ true
+has_at : (es : List FlatElement) (i : ℕ) → i < length es → has_name (name_at_place es i) (names es) ≡ true
 has_at [] i h = absurd (omega arith)
 has_at (e ∷ es) zero h = or_left _ _ (bytes_same e.name)
 has_at (e ∷ es) (suc i) h = or_right _ _ (has_at es i (omega arith))
 
 -- a word of a connection's line means the element that is declared
-pub word_refers : (text : List ℕ) (all : List FlatElement) (s : Span) (i : ℕ) → i < length all → bytes_at text s ≡ name_at all i →
+pub word_refers : (text : List ℕ) (all : List FlatElement) (s : Span) (i : ℕ) → i < length all → bytes_at text s ≡ name_at_place all i →
     role text false (names all) (element (head.Word s) None) ≡ refers
 word_refers text all s i h e = rw (e, has_at all i h) refl
 

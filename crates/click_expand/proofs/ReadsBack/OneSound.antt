@@ -20,9 +20,9 @@ use Rattle.click_expand.specs.declared.flat.Connection.{Connection}
 use Rattle.click_expand.specs.Scopes.{Scope, whole, inside, Stands, at_top, nested, bodies_in, is_body}
 use Rattle.click_expand.specs.Classes.{primitive, compound, meaning}
 use Rattle.click_expand.specs.Elements.{Placed, place, placed, declared_names, has_name, input_name, output_name, Role, refers, makes, role, element_meaning, Local, locals_from, made_name}
-use Rattle.click_expand.specs.Faults.{End, Joint, Names, names_of, end_of, end_by, joints_behind, joints_from, declared_meaning, scope_placed, scope_declared, scope_joints, is_pseudo, IsWrong, unknown_name, unknown_class, unknown_declared, unknown_original, named_twice, port_declared, formal_twice, wrong_parameters, no_output, no_input, output_as_source, input_as_target, input_gap, output_gap}
+use Rattle.click_expand.specs.Faults.{End, WrittenConnection, ScopeNames, scope_names, written_end, end_by, joints_behind, joints_from, declared_meaning, scope_placed, scope_declared, scope_joints, is_pseudo, IsWrong, unknown_name, unknown_class, unknown_declared, unknown_original, named_twice, port_declared, formal_twice, wrong_parameters, no_output, no_input, output_as_source, input_as_target, input_gap, output_gap}
 use Rattle.click_expand.specs.Flat.{AreDistinct}
-use Rattle.click_expand.specs.FlatText.{name_at}
+use Rattle.click_expand.specs.FlatText.{name_at_place}
 use Rattle.click_expand.proofs.ReadsBack.Lines.{element_statement, connection_statement, AreLines, no_lines, first_connection, first_element}
 use Rattle.click_expand.proofs.ReadsBack.OneScope.{names, IsKnown, IsPlain, plain_none, plain_more, declared_are, word_refers, class_known}
 
@@ -116,30 +116,30 @@ pub record IsEndOf (e : End) (n : List ℕ) : Type 0 where
   pub role : e.role ≡ refers
   pub meaning : (b : ℕ) → e.meaning ≡ Some (compound b) → ⊥
 
-pub record IsJointOf (all : List FlatElement) (k : Connection) (j : Joint) : Type 0 where
+pub record IsJointOf (all : List FlatElement) (k : Connection) (j : WrittenConnection) : Type 0 where
   pub from_there : k.from < length all
   pub to_there : k.to < length all
-  pub from : IsEndOf j.from (name_at all k.from)
-  pub to : IsEndOf j.to (name_at all k.to)
+  pub from : IsEndOf j.from (name_at_place all k.from)
+  pub to : IsEndOf j.to (name_at_place all k.to)
   pub out_port : j.out_port ≡ k.out_port
   pub in_port : j.in_port ≡ k.in_port
 
-pub data AreJoints (all : List FlatElement) : List Connection → List Joint → Type 0 where
+pub data AreJoints (all : List FlatElement) : List Connection → List WrittenConnection → Type 0 where
   no_joints : AreJoints all [] []
-  first_joint : (k : Connection) (ks : List Connection) (j : Joint) (js : List Joint) → IsJointOf all k j → AreJoints all ks js → AreJoints all (k ∷ ks) (j ∷ js)
+  first_joint : (k : Connection) (ks : List Connection) (j : WrittenConnection) (js : List WrittenConnection) → IsJointOf all k j → AreJoints all ks js → AreJoints all (k ∷ ks) (j ∷ js)
 
-abbrev pub names_with : List FlatElement → List Placed → Names
+abbrev pub names_with : List FlatElement → List Placed → ScopeNames
 names_with all written = record { in_body = false; declared = names all; written = written }
 
 abbrev NoCompound : List ℕ → List Placed → Type 0
 NoCompound text written = (name : List ℕ) (b : ℕ) → declared_meaning text written name ≡ Some (compound b) → ⊥
 
-end_is : (c : Config) (all : List FlatElement) (written : List Placed) (n : ℕ) (visible : List Statement) (s : Span) (i : ℕ) → i < length all → bytes_at c.text s ≡ name_at all i →
-    NoCompound c.text written → IsEndOf (end_of c (names_with all written) n (place visible (element (head.Word s) None))) (name_at all i)
+end_is : (c : Config) (all : List FlatElement) (written : List Placed) (n : ℕ) (visible : List Statement) (s : Span) (i : ℕ) → i < length all → bytes_at c.text s ≡ name_at_place all i →
+    NoCompound c.text written → IsEndOf (written_end c (names_with all written) n (place visible (element (head.Word s) None))) (name_at_place all i)
 end_is c all written n visible s i h e none =
     let N = names_with all written in
     let p = place visible (element (head.Word s) None) in
-    let P : Role → Type 0 = λ r. IsEndOf (end_by c N n p r) (name_at all i) in
+    let P : Role → Type 0 = λ r. IsEndOf (end_by c N n p r) (name_at_place all i) in
     subst P (sym (word_refers c.text all s i h e)) (record { name = e; role = refl; meaning = λ b g. none (bytes_at c.text s) b g })
 
 pub joints_are : (c : Config) {all es : List FlatElement} {ks : List Connection} {ss : List Statement} (written : List Placed) (visible : List Statement) (n : ℕ) → NoCompound c.text written →
@@ -153,7 +153,7 @@ joints_are c {all} written visible n none (first_connection k ks s t p q ss j l)
     (joints_are c written (connection_statement s t p q ∷ visible) _ none l)
 joints_are c written visible n none (first_element e es ks s w o ss d l) = joints_are c written (element_statement s w o ∷ visible) _ none l
 
-joints_ends : {all : List FlatElement} {ks : List Connection} {js : List Joint} → AreJoints all ks js → AllByRecursion (λ (j : Joint). (k : Connection) × IsJointOf all k j) js
+joints_ends : {all : List FlatElement} {ks : List Connection} {js : List WrittenConnection} → AreJoints all ks js → AllByRecursion (λ (j : WrittenConnection). (k : Connection) × IsJointOf all k j) js
 joints_ends no_joints = tt
 joints_ends (first_joint k ks j js h a) = ((k, h), joints_ends a)
 
@@ -168,8 +168,8 @@ pub says : (text : List ℕ) (all : List FlatElement) (ks : List Connection) (ss
 says text all ks ss c l =
     let e : declared_names text (placed [] ss) ≡ names all = declared_are [] l in
     let d = config_of text ss in
-    let N : names_of d whole [] ≡ names_with all (placed [] ss) = ap (λ (x : List (List ℕ)). let n : Names = record { in_body = false; declared = x; written = placed [] ss } in n) e in
-    let P : Names → Type 0 = λ n. AreJoints all ks (joints_from d n [] 0 ss) in
+    let N : scope_names d whole [] ≡ names_with all (placed [] ss) = ap (λ (x : List (List ℕ)). let n : ScopeNames = record { in_body = false; declared = x; written = placed [] ss } in n) e in
+    let P : ScopeNames → Type 0 = λ n. AreJoints all ks (joints_from d n [] 0 ss) in
     record {
       bodyless = lines_are l;
       written = placed_are [] (plain_none text) c l;
@@ -204,9 +204,9 @@ made_twice text all front back p n a e d (made s w v h m) q x =
     let k : AreDistinct (declared_names text front ++ bytes_at text s ∷ declared_names text back) = rw (← i, ← filter_map-append _ front (p ∷ back), e) d in
     once (declared_names text front) (declared_names text back) (bytes_at text s) k g
 
-joint_at : {all : List FlatElement} {ks : List Connection} (js : List Joint) (j : Joint) → AreJoints all ks js → Contains js j → (k : Connection) × IsJointOf all k j
+joint_at : {all : List FlatElement} {ks : List Connection} (js : List WrittenConnection) (j : WrittenConnection) → AreJoints all ks js → Contains js j → (k : Connection) × IsJointOf all k j
 joint_at {all} js j a c =
-    let P : Joint → Type 0 = λ j. (k : Connection) × IsJointOf all k j in
+    let P : WrittenConnection → Type 0 = λ j. (k : Connection) × IsJointOf all k j in
     All-contains P js j (All-from_recursion P js (joints_ends a)) c
 
 no_pseudo : (w n : List ℕ) (e : End) → IsEndOf e n → is_pseudo w e ≡ true → ⊥
@@ -230,7 +230,7 @@ makes_in c all ks h s visible around p t r =
     let f : role c.text false (scope_declared c whole []) p.element ≡ makes = rw (i.0, i.1) at r in
     rw (← h.declared) f
 
-joined_in : (c : Config) (all : List FlatElement) (ks : List Connection) → Says c all ks → (s : Scope) (visible : List Statement) (around : List Scope) (j : Joint) →
+joined_in : (c : Config) (all : List FlatElement) (ks : List Connection) → Says c all ks → (s : Scope) (visible : List Statement) (around : List Scope) (j : WrittenConnection) →
     Stands c s visible around → Contains (scope_joints c s visible) j → (k : Connection) × IsJointOf all k j
 joined_in c all ks h s visible around j t m =
     let i = only_whole h.bodyless t in

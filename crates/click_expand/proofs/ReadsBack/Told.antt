@@ -17,10 +17,10 @@ use Rattle.click_text.specs.Grammar.{written_port, IsPort, no_port, bracketed, I
 use Rattle.click_expand.specs.declared.flat.FlatElement.{FlatElement}
 use Rattle.click_expand.specs.declared.flat.Connection.{Connection}
 use Rattle.click_expand.specs.declared.flat.Flat.{Flat}
-use Rattle.click_expand.specs.Elements.{string_by}
+use Rattle.click_expand.specs.Elements.{string_or_empty}
 use Rattle.click_expand.specs.Faults.{port_number}
 use Rattle.click_expand.specs.Flat.{is_whole}
-use Rattle.click_expand.specs.FlatText.{string_of, element_line, connection_line, out_port, in_port, name_at, text_of}
+use Rattle.click_expand.specs.FlatText.{string_of, element_line, connection_line, out_port, in_port, name_at_place, flat_text_of}
 use Rattle.click_expand.proofs.ReadsBack.Lines.{element_statement, connection_statement, IsDeclared, IsJoined, AreLines, no_lines, first_connection, first_element}
 use Rattle.click_expand.proofs.ReadsBack.Steps.{Stops, read_word, read_number, read_string, read_blank, read_semicolon, read_open, read_close, read_colons, read_arrow, port_digits, port_of_digits, behind, bytes_front}
 
@@ -34,7 +34,7 @@ pub record Told (at : ℕ) (text : List ℕ) (ss : List Statement) : Type 0 wher
 -- a configuration string, or none
 pub record StringPart (text : List ℕ) (at : ℕ) (rest bytes : List ℕ) : Type 0 where
   pub span : Option Span
-  pub gives : string_by text span ≡ bytes
+  pub gives : string_or_empty text span ≡ bytes
   pub behind : ℕ
   pub there : drop behind text ≡ rest
   pub told : (ts : List Token) → Reads behind rest ts ending.Whole → (us : List Token) × Reads at (string_of bytes ++ rest) us ending.Whole × IsString us span ts × (NestsWithin 0 ts → NestsWithin 0 us)
@@ -223,7 +223,7 @@ pub record ConnectionLine (text : List ℕ) (at : ℕ) (rest : List ℕ) (all : 
   pub told : (ss : List Statement) → Told behind rest ss → Told at (connection_line all k ++ rest) (connection_statement from to out into ∷ ss)
 
 connection_shape : (all : List FlatElement) (k : Connection) (rest : List ℕ) → connection_line all k ++ rest ≡
-    name_at all k.from ++ (out_port k.out_port ++ (32 ∷ 45 ∷ 62 ∷ 32 ∷ (in_port k.in_port ++ (name_at all k.to ++ (59 ∷ 10 ∷ rest)))))
+    name_at_place all k.from ++ (out_port k.out_port ++ (32 ∷ 45 ∷ 62 ∷ 32 ∷ (in_port k.in_port ++ (name_at_place all k.to ++ (59 ∷ 10 ∷ rest)))))
 connection_shape all k rest = simp append_assoc
 
 -- what a connection's line needs
@@ -233,11 +233,11 @@ pub record IsWritable (all : List FlatElement) (k : Connection) : Type 0 where
   pub out_small : k.out_port < 256
   pub in_small : k.in_port < 256
 
-read_connection : (text : List ℕ) (at : ℕ) (rest : List ℕ) (all : List FlatElement) (k : Connection) → IsWritable all k → IsPiece piece.Word (name_at all k.from) → IsPiece piece.Word (name_at all k.to) →
+read_connection : (text : List ℕ) (at : ℕ) (rest : List ℕ) (all : List FlatElement) (k : Connection) → IsWritable all k → IsPiece piece.Word (name_at_place all k.from) → IsPiece piece.Word (name_at_place all k.to) →
     drop at text ≡ connection_line all k ++ rest → ConnectionLine text at rest all k
 read_connection text at rest all k i n m h =
-    let a = name_at all k.from in
-    let b = name_at all k.to in
+    let a = name_at_place all k.from in
+    let b = name_at_place all k.to in
     let r5 = b ++ (59 ∷ 10 ∷ rest) in
     let r4 = in_port k.in_port ++ r5 in
     let r1 = 32 ∷ 45 ∷ 62 ∷ 32 ∷ r4 in
@@ -295,7 +295,7 @@ IsClassy e = IsPiece piece.Word e.class
 abbrev pub IsTextual : FlatElement → Type 0
 IsTextual e = is_whole e.text ≡ true
 
-name_word : (es : List FlatElement) (i : ℕ) → AllByRecursion IsWordy es → i < length es → IsPiece piece.Word (name_at es i)
+name_word : (es : List FlatElement) (i : ℕ) → AllByRecursion IsWordy es → i < length es → IsPiece piece.Word (name_at_place es i)
 name_word [] i a h = absurd (omega arith)
 name_word (e ∷ es) zero a h = a.0
 name_word (e ∷ es) (suc i) a h = name_word es i a.1 (omega arith)
@@ -330,5 +330,5 @@ read_elements text at all (e ∷ es) ks n ns cs ts w h =
 
 -- the whole text
 pub read_text : (f : Flat) → AllByRecursion IsWordy f.elements → AllByRecursion IsClassy f.elements → AllByRecursion IsTextual f.elements → AllByRecursion (IsWritable f.elements) f.connections →
-    AllTold (text_of f) 0 (text_of f) f.elements f.elements f.connections
-read_text f n c t w = read_elements (text_of f) 0 f.elements f.elements f.connections n n c t w refl
+    AllTold (flat_text_of f) 0 (flat_text_of f) f.elements f.elements f.connections
+read_text f n c t w = read_elements (flat_text_of f) 0 f.elements f.elements f.connections n n c t w refl

@@ -1,7 +1,7 @@
 //! Texts with their flat form, worked out by hand.
 
 use super::*;
-use crate::flat_text::flat_text;
+use crate::flat_writing::flat_text;
 use click_text::parse;
 
 /// The flat form of the configuration that a text spells, if it has one.

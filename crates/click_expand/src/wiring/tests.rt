@@ -2,8 +2,8 @@
 
 use super::*;
 use crate::classes::ClassOf;
-use crate::joints::End;
-use crate::uses::Place;
+use crate::instances::Place;
+use crate::written_connections::End;
 use click_text::syntax::{Head, Span};
 
 fn end(owner: Owner) -> End {
@@ -13,8 +13,8 @@ fn end(owner: Owner) -> End {
     }
 }
 
-fn joint(from: Owner, out_port: u8, to: Owner, in_port: u8) -> Joint {
-    Joint {
+fn joint(from: Owner, out_port: u8, to: Owner, in_port: u8) -> WrittenConnection {
+    WrittenConnection {
         from: end(from),
         out_port,
         to: end(to),
@@ -22,7 +22,10 @@ fn joint(from: Owner, out_port: u8, to: Owner, in_port: u8) -> Joint {
     }
 }
 
-fn scope(alloc: Global, joints: &[Joint]) -> Result<Sequence<Joint>, AllocError> {
+fn scope(
+    alloc: Global,
+    joints: &[WrittenConnection],
+) -> Result<Sequence<WrittenConnection>, AllocError> {
     Ok(Sequence::of(Vec::from_slice(alloc, joints)?))
 }
 
@@ -30,9 +33,9 @@ fn one_use(
     alloc: Global,
     scope: usize,
     around: Option<Place>,
-    parts: &[Part],
-) -> Result<Use, AllocError> {
-    Ok(Use {
+    parts: &[InstancePart],
+) -> Result<Instance, AllocError> {
+    Ok(Instance {
         scope,
         around,
         home: None,
@@ -50,16 +53,20 @@ fn local(alloc: Global, class: Option<ClassOf>) -> Local {
     }
 }
 
-/// The elements of a scope, as the uses have them.
-fn scope_locals(alloc: Global, scope: usize, uses: &[Use]) -> Result<Vec<Local>, AllocError> {
+/// The elements of a scope, as the instances have them.
+fn scope_locals(
+    alloc: Global,
+    scope: usize,
+    instances: &[Instance],
+) -> Result<Vec<Local>, AllocError> {
     let mut locals = Vec::new(alloc);
-    let Some(one) = uses.iter().find(|one| one.scope == scope) else {
+    let Some(one) = instances.iter().find(|one| one.scope == scope) else {
         return Ok(locals);
     };
     for part in one.parts.as_slice() {
         let class = match part {
-            Part::Leaf(_) => None,
-            Part::Inner(at) => match uses.get(*at) {
+            InstancePart::Leaf(_) => None,
+            InstancePart::Inner(at) => match instances.get(*at) {
                 Some(inner) => Some(ClassOf::Compound(inner.scope)),
                 None => None,
             },
@@ -69,22 +76,26 @@ fn scope_locals(alloc: Global, scope: usize, uses: &[Use]) -> Result<Vec<Local>,
     Ok(locals)
 }
 
-fn locals_of(alloc: Global, scopes: usize, uses: &[Use]) -> Result<Vec<Vec<Local>>, AllocError> {
+fn locals_of(
+    alloc: Global,
+    scopes: usize,
+    instances: &[Instance],
+) -> Result<Vec<Vec<Local>>, AllocError> {
     let mut all = Vec::new(alloc);
     for scope in 0..scopes {
-        all.push(scope_locals(alloc, scope, uses)?)?;
+        all.push(scope_locals(alloc, scope, instances)?)?;
     }
     Ok(all)
 }
 
 fn connected(
     alloc: Global,
-    joints: &[Sequence<Joint>],
-    uses: &[Use],
+    joints: &[Sequence<WrittenConnection>],
+    instances: &[Instance],
 ) -> Result<Vec<Connection>, AllocError> {
-    let locals = locals_of(alloc, joints.len(), uses)?;
+    let locals = locals_of(alloc, joints.len(), instances)?;
     let indices = all_indices(alloc, joints, locals.as_slice())?;
-    let found = search_all(alloc, uses, indices.as_slice())?;
+    let found = search_all(alloc, instances, indices.as_slice())?;
     Ok(in_order(Vec::from_slice(alloc, found.as_slice())?))
 }
 
@@ -100,27 +111,32 @@ fn joined(from: usize, out_port: u8, to: usize, in_port: u8) -> Connection {
 /// The tables of a text whose second element is of one class, with that body, and whose others are flat.
 fn around_body(
     alloc: Global,
-    outside: &[Joint],
-    body: &[Joint],
-    body_parts: &[Part],
+    outside: &[WrittenConnection],
+    body: &[WrittenConnection],
+    body_parts: &[InstancePart],
     last: usize,
 ) -> Result<Vec<Connection>, AllocError> {
     let mut joints = Vec::new(alloc);
     joints.push(scope(alloc, body)?)?;
     joints.push(scope(alloc, outside)?)?;
-    let mut uses = Vec::new(alloc);
-    uses.push(one_use(
+    let mut instances = Vec::new(alloc);
+    instances.push(one_use(
         alloc,
         1,
         None,
-        [Part::Leaf(0), Part::Inner(1), Part::Leaf(last)].as_slice(),
+        [
+            InstancePart::Leaf(0),
+            InstancePart::Inner(1),
+            InstancePart::Leaf(last),
+        ]
+        .as_slice(),
     )?)?;
     let place = Place {
         within: 0,
         element: 1,
     };
-    uses.push(one_use(alloc, 0, Some(place), body_parts)?)?;
-    connected(alloc, joints.as_slice(), uses.as_slice())
+    instances.push(one_use(alloc, 0, Some(place), body_parts)?)?;
+    connected(alloc, joints.as_slice(), instances.as_slice())
 }
 
 /// `a -> C -> b` where `C` is `{ input -> x -> output }`: `a -> C/x`, `C/x -> b`.
@@ -139,7 +155,7 @@ fn through_an_element(rt: HostRuntime) -> Result<(), AllocError> {
         alloc,
         outside.as_slice(),
         body.as_slice(),
-        [Part::Leaf(1)].as_slice(),
+        [InstancePart::Leaf(1)].as_slice(),
         2,
     )?;
     assert_eq!(rt;
@@ -182,29 +198,29 @@ fn round(rt: HostRuntime) -> Result<(), AllocError> {
 fn crossed(alloc: Global, sources: usize, sinks: usize) -> Result<usize, AllocError> {
     let mut outside = Vec::new(alloc);
     let mut parts = Vec::new(alloc);
-    parts.push(Part::Inner(1))?;
+    parts.push(InstancePart::Inner(1))?;
     let mut element = 1;
     for leaf in 0..sources {
-        parts.push(Part::Leaf(leaf))?;
+        parts.push(InstancePart::Leaf(leaf))?;
         outside.push(joint(Owner::Element(element), 0, Owner::Element(0), 0))?;
         element = element.wrapping_add(1);
     }
     for sink in 0..sinks {
-        parts.push(Part::Leaf(sources.wrapping_add(sink)))?;
+        parts.push(InstancePart::Leaf(sources.wrapping_add(sink)))?;
         outside.push(joint(Owner::Element(0), 0, Owner::Element(element), 0))?;
         element = element.wrapping_add(1);
     }
     let mut joints = Vec::new(alloc);
     joints.push(scope(alloc, [joint(Owner::Input, 0, Owner::Output, 0)].as_slice())?)?;
     joints.push(scope(alloc, outside.as_slice())?)?;
-    let mut uses = Vec::new(alloc);
-    uses.push(one_use(alloc, 1, None, parts.as_slice())?)?;
+    let mut instances = Vec::new(alloc);
+    instances.push(one_use(alloc, 1, None, parts.as_slice())?)?;
     let place = Place {
         within: 0,
         element: 0,
     };
-    uses.push(one_use(alloc, 0, Some(place), [].as_slice())?)?;
-    Ok(connected(alloc, joints.as_slice(), uses.as_slice())?.len())
+    instances.push(one_use(alloc, 0, Some(place), [].as_slice())?)?;
+    Ok(connected(alloc, joints.as_slice(), instances.as_slice())?.len())
 }
 
 /// 128 times 128 connections are the limit; beyond it the search stops.
@@ -223,16 +239,16 @@ fn long_chain(rt: HostRuntime) -> Result<(), AllocError> {
     let mut outside = Vec::new(alloc);
     let mut parts = Vec::new(alloc);
     for leaf in 0..4096_usize {
-        parts.push(Part::Leaf(leaf))?;
+        parts.push(InstancePart::Leaf(leaf))?;
         if leaf > 0 {
             outside.push(joint(Owner::Element(leaf - 1), 0, Owner::Element(leaf), 0))?;
         }
     }
     let mut joints = Vec::new(alloc);
     joints.push(scope(alloc, outside.as_slice())?)?;
-    let mut uses = Vec::new(alloc);
-    uses.push(one_use(alloc, 0, None, parts.as_slice())?)?;
-    let found = connected(alloc, joints.as_slice(), uses.as_slice())?;
+    let mut instances = Vec::new(alloc);
+    instances.push(one_use(alloc, 0, None, parts.as_slice())?)?;
+    let found = connected(alloc, joints.as_slice(), instances.as_slice())?;
     assert_eq!(rt; found.len(), 4095);
     assert_eq!(rt;
         found.as_slice().last().copied(),

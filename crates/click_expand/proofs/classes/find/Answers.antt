@@ -2,7 +2,7 @@ use Rattle.std.proofs.Common.{◌≡◌, false, true, refl, sym, ap, ◌∙◌, 
 use Rattle.std.specs.Str.{bytes_eq}
 use Rattle.click_text.specs.Spans.{bytes_at}
 use Rattle.click_expand.specs.Classes.{meaning}
-use Rattle.click_expand.specs.Tables.{meaning_by}
+use Rattle.click_expand.specs.kept.Tables.{meaning_by}
 use Rattle.click_expand.proofs.Showing.{shown-below, found-older, found-end, found-entry}
 use Rattle.click_expand.proofs.classes.find.Goals as goal
 

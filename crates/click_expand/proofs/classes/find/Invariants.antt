@@ -2,7 +2,7 @@ use Rattle.std.proofs.Common.{◌≡◌, List}
 use Rattle.click_text.specs.declared.syntax.Statement.{Statement}
 use Rattle.click_text.specs.Spans.{bytes_at}
 use Rattle.click_expand.specs.Classes.{meaning}
-use Rattle.click_expand.specs.Tables.{IsBelow, Shows}
+use Rattle.click_expand.specs.kept.Tables.{IsBelow, Shows}
 use Rattle.click_expand.proofs.classes.find.Given as goal
 
 abbrev pub invariant-loop-place : goal.invariant-loop-place

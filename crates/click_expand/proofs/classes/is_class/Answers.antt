@@ -1,7 +1,7 @@
 use Rattle.std.proofs.Common.{◌≡◌, true, false, sym, ◌∙◌}
 use Rattle.std.specs.List.{list_any}
 use Rattle.std.specs.Str.{bytes_eq}
-use Rattle.click_expand.specs.Tables.{first_names, second_names}
+use Rattle.click_expand.specs.kept.Tables.{first_names, second_names}
 use Rattle.click_expand.proofs.Showing.{any_first, any_second, any_third}
 use Rattle.click_expand.proofs.classes.is_class.Goals as goal
 use Rattle.click_expand.proofs.classes.is_class.Goals.{then-is_first-via-then-is_first, then-is_first-via-else-is_first+then-is_second}

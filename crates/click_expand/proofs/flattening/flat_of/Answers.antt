@@ -1,5 +1,5 @@
 use Rattle.std.proofs.Common.{subst}
-use Rattle.click_expand.specs.Tabled.{IsFirst}
+use Rattle.click_expand.specs.kept.Tabled.{IsFirst}
 use Rattle.click_expand.proofs.Answering.{first-refused}
 use Rattle.click_expand.proofs.flattening.flat_of.Goals as goal
 

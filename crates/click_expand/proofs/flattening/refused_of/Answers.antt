@@ -1,5 +1,5 @@
 use Rattle.std.proofs.Common.{ap, ◌∙◌, ◌++◌}
-use Rattle.click_expand.specs.FlatText.{name_in, name_at}
+use Rattle.click_expand.specs.FlatText.{name_or_empty, name_at_place}
 use Rattle.click_expand.proofs.Ways.{match-none, match-some}
 use Rattle.click_expand.proofs.Tokens.{repeated-in, broken-in, nothing-in}
 use Rattle.click_expand.proofs.flattening.refused_of.Goals as goal
@@ -12,7 +12,7 @@ returns-in-Some c = λ leaves known used h.
 pub returns-in-Some-2 : goal.returns-in-Some-2
 returns-in-Some-2 c = λ leaves known used h.
     broken-in leaves c.args.elements.now c.in-Some-2.place c.of.result h (match-none c.in_ok-place.field-0 _ _ c.in_default.is c.in_ok-place.ensures)
-    (match-some c.in_ok-place-2.field-0 c.in-Some-2.place _ _ c.in-Some-2.is c.in_ok-place-2.ensures) (λ e t. c.of.ensures ∙ c.in_ok-push_name.ensures ∙ ap (λ xs. xs ++ name_at c.args.elements.now c.in-Some-2.place) c.new-name.ensures.items ∙ ap name_in t)
+    (match-some c.in_ok-place-2.field-0 c.in-Some-2.place _ _ c.in-Some-2.is c.in_ok-place-2.ensures) (λ e t. c.of.ensures ∙ c.in_ok-push_name.ensures ∙ ap (λ xs. xs ++ name_at_place c.args.elements.now c.in-Some-2.place) c.new-name.ensures.items ∙ ap name_or_empty t)
 
 pub returns : goal.returns
 returns c = λ leaves known used h.

@@ -1,6 +1,6 @@
 use Rattle.std.proofs.Common.{inl, inr, sym, subst, ◌∙◌}
-use Rattle.click_expand.specs.Located.{AreAllLocals}
-use Rattle.click_expand.specs.Tabled.{IsExpanded, IsExpandedOr, IsRefusedOf}
+use Rattle.click_expand.specs.kept.ScopeElements.{AreAllLocals}
+use Rattle.click_expand.specs.kept.Tabled.{IsExpanded, IsExpandedOr, IsRefusedOf}
 use Rattle.click_expand.proofs.Answering.{too-many-elements, too-many-paths, counted, too-many, answered, refused-by}
 use Rattle.click_expand.proofs.flattening.sound_flat.Goals as goal
 
@@ -15,24 +15,24 @@ returns-then-size-gt-MOST_ELEMENTS-clause-err c =
       | inr p ↦ too-many-paths c.args.config.now c.requires.nested c.requires.sound c.in_ok-size.size c.in_ok-size.ensures p.1
     ]
 
-pub uses_of-requires-clause-locals : goal.uses_of-requires-clause-locals
-uses_of-requires-clause-locals c = subst (AreAllLocals c.args.config.now) (sym c.as_slice-locals.ensures.value) c.requires.tables.locals
+pub instances_of-requires-clause-locals : goal.instances_of-requires-clause-locals
+instances_of-requires-clause-locals c = subst (AreAllLocals c.args.config.now) (sym c.as_slice-locals.ensures.value) c.requires.tables.locals
 
-pub uses_of-requires-clause-counted : goal.uses_of-requires-clause-counted
-uses_of-requires-clause-counted c =
+pub instances_of-requires-clause-counted : goal.instances_of-requires-clause-counted
+instances_of-requires-clause-counted c =
     let k = counted c.args.config.now c.requires.nested c.requires.sound c.in_ok-size.size c.in_ok-size.ensures c.if-size-gt-MOST_ELEMENTS.false c.if-size-gt-MOST_PATHS.false in
     (k.leaves, k.are)
 
 pub expanded-requires-clause-used : goal.expanded-requires-clause-used
 expanded-requires-clause-used c =
     let k = counted c.args.config.now c.requires.nested c.requires.sound c.in_ok-size.size c.in_ok-size.ensures c.if-size-gt-MOST_ELEMENTS.false c.if-size-gt-MOST_PATHS.false in
-    let u = c.in_ok-uses.ensures k.leaves c.in_ok-size.size.paths k.are in
+    let u = c.in_ok-instances.ensures k.leaves c.in_ok-size.size.paths k.are in
     (k.leaves, u.0, u.1)
 
 pub returns-in_default-clause-err : goal.returns-in_default-clause-err
 returns-in_default-clause-err c =
     let k = counted c.args.config.now c.requires.nested c.requires.sound c.in_ok-size.size c.in_ok-size.ensures c.if-size-gt-MOST_ELEMENTS.false c.if-size-gt-MOST_PATHS.false in
-    let u = c.in_ok-uses.ensures k.leaves c.in_ok-size.size.paths k.are in
+    let u = c.in_ok-instances.ensures k.leaves c.in_ok-size.size.paths k.are in
     too-many c.args.config.now k.leaves c.in_ok-size.size.paths c.requires.sound k.are
     (subst (IsExpandedOr c.args.config.now k.leaves c.in_ok-size.size.paths) c.in_default.is (c.in_ok-flat.ensures k.leaves u.0 c.in_ok-size.size.paths u.1 k.few c.if-size-gt-MOST_PATHS.false))
 
@@ -42,7 +42,7 @@ refused_of-requires-clause-locals c = subst (AreAllLocals c.args.config.now) (sy
 pub returns-in-Some-2-clause-err : goal.returns-in-Some-2-clause-err
 returns-in-Some-2-clause-err c =
     let k = counted c.args.config.now c.requires.nested c.requires.sound c.in_ok-size.size c.in_ok-size.ensures c.if-size-gt-MOST_ELEMENTS.false c.if-size-gt-MOST_PATHS.false in
-    let u = c.in_ok-uses.ensures k.leaves c.in_ok-size.size.paths k.are in
+    let u = c.in_ok-instances.ensures k.leaves c.in_ok-size.size.paths k.are in
     let e : IsExpanded c.args.config.now k.leaves c.in_ok-size.size.paths c.in-Some.flat =
     subst (IsExpandedOr c.args.config.now k.leaves c.in_ok-size.size.paths) c.in-Some.is (c.in_ok-flat.ensures k.leaves u.0 c.in_ok-size.size.paths u.1 k.few c.if-size-gt-MOST_PATHS.false) in
     refused-by c.args.config.now k.leaves c.in_ok-size.size.paths c.in-Some.flat c.requires.sound k.are e c.in-Some-2.why
@@ -51,7 +51,7 @@ returns-in-Some-2-clause-err c =
 pub returns-clause-flat : goal.returns-clause-flat
 returns-clause-flat c =
     let k = counted c.args.config.now c.requires.nested c.requires.sound c.in_ok-size.size c.in_ok-size.ensures c.if-size-gt-MOST_ELEMENTS.false c.if-size-gt-MOST_PATHS.false in
-    let u = c.in_ok-uses.ensures k.leaves c.in_ok-size.size.paths k.are in
+    let u = c.in_ok-instances.ensures k.leaves c.in_ok-size.size.paths k.are in
     let e : IsExpanded c.args.config.now k.leaves c.in_ok-size.size.paths c.in-Some.flat =
     subst (IsExpandedOr c.args.config.now k.leaves c.in_ok-size.size.paths) c.in-Some.is (c.in_ok-flat.ensures k.leaves u.0 c.in_ok-size.size.paths u.1 k.few c.if-size-gt-MOST_PATHS.false) in
     answered c.args.config.now k.leaves c.in_ok-size.size.paths c.in-Some.flat c.requires.sound k.are e

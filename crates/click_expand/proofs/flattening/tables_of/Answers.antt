@@ -1,5 +1,5 @@
 use Rattle.std.proofs.Common.{sym, subst}
-use Rattle.click_expand.specs.Located.{AreAllLocals}
+use Rattle.click_expand.specs.kept.ScopeElements.{AreAllLocals}
 use Rattle.click_expand.proofs.flattening.tables_of.Goals as goal
 
 pub all_arguments-requires : goal.all_arguments-requires

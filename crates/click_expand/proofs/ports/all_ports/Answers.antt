@@ -1,5 +1,5 @@
 use Rattle.std.proofs.Common.{subst, arith}
-use Rattle.click_expand.specs.Misused.{inputs_kept, outputs_kept, IsPorts}
+use Rattle.click_expand.specs.kept.CompoundFaults.{inputs_kept, outputs_kept, IsPorts}
 use Rattle.click_expand.proofs.Counting.{counted-first, counted-next, counted-all, body-ports}
 use Rattle.click_expand.proofs.ports.all_ports.Goals as goal
 

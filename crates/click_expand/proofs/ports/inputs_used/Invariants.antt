@@ -1,5 +1,5 @@
 use Rattle.std.proofs.Common.{take}
-use Rattle.click_expand.specs.Misused.{inputs_kept, IsUsed}
+use Rattle.click_expand.specs.kept.CompoundFaults.{inputs_kept, IsUsed}
 use Rattle.click_expand.proofs.ports.inputs_used.Given as goal
 
 abbrev pub invariant-loop-joint : goal.invariant-loop-joint

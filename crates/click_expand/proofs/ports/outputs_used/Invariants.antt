@@ -1,5 +1,5 @@
 use Rattle.std.proofs.Common.{take}
-use Rattle.click_expand.specs.Misused.{outputs_kept, IsUsed}
+use Rattle.click_expand.specs.kept.CompoundFaults.{outputs_kept, IsUsed}
 use Rattle.click_expand.proofs.ports.outputs_used.Given as goal
 
 abbrev pub invariant-loop-joint : goal.invariant-loop-joint

@@ -1,6 +1,6 @@
 use Rattle.std.proofs.Common.{◌≡◌, ◌∷◌, None, Some, length, sym, subst, rules}
 use Rattle.std.proofs.lemmas.List.{append-nil}
-use Rattle.click_expand.specs.Tables.{Shows}
+use Rattle.click_expand.specs.kept.Tables.{Shows}
 use Rattle.click_expand.proofs.Keeping.{defined}
 use Rattle.click_expand.proofs.scopes.define.Goals as goal
 

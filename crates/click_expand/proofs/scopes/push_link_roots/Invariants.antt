@@ -1,6 +1,6 @@
 use Rattle.std.proofs.Common.{◌≡◌, ◌++◌, map, drop}
 use Rattle.click_expand.specs.Scopes.{link_bodies}
-use Rattle.click_expand.specs.Standing.{root}
+use Rattle.click_expand.specs.kept.Standing.{root}
 use Rattle.click_expand.proofs.scopes.push_link_roots.Given as goal
 
 abbrev pub invariant-loop-link : goal.invariant-loop-link

@@ -1,5 +1,5 @@
 use Rattle.std.proofs.Common.{◌≡◌, ◌++◌, map, take}
-use Rattle.click_expand.specs.Standing.{kept_link}
+use Rattle.click_expand.specs.kept.Standing.{kept_link}
 use Rattle.click_expand.proofs.scopes.push_links.Given as goal
 
 abbrev pub invariant-loop-link : goal.invariant-loop-link

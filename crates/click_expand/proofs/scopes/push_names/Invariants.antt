@@ -1,5 +1,5 @@
 use Rattle.std.proofs.Common.{◌≡◌, ◌++◌, map, take}
-use Rattle.click_expand.specs.Standing.{kept_name}
+use Rattle.click_expand.specs.kept.Standing.{kept_name}
 use Rattle.click_expand.proofs.scopes.push_names.Given as goal
 
 abbrev pub invariant-loop-name : goal.invariant-loop-name

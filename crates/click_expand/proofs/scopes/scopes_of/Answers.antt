@@ -2,7 +2,7 @@ use Rattle.std.proofs.Common.{◌≡◌, ◌+◌, [], length, refl, sym, ap, ◌
 use Rattle.std.specs.List.{slice_get}
 use Rattle.std.proofs.lemmas.List.{length_push, nil_from_length}
 use Rattle.click_expand.specs.Scopes.{body_statements}
-use Rattle.click_expand.specs.Scoped.{AreScopes}
+use Rattle.click_expand.specs.kept.Scoped.{AreScopes}
 use Rattle.click_expand.proofs.Walking.{walk-first, walk-next, walked-all, walked-synonyms, taken}
 use Rattle.click_expand.proofs.scopes.scopes_of.Goals as goal
 

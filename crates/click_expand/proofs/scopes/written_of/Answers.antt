@@ -1,7 +1,7 @@
 use Rattle.std.proofs.Common.{◌++◌, [], sym, ap, subst}
 use Rattle.std.proofs.lemmas.List.{append-nil}
-use Rattle.click_expand.specs.Scoped.{ports_in}
-use Rattle.click_expand.specs.Standing.{written_ports}
+use Rattle.click_expand.specs.kept.Scoped.{ports_in}
+use Rattle.click_expand.specs.kept.Standing.{written_ports}
 use Rattle.click_expand.proofs.Keeping.{Kept, kept-first, kept-next, more-more}
 use Rattle.click_expand.proofs.Synonyms.{renamed-first, renamed-next, renamed-all, ports-next, ports-all}
 use Rattle.click_expand.proofs.scopes.written_of.Goals as goal

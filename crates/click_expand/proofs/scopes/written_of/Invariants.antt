@@ -1,8 +1,8 @@
 use Rattle.std.proofs.Common.{◌≡◌, ◌++◌, List, drop}
 use Rattle.click_text.specs.declared.syntax.Statement.{Statement}
-use Rattle.click_expand.specs.Scoped.{ports_in}
-use Rattle.click_expand.specs.Standing.{written_ports}
-use Rattle.click_expand.specs.Tables.{Shows, IsMore}
+use Rattle.click_expand.specs.kept.Scoped.{ports_in}
+use Rattle.click_expand.specs.kept.Standing.{written_ports}
+use Rattle.click_expand.specs.kept.Tables.{Shows, IsMore}
 use Rattle.click_expand.proofs.Keeping.{Kept}
 use Rattle.click_expand.proofs.Synonyms.{Renamed}
 use Rattle.click_expand.proofs.scopes.written_of.Given as goal

@@ -1,5 +1,5 @@
 use Rattle.std.proofs.Common.{take}
-use Rattle.click_expand.specs.Counted.{IsSum}
+use Rattle.click_expand.specs.kept.Counted.{IsSum}
 use Rattle.click_expand.proofs.sizes.scope_size.Given as goal
 
 abbrev pub invariant-loop-local : goal.invariant-loop-local

@@ -2,8 +2,8 @@ use Rattle.std.proofs.Common.{◌≡◌, ◌+◌, ◌≤◌, Some, length, refl,
 use Rattle.std.specs.List.{slice_get}
 use Rattle.std.proofs.lemmas.Option.{slice_get_read}
 use Rattle.std.proofs.lemmas.List.{length_push}
-use Rattle.click_expand.specs.Sizes.{IsSizeOf}
-use Rattle.click_expand.specs.Counted.{size_or, IsSum}
+use Rattle.click_expand.specs.kept.Sizes.{IsSizeOf}
+use Rattle.click_expand.specs.kept.Counted.{size_or, IsSum}
 use Rattle.click_expand.proofs.Weighing.{weighed-next, weighed-all}
 use Rattle.click_expand.proofs.sizes.size_of.Goals as goal
 

@@ -13,7 +13,7 @@ returns-then-is_empty-clause-less c = ends-empty c.args.config.now.text c.args.s
 
 pub returns-in-Some-clause-kept : goal.returns-in-Some-clause-kept
 returns-in-Some-clause-kept c =
-    let C = c.args.config.now in let us = c.args.uses.now in let old = c.args.buffer.now in let new = c.repeat.new.self in let v = c.repeat.ensures in
+    let C = c.args.config.now in let us = c.args.instances.now in let old = c.args.buffer.now in let new = c.repeat.new.self in let v = c.repeat.ensures in
     by-room c.repeat.result v.fits v.full (λ e. kept-more C us old new _ e (ap (λ m. m.entries) v.same) c.requires.kept) (λ e. kept-same C us old new (ap (λ t. t.items) e.0) (ap (λ m. m.entries) v.same) c.requires.kept)
 
 pub returns-in-Some-clause-led : goal.returns-in-Some-clause-led

@@ -1,6 +1,6 @@
 use Rattle.std.proofs.Common.{◌≡◌, ◌<◌, ◌++◌, ◌∷◌, [], length, rules, sym, ap, ◌∙◌, subst, arith, length-append}
-use Rattle.click_expand.specs.Buffered.{AreSteps, BeginWithin, weight}
-use Rattle.click_expand.specs.declared.texts.Step.TheVariants as step
+use Rattle.click_expand.specs.kept.Buffered.{AreSteps, BeginWithin, weight}
+use Rattle.click_expand.specs.declared.texts.TextStep.TheVariants as step
 use Rattle.click_expand.proofs.Buffering.{ends-keep, begin-pop, begin-last, kept-put, left-own, left-keep}
 use Rattle.click_expand.proofs.texts.write_text.Goals as goal
 
@@ -12,7 +12,7 @@ steps-smaller-in_ok-keep-in-Keep c =
 
 pub steps-preserved-in_ok-keep-in-Keep : goal.steps-preserved-in_ok-keep-in-Keep
 steps-preserved-in_ok-keep-in-Keep c =
-    let C = c.args.config.now in let us = c.args.uses.now in let i = c.steps.invariant in let k = c.in_ok-keep-in-Keep.ensures in
+    let C = c.args.config.now in let us = c.args.instances.now in let i = c.steps.invariant in let k = c.in_ok-keep-in-Keep.ensures in
     let all = c.steps.steps.items in let ss = c.pop.new.self.items in let a = c.in-Keep.argument in let start = c.in-Keep.start in
     let old = c.steps.buffer in let new = c.keep.new.self in let before = c.args.buffer.now.text.items in
     let is : all ≡ ss ++ step.Keep a start ∷ [] = search rules in

@@ -4,8 +4,8 @@ use Rattle.click_expand.specs.Elements.{has_name}
 use Rattle.click_expand.proofs.Places.{added_map}
 use Rattle.click_expand.proofs.names.Names.add.Goals as goal
 
-pub returns : goal.returns
-returns c =
+pub returns-clause-added : goal.returns-clause-added
+returns-clause-added c =
     let kept = c.in_ok-from_slice.field-0 in
     let is : kept.items ≡ c.args.name.now = c.in_ok-from_slice.ensures.items in
     ap (map (λ v. v.items)) c.in_ok-insert.ensures.keys

@@ -2,8 +2,8 @@ use Rattle.std.proofs.Common.{◌≡◌, ℕ, length, ◌&&◌, nat_eq, if◌the
 use Rattle.std.specs.Map.{lookup}
 use Rattle.std.proofs.lemmas.Bool.Decides.{nat_tests}
 use Rattle.click_text.specs.declared.syntax.Span.{Span}
-use Rattle.click_expand.specs.declared.readings.Argument.{Argument}
-use Rattle.click_expand.specs.Buffered.{same_argument}
+use Rattle.click_expand.specs.declared.parameter_values.Argument.{Argument}
+use Rattle.click_expand.specs.kept.Buffered.{same_argument}
 use Rattle.click_expand.proofs.text_buffer.TextBuffer.keep.Goals as goal
 
 swap : (m n : ℕ) → nat_eq m n ≡ nat_eq n m

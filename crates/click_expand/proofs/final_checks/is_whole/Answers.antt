@@ -1,0 +1,17 @@
+use Rattle.std.proofs.Common.{◌≡◌, ◌++◌, ◌∷◌, [], nat_eq, sym, ap, ◌∙◌}
+use Rattle.click_text.specs.declared.strings.Mode.TheVariants as mode
+use Rattle.click_text.specs.Strings.{closes}
+use Rattle.click_expand.proofs.Finding.{whole-found, whole-none}
+use Rattle.click_expand.proofs.final_checks.is_whole.Goals as goal
+
+pub returns-in-Some : goal.returns-in-Some
+returns-in-Some c =
+    let xs = c.as_slice.result.now in
+    let is : xs ≡ c.args.text.now ++ 41 ∷ [] = c.as_slice.ensures.value ∙ c.in_ok-push.ensures.items ∙ ap (λ x. x ++ 41 ∷ []) c.in_ok-closed.ensures.items in
+    ap (nat_eq c.in-Some.len) (c.len.ensures ∙ sym c.as_slice.ensures.len) ∙ whole-found xs c.in-Some.len c.in-Some.ensures.within c.in-Some.ensures.closed ∙ ap (closes mode.Plain 1) is
+
+pub returns : goal.returns
+returns c =
+    let xs = c.as_slice.result.now in
+    let is : xs ≡ c.args.text.now ++ 41 ∷ [] = c.as_slice.ensures.value ∙ c.in_ok-push.ensures.items ∙ ap (λ x. x ++ 41 ∷ []) c.in_ok-closed.ensures.items in
+    whole-none xs c.in-None.ensures.unclosed ∙ ap (closes mode.Plain 1) is

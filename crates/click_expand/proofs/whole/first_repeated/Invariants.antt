@@ -1,7 +1,0 @@
-use Rattle.std.proofs.Common.{◌≡◌, take}
-use Rattle.click_expand.specs.Flat.{AreDistinct}
-use Rattle.click_expand.specs.Found.{names_in}
-use Rattle.click_expand.proofs.whole.first_repeated.Given as goal
-
-abbrev pub invariant-loop-place : goal.invariant-loop-place
-invariant-loop-place l = (l.names ≡ names_in (take l.place l.elements)) × AreDistinct l.names

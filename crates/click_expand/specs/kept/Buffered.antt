@@ -1,0 +1,68 @@
+-- Texts while they are written: what is to be done before a text is whole, and the arguments whose texts stand in what is written.
+use Rattle.std.specs.Prelude.{◌≡◌, ℕ, zero, suc, ◌+◌, ◌≤◌, List, [], ◌∷◌, ◌++◌, length, drop, nat_eq, Bool, ◌&&◌, Some}
+use Rattle.std.specs.Map.{lookup}
+use Rattle.click_text.specs.declared.syntax.Span.{Span}
+use Rattle.click_text.specs.declared.syntax.Config.{Config}
+use Rattle.click_text.specs.Spans.{bytes_at}
+use Rattle.click_expand.specs.Instances.{Leaf}
+use Rattle.click_expand.specs.kept.KnownInstances.{KnownInstance, AreInstances}
+use Rattle.click_expand.specs.kept.ParameterValues.{IsRead, IsOwn}
+use Rattle.click_expand.specs.declared.instances.Place.{Place}
+use Rattle.click_expand.specs.declared.instances.Instance.{Instance as InstanceKept}
+use Rattle.click_expand.specs.declared.parameter_values.Argument.{Argument}
+use Rattle.click_expand.specs.declared.parameter_values.UnreadText.{UnreadText}
+use Rattle.click_expand.specs.declared.texts.TextStep.{TextStep}
+use Rattle.click_expand.specs.declared.texts.TextStep.TheVariants as step
+use Rattle.click_expand.specs.declared.text_buffer.TextBuffer.{TextBuffer}
+
+abbrev pub same_argument : Argument → Argument → Bool
+same_argument a b = nat_eq a.within b.within && nat_eq a.place b.place
+
+-- the argument's text stands in what is written
+pub record IsArgumentKept (c : Config) (instances : List InstanceKept) (text : List ℕ) (a : Argument) (s : Span) : Type 0 where
+  pub ordered : s.start ≤ s.end
+  pub within : s.end ≤ length text
+  pub value : (places : List Place) (known : List KnownInstance) (leaves : List Leaf) → AreInstances c instances places known leaves → IsOwn known a (bytes_at text s)
+
+-- so for each argument that is kept
+abbrev pub AreKept : Config → List InstanceKept → TextBuffer → Type 0
+AreKept c instances b = (a : Argument) (s : Span) → lookup (same_argument a) b.values.entries ≡ Some s → IsArgumentKept c instances b.text.items a s
+
+-- a step leads from what is written before it to what is written after it
+abbrev pub IsTextStep : Config → List KnownInstance → TextStep → List ℕ → List ℕ → Type 0
+IsTextStep c known (step.Read r) before after = (p : List ℕ) × (after ≡ before ++ p) × IsRead c known r p
+IsTextStep c known (step.Keep a start) before after = (after ≡ before) × (start ≤ length before) × IsOwn known a (drop start before)
+
+-- These steps lead from what is written to the whole text. The last of the list is done first.
+abbrev pub AreSteps : Config → List KnownInstance → List TextStep → List ℕ → List ℕ → Type 0
+AreSteps c known [] before whole = whole ≡ before
+AreSteps c known (s ∷ above) before whole = (between : List ℕ) × AreSteps c known above before between × IsTextStep c known s between whole
+
+-- what is to be kept begins within so many bytes
+abbrev pub BeginWithin : ℕ → List TextStep → Type 0
+BeginWithin n [] = Unit {0}
+BeginWithin n (step.Read r ∷ steps) = BeginWithin n steps
+BeginWithin n (step.Keep a start ∷ steps) = (start ≤ n) × BeginWithin n steps
+
+-- the rest of a reading after its first bytes
+abbrev pub IsRest : UnreadText → ℕ → UnreadText → Type 0
+IsRest r n q = (q.within ≡ r.within) × (q.rest.now ≡ drop n r.rest.now)
+
+-- The cost of a text, each of whose bytes costs so much.
+abbrev pub costs : ℕ → List ℕ → ℕ
+costs p [] = p
+costs p (b ∷ t) = p + costs p t
+
+-- what a byte costs in an instance: more than any text in the instances before it, and to keep where it stands
+abbrev pub price : List ℕ → ℕ → ℕ
+price text zero = 1
+price text (suc u) = 2 + costs (price text u) text
+
+abbrev pub step_weight : List ℕ → TextStep → ℕ
+step_weight text (step.Read r) = costs (price text r.within) r.rest.now
+step_weight text (step.Keep a start) = 1
+
+-- it is less with each step that is done
+abbrev pub weight : List ℕ → List TextStep → ℕ
+weight text [] = 0
+weight text (s ∷ steps) = step_weight text s + weight text steps

@@ -1,0 +1,48 @@
+-- The texts that stand for parameters, as the code finds them.
+use Rattle.std.specs.Prelude.{◌≡◌, ℕ, List, [], ◌∷◌, slice_get, Option, Some, None, Vec}
+use Rattle.std.specs.Global.{Global}
+use Rattle.click_text.specs.declared.syntax.Span.{Span}
+use Rattle.click_text.specs.declared.syntax.Config.{Config}
+use Rattle.click_expand.specs.Elements.{string_or_empty}
+use Rattle.click_expand.specs.Parameters.{Bindings, IsReplaced}
+use Rattle.click_expand.specs.kept.KnownInstances.{KnownInstance}
+use Rattle.click_expand.specs.declared.scope_elements.Local.{Local as LocalKept}
+use Rattle.click_expand.specs.declared.parameter_values.UnreadText.{UnreadText}
+use Rattle.click_expand.specs.declared.parameter_values.Argument.{Argument}
+use Rattle.click_expand.specs.declared.parameter_values.ParameterValue.{ParameterValue}
+
+-- where the arguments of an element stand: nowhere, where there is none
+abbrev pub spans_by : Option (List Span) → List Span
+spans_by None = []
+spans_by (Some spans) = spans
+
+abbrev pub spans_found : Option (List (List Span)) → ℕ → List Span
+spans_found None element = []
+spans_found (Some one) element = spans_by (slice_get one element)
+
+-- the string of an element
+abbrev pub string_kept : List ℕ → Option LocalKept → List ℕ
+string_kept text None = []
+string_kept text (Some l) = string_or_empty text l.text
+
+abbrev pub string_found : List ℕ → Option (Vec LocalKept Global) → ℕ → List ℕ
+string_found text None element = []
+string_found text (Some ls) element = string_kept text (slice_get ls.items element)
+
+-- with its parameters replaced by what they are in its instance, a text is this one
+abbrev pub IsRead : Config → List KnownInstance → UnreadText → List ℕ → Type 0
+IsRead c known r out = (x : KnownInstance) × (slice_get known r.within ≡ Some x) × IsReplaced c x.bindings (x.scope ∷ x.around) r.rest.now out
+
+-- the arguments of the body that an instance is of
+abbrev pub own_arguments : Bindings → List (List ℕ)
+own_arguments [] = []
+own_arguments (b ∷ bindings) = b.1
+
+-- the argument, with its parameters replaced, is this text
+abbrev pub IsOwn : List KnownInstance → Argument → List ℕ → Type 0
+IsOwn known a v = (x : KnownInstance) × (slice_get known a.within ≡ Some x) × (slice_get (own_arguments x.bindings) a.place ≡ Some v)
+
+-- a parameter's value is what is read there, and it is that argument
+abbrev pub IsValue : Config → List KnownInstance → Option ParameterValue → Option (List ℕ) → Type 0
+IsValue c known None o = o ≡ None
+IsValue c known (Some r) o = (v : List ℕ) × (o ≡ Some v) × IsRead c known r.reading v × IsOwn known r.argument v
