@@ -5,6 +5,7 @@
 #   NAME.session     what it reads                NAME.status   its status, where that is not 0
 #   NAME.transcript  what it writes               NAME.fault    what it writes on standard error
 . "$(dirname "$(readlink -f "$0")")/../tools/checking.sh"
+is_built "$program"
 cd "$top/examples"
 passed=0
 no_bytes=$work/no_bytes
@@ -26,6 +27,34 @@ done
 for file in *.session *.transcript *.status *.fault; do
     if ! [ -e "${file%.*}.click" ]; then fail "$file stands beside no ${file%.*}.click"; fi
 done
+
+# Wrong arguments, help, and a word that is no text: a text on standard error alone.
+wrong_arguments() {
+    ran "$program" "$@" < /dev/null
+    is_empty "$work/out" "standard output beside the arguments '$*'"
+    is_not_empty "$work/err" "standard error at the arguments '$*'"
+    same_status 2 "$status" "the arguments '$*'"
+    passed=$((passed + 1))
+}
+wrong_arguments
+wrong_arguments -e
+wrong_arguments -x
+wrong_arguments --help
+wrong_arguments -e $'\xff'
+printf 'click_prog: an argument is not UTF-8\n' > "$work/wanted"
+same_bytes "$work/wanted" "$work/err" 'an argument that is no text'
+
+# A peer that takes nothing more is a failed write; standard input that cannot be read is a failed read, after the greeting.
+status=0
+"$program" -e '' < counter.session > /dev/full 2> "$work/err" || status=$?
+is_empty "$work/err" 'standard error at a full device'
+same_status 4 "$status" 'a full device'
+passed=$((passed + 1))
+ran "$program" -e '' <&-
+same_bytes nothing.transcript "$work/out" 'closed standard input'
+is_empty "$work/err" 'standard error at closed standard input'
+same_status 4 "$status" 'closed standard input'
+passed=$((passed + 1))
 
 # refused FAULT TEXT: the text is refused with that line alone, and with status 1.
 refused() {
@@ -56,33 +85,5 @@ ran "$program" -e "$(times 4096 'Idle;')" < /dev/null
 same_bytes nothing.transcript "$work/out" '4096 elements'
 is_empty "$work/err" '4096 elements, on standard error'
 same_status 0 "$status" '4096 elements'
-passed=$((passed + 1))
-
-# Wrong arguments, help, and a word that is no text: a text on standard error alone.
-wrong_arguments() {
-    ran "$program" "$@" < /dev/null
-    is_empty "$work/out" "standard output beside the arguments '$*'"
-    is_not_empty "$work/err" "standard error at the arguments '$*'"
-    same_status 2 "$status" "the arguments '$*'"
-    passed=$((passed + 1))
-}
-wrong_arguments
-wrong_arguments -e
-wrong_arguments -x
-wrong_arguments --help
-wrong_arguments -e $'\xff'
-printf 'click_prog: an argument is not UTF-8\n' > "$work/wanted"
-same_bytes "$work/wanted" "$work/err" 'an argument that is no text'
-
-# A peer that takes nothing more is a failed write; standard input that cannot be read is a failed read, after the greeting.
-status=0
-"$program" -e '' < counter.session > /dev/full 2> "$work/err" || status=$?
-is_empty "$work/err" 'standard error at a full device'
-same_status 4 "$status" 'a full device'
-passed=$((passed + 1))
-ran "$program" -e '' <&-
-same_bytes nothing.transcript "$work/out" 'closed standard input'
-is_empty "$work/err" 'standard error at closed standard input'
-same_status 4 "$status" 'closed standard input'
 passed=$((passed + 1))
 echo "$passed examples passed"

@@ -17,11 +17,13 @@ fail() {
     exit 1
 }
 
-for needed in "$program" "$bench"; do
-    if ! [ -x "$needed" ]; then
-        fail "there is no $needed: build it by ./test.sh, or by rt run in its crate's folder"
-    fi
-done
+# is_built PROGRAM..: each is there.
+is_built() {
+    local needed
+    for needed in "$@"; do
+        if ! [ -x "$needed" ]; then fail "there is no $needed: ./test.sh builds it, and so does rt run in its crate's folder"; fi
+    done
+}
 
 # ran COMMAND..: runs it; its status, standard output and standard error are then $status, $work/out and $work/err.
 ran() {

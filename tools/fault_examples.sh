@@ -6,6 +6,7 @@
 #
 #   tools/fault_examples.sh [PAGE]
 . "$(dirname "$(readlink -f "$0")")/checking.sh"
+is_built "$program" "$bench"
 page=${1:-$top/docs/FAULTS.md}
 
 # code CELL: what stands in its backquotes.
@@ -13,6 +14,15 @@ code() {
     local text=${1#*\`}
     printf '%s' "${text%\`*}"
 }
+
+# prepares SIZE WORD: of so many blanks click_bench says that.
+prepares() {
+    ran "$bench" router < <(printf "%$1s" '')
+    printf '%s\n' "$2" > "$work/wanted"
+    same_bytes "$work/wanted" "$work/out" "a text of $1 bytes"
+    same_status 0 "$status" "a text of $1 bytes"
+}
+
 tried=0
 : > "$work/numbers"
 while IFS= read -r row; do
@@ -23,14 +33,13 @@ while IFS= read -r row; do
     case "$fault" in
     '6 TooLarge')
         # No word of a command line is that long, so the limit is tried where a text comes from standard input.
-        ran "$bench" router < <(printf '%1048577s' '')
-        same TooLarge "$(cat "$work/out")" 'a text of 1,048,577 bytes'
-        ran "$bench" router < <(printf '%1048576s' '')
-        same prepared "$(cat "$work/out")" 'a text of 1,048,576 bytes' ;;
+        prepares 1048576 prepared
+        prepares 1048577 TooLarge ;;
     '7 NoMemory') ;; # tools/refuse.sh
     *)
         ran "$program" -e "$(code "$example")" < /dev/null
-        same "$(code "$line")" "$(cat "$work/err")" "the example of fault $fault"
+        printf '%s\n' "$(code "$line")" > "$work/wanted"
+        same_bytes "$work/wanted" "$work/err" "the example of fault $fault"
         is_empty "$work/out" "standard output beside fault $fault"
         same_status 1 "$status" "the example of fault $fault"
         case "$(code "$line")" in

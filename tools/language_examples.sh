@@ -5,6 +5,7 @@
 #
 #   tools/language_examples.sh [READINGS PAGE..]
 . "$(dirname "$(readlink -f "$0")")/checking.sh"
+is_built "$program" "$bench"
 if [ $# = 0 ]; then set -- "$top/examples/readings.txt" "$top/docs/LANGUAGE.md" "$top/docs/ELEMENTS.md"; fi
 readings=$1
 shift
@@ -35,11 +36,13 @@ for at in "${!texts[@]}"; do
     if [ "$at" -ge ${#lines[@]} ]; then fail "$readings has no line for the example that begins with: $first"; fi
     same "${lines[at]#*$'\t'}" "$first" "line $((at + 1)) of $readings belongs to the example"
     ran "$bench" input < <(printf '%s' "$text")
-    same "${lines[at]%%$'\t'*}" "$(cat "$work/out")" "what is read in the example that begins with: $first"
+    printf '%s\n' "${lines[at]%%$'\t'*}" > "$work/wanted"
+    same_bytes "$work/wanted" "$work/out" "what is read in the example that begins with: $first"
     same_status 0 "$status" "reading the example that begins with: $first"
     ran "$program" -e "$text" < /dev/null
     if [ -n "$fault" ]; then
-        same "click_prog: $fault" "$(cat "$work/err")" "the fault of the example that begins with: $first"
+        printf 'click_prog: %s\n' "$fault" > "$work/wanted"
+        same_bytes "$work/wanted" "$work/err" "the fault of the example that begins with: $first"
         is_empty "$work/out" "standard output beside the fault of: $first"
         same_status 1 "$status" "the example that begins with: $first"
         refused=$((refused + 1))

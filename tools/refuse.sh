@@ -2,6 +2,7 @@
 # Refuses each request for memory of some runs in turn, until a run has none refused: the program's stored session, the preparing and the parsing of
 # some texts, the making of some elements. The programs must have been built.
 . "$(dirname "$(readlink -f "$0")")/checking.sh"
+is_built "$program" "$bench"
 if ! command -v cc > /dev/null; then fail 'there is no C compiler cc, which tools/refuse.c needs'; fi
 if ! cc -O1 -shared -fPIC -o "$work/refuse.so" "$top/tools/refuse.c" -ldl; then fail 'tools/refuse.c does not compile'; fi
 tried=0 answered=0 first=1
@@ -10,16 +11,16 @@ tried=0 answered=0 first=1
 # Where none is refused it writes WHOLE, with status 0. Else it writes ANSWER, with status 0, or it breaks off with status BROKEN, after some first bytes of FRONT. These
 # four are files; ANSWER is `none` where a refused request has no answer.
 in_turn() {
-    local what=$1 input=$2 whole=$3 answer=$4 broken=$5 front=$6 nth=$((first - 1)) run
+    local what=$1 input=$2 whole=$3 answer=$4 broken=$5 front=$6 nth=$first run
     shift 6
+    ran "$@" < "$input"
+    is_whole "$whole" "$what"
     while :; do
-        nth=$((nth + 1))
         run="$what, request $nth for memory refused"
         if [ "$nth" -gt 5000 ]; then fail "$run: there is no end"; fi
         : > "$work/refused"
         LD_PRELOAD="$work/refuse.so" REFUSE=$nth ran "$@" < "$input" 9> "$work/refused"
         if ! [ -s "$work/refused" ]; then break; fi
-        tried=$((tried + 1))
         if [ "$status" = 0 ] && [ "$answer" != none ]; then
             same_bytes "$answer" "$work/out" "$run"
             answered=$((answered + 1))
@@ -28,11 +29,16 @@ in_turn() {
             begins "$work/out" "$front" "$run"
         fi
         is_empty "$work/err" "$run: standard error"
+        nth=$((nth + 1)) tried=$((tried + 1))
     done
-    same_bytes "$whole" "$work/out" "$what, no request refused"
-    is_empty "$work/err" "$what, no request refused: standard error"
-    same_status 0 "$status" "$what, no request refused"
-    if [ "$nth" = 1 ]; then fail "$what: no request was refused"; fi
+    is_whole "$whole" "$what, after the last request for memory"
+}
+
+# is_whole WHOLE WHAT: what the program does when no request is refused.
+is_whole() {
+    same_bytes "$1" "$work/out" "$2"
+    is_empty "$work/err" "$2: standard error"
+    same_status 0 "$status" "$2"
 }
 
 # passed ANSWER WHAT: says how many requests of these runs were refused. Where there is an answer, some have to be answered by it.
