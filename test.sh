@@ -11,6 +11,7 @@ if [ "$(sum_of_sources)" != "$sources" ]; then
     exit 1
 fi
 write_stamp "$sources"
+tools/front_door.sh
 tools/readme.sh
 tools/control_example.sh
 examples/run.sh

@@ -168,6 +168,28 @@ for change in 1d '$d' '$p' 's/^3 statements/2 statements/' 's/BadByte 5\.\.6/Bad
 done
 echo "$refused times a wrong page was refused"
 
+# run.sh, and what it takes from tools/built.sh.
+refused=0
+wrong_front() {
+    changed run.sh "$1"
+    is_refused "run.sh with the change $1" tools/front_door.sh "$work/page"
+}
+wrong_built() {
+    changed tools/built.sh "$1"
+    is_refused "tools/built.sh with the change $1" tools/front_door.sh run.sh "$work/page"
+}
+for change in 's/ < \/dev\/null > "\$log"/ > "$log"/' 's/> "\$log" 2>&1/2>\&1/' 's/> "\$log" 2>&1/> "$log"/' 's/^exec //' 's/^exec \(.*\)"\$@"/exec \1$@/' \
+    's/^exec \(.*\) "\$@"/exec \1/' 's/^exec /cd "$top"; exec /' 's/exit 5/exit 1/' '/write_stamp/d' '/changed while/d' '/command -v rt/d' 's/^if ! is_built_from.*/if true; then/' \
+    's/^if ! is_built_from.*/if ! [ -x "$built" ]; then/'; do
+    wrong_front "$change"
+done
+for change in 's/in src specs proofs/in src proofs/' 's/"\$version" //' 's/find crates.txt HANDLES/find HANDLES/' 's/find crates.txt HANDLES/find crates.txt/' \
+    's/"crates\/\$crate\/\$part")/"crates\/$crate")/' 's/crates=\$(crates_below)/crates=$(ls crates)/' 's/crates=\$(crates_below)/crates=click_prog/' \
+    's/ \$(sum_of_program)" \]/ $(cut -d " " -f 2 "$stamp")" ]/'; do
+    wrong_built "$change"
+done
+echo "$refused times a wrong run.sh was refused"
+
 # Without a C compiler nothing can be refused, and that is a failure.
 mkdir "$work/without"
 for word in bash dirname readlink mktemp rm; do ln -s "$(command -v $word)" "$work/without/$word"; done
