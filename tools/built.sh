@@ -1,13 +1,14 @@
-# Sourced by run.sh and test.sh: whether crates/click_prog/out/click_prog is the program of these sources, proved. A stamp beside it says what it was
-# built from: the toolchain, the files crates.txt and HANDLES, and src/, specs/ and proofs/ of each crate that it stands on; and what was built.
+# Sourced by run.sh, test.sh and tools/by_hand.sh: whether crates/click_prog/out/click_prog is the program of these sources, proved. A stamp beside it
+# says what it was built from: the toolchain, the files crates.txt and HANDLES, and src/, specs/ and proofs/ of each crate that it stands on; and what
+# was built.
 
 top=$(dirname "$(dirname "$(readlink -f "${BASH_SOURCE[0]}")")")
 built=$top/crates/click_prog/out/click_prog
 stamp=$built.built-from
 
-# click_prog and the crates of this repository that it stands on, by crates.txt, one a line.
+# crates_below NAME: the crate and those of this repository that it stands on, by crates.txt, one a line.
 crates_below() {
-    awk -v first=click_prog '
+    awk -v first="$1" '
         { sub(/#.*/, "") }
         /:/ { colon = index($0, ":"); split($0, head); sub(/:$/, "", head[1]); uses[head[1]] = substr($0, colon + 1) }
         END {
@@ -25,7 +26,7 @@ sum_of_sources() (
     set -o pipefail
     cd "$top" || return 1
     version=$(rt version) || return 1
-    crates=$(crates_below) || return 1
+    crates=$(crates_below click_prog) || return 1
     folders=()
     for crate in $crates; do
         for part in src specs proofs; do

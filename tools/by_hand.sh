@@ -1,10 +1,10 @@
 #!/usr/bin/env bash
 # Tries the edits crates/NAME/by-hand/*.edit, which the gate leaves out: the prover must refuse each. It is run by hand, on a copy of the files that
-# are here, with what earlier checks kept in out/; the crate and those below it have to be proved, or are proved first.
+# are here, with what earlier checks kept in out/; crates below that are not proved there are proved first.
 #
 #   tools/by_hand.sh NAME..
 set -eu
-top=$(dirname "$(dirname "$(readlink -f "$0")")")
+. "$(dirname "$(readlink -f "$0")")/built.sh"
 stop() {
     printf 'by_hand.sh: %s\n' "$1" >&2
     exit 1
@@ -24,8 +24,8 @@ git ls-files -z --cached --others --exclude-standard | while IFS= read -r -d '' 
 done > "$work/files"
 mkdir "$work/copy"
 xargs -0 cp --parents --preserve=mode,timestamps --target-directory "$work/copy" < "$work/files"
-for out in crates/*/out; do
-    if [ -d "$out" ]; then cp -a --reflink=auto "$out" "$work/copy/$out"; fi
+for name in "$@"; do crates_below "$name"; done | sort -u | while IFS= read -r crate; do
+    if [ -d "crates/$crate/out" ]; then cp -a --reflink=auto "crates/$crate/out" "$work/copy/crates/$crate/out"; fi
 done
 cd "$work/copy"
 for name in "$@"; do

@@ -1,6 +1,8 @@
 #!/usr/bin/env bash
 # Refuses each request for memory of some runs in turn, until a run has none refused: the program's stored session, the preparing and the parsing of
 # some texts, the making of some elements. The programs must have been built.
+#
+#   tools/refuse.sh [program|bench]    the runs of click_prog, or of click_bench, alone
 . "$(dirname "$(readlink -f "$0")")/checking.sh"
 is_built "$program" "$bench"
 if ! command -v cc > /dev/null; then fail 'there is no C compiler cc, which tools/refuse.c needs'; fi
@@ -49,44 +51,49 @@ passed() {
     tried=0 answered=0
 }
 
-# The router's own request is answered, and the session goes on.
-printf 'Click::ControlSocket/1.3\r\n520 Out of memory\r\n200 Goodbye!\r\n' > "$work/answer"
-mapfile -t arguments < "$top/crates/click_prog/args"
-stored=$top/crates/click_prog/stdout
-in_turn 'the stored session' "$top/crates/click_prog/stdin" "$stored" "$work/answer" 3 "$stored" "$program" "${arguments[@]}"
-passed "$work/answer" 'in the stored session'
-
-printf 'Click::ControlSocket/1.3\r\n' > "$work/greeting"
-for text in "$top"/tools/texts/*.click; do
-    in_turn "the program with $(basename "$text")" /dev/null "$work/greeting" none 3 "$work/greeting" "$program" -e "$(cat "$text")"
-done
-passed none 'while texts are prepared'
-
-# click_bench writes the fault, or fails to read its input.
-: > "$work/nothing"
-printf 'NoMemory 0..0\n' > "$work/answer"
-for reading in 'classifier 3 statements, 0 bodies' 'compounds 3 statements, 2 bodies' 'lookup 4 statements, 0 bodies'; do
-    text=${reading%% *}.click
-    printf '%s\n' "${reading#* }" > "$work/whole"
-    in_turn "the parser with $text" "$top/tools/texts/$text" "$work/whole" "$work/answer" 1 "$work/nothing" "$bench" input
-done
-passed "$work/answer" 'while texts are parsed'
-
-# What click_bench asks for itself comes first, as for an element without arguments; it is left out.
-is_refused() {
+# asks_for_itself NUMBER: whether click_bench asks that often for an element without arguments.
+asks_for_itself() {
     : > "$work/refused"
     LD_PRELOAD="$work/refuse.so" REFUSE=$1 ran "$bench" make Unqueue < /dev/null 9> "$work/refused"
     [ -s "$work/refused" ]
 }
-while is_refused "$first"; do first=$((first + 1)); done
-if [ "$first" = 1 ]; then fail 'click_bench asked for no memory'; fi
-printf 'NoMemory\n' > "$work/answer"
-printf 'made\n' > "$work/whole"
-same_bytes "$work/whole" "$work/out" 'an element without arguments'
-while IFS=' ' read -r class text; do
-    printf '%s' "$text" > "$work/text"
-    in_turn "$class($text)" "$work/text" "$work/whole" "$work/answer" 1 "$work/nothing" "$bench" make "$class"
-done << 'E'
+
+refuse_program() {
+    # The router's own request is answered, and the session goes on.
+    printf 'Click::ControlSocket/1.3\r\n520 Out of memory\r\n200 Goodbye!\r\n' > "$work/answer"
+    mapfile -t arguments < "$top/crates/click_prog/args"
+    stored=$top/crates/click_prog/stdout
+    in_turn 'the stored session' "$top/crates/click_prog/stdin" "$stored" "$work/answer" 3 "$stored" "$program" "${arguments[@]}"
+    passed "$work/answer" 'in the stored session'
+
+    printf 'Click::ControlSocket/1.3\r\n' > "$work/greeting"
+    for text in "$top"/tools/texts/*.click; do
+        in_turn "the program with $(basename "$text")" /dev/null "$work/greeting" none 3 "$work/greeting" "$program" -e "$(cat "$text")"
+    done
+    passed none 'while texts are prepared'
+}
+
+refuse_bench() {
+    # click_bench writes the fault, or fails to read its input.
+    : > "$work/nothing"
+    printf 'NoMemory 0..0\n' > "$work/answer"
+    for reading in 'classifier 3 statements, 0 bodies' 'compounds 3 statements, 2 bodies' 'lookup 4 statements, 0 bodies'; do
+        text=${reading%% *}.click
+        printf '%s\n' "${reading#* }" > "$work/whole"
+        in_turn "the parser with $text" "$top/tools/texts/$text" "$work/whole" "$work/answer" 1 "$work/nothing" "$bench" input
+    done
+    passed "$work/answer" 'while texts are parsed'
+
+    # What click_bench asks for itself comes first, as for an element without arguments; it is left out.
+    while asks_for_itself "$first"; do first=$((first + 1)); done
+    if [ "$first" = 1 ]; then fail 'click_bench asked for no memory'; fi
+    printf 'NoMemory\n' > "$work/answer"
+    printf 'made\n' > "$work/whole"
+    same_bytes "$work/whole" "$work/out" 'an element without arguments'
+    while IFS=' ' read -r class text; do
+        printf '%s' "$text" > "$work/text"
+        in_turn "$class($text)" "$work/text" "$work/whole" "$work/answer" 1 "$work/nothing" "$bench" make "$class"
+    done << 'E'
 Queue 5
 Switch -1
 Tee 3
@@ -101,4 +108,14 @@ EtherEncap 0x0800, 1:1:1:1:1:1, 2:2:2:2:2:2
 InfiniteSource "ab", 5, 2
 FromDevice eth0
 E
-passed "$work/answer" 'while elements are made'
+    passed "$work/answer" 'while elements are made'
+}
+
+case "${1:-both}" in
+program) refuse_program ;;
+bench) refuse_bench ;;
+both)
+    refuse_program
+    refuse_bench ;;
+*) fail "there are no runs of $1" ;;
+esac

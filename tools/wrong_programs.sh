@@ -31,7 +31,7 @@ E
 wrapped "$work/click_prog" "$program" ''
 wrapped "$work/click_bench" "$bench" ''
 
-# The scripts, by one letter: Examples, Readme, Control example, Language examples, fAults, reFused memory.
+# script_of LETTER [PROGRAM]: Examples, Readme, Control example, Language examples, fAults, reFused memory, of that program alone.
 script_of() {
     case "$1" in
     E) echo examples/run.sh ;;
@@ -39,7 +39,7 @@ script_of() {
     C) echo tools/control_example.sh ;;
     L) echo tools/language_examples.sh ;;
     A) echo tools/fault_examples.sh ;;
-    F) echo tools/refuse.sh ;;
+    F) echo tools/refuse.sh "${2:-}" ;;
     esac
 }
 
@@ -58,7 +58,7 @@ wrong() {
     local scripts=$1 at
     wrapped "$work/wrong" "$program" "$3"
     for ((at = 0; at < ${#scripts}; at++)); do
-        PROGRAM=$work/wrong BENCH=$bench is_refused "a program with $2" "$(script_of "${scripts:at:1}")"
+        PROGRAM=$work/wrong BENCH=$bench is_refused "a program with $2" $(script_of "${scripts:at:1}" program)
     done
 }
 
@@ -67,14 +67,14 @@ wrong_bench() {
     local scripts=$1 at
     wrapped "$work/wrong_bench" "$bench" "$3"
     for ((at = 0; at < ${#scripts}; at++)); do
-        PROGRAM=$program BENCH=$work/wrong_bench is_refused "a click_bench with $2" "$(script_of "${scripts:at:1}")"
+        PROGRAM=$program BENCH=$work/wrong_bench is_refused "a click_bench with $2" $(script_of "${scripts:at:1}" bench)
     done
 }
 
 # What is right passes.
 for letter in E R C L A F; do
     script=$(script_of $letter)
-    PROGRAM=$work/click_prog BENCH=$work/click_bench ran "$script"
+    PROGRAM=$work/click_prog BENCH=$work/click_bench ran $script
     same_status 0 "$status" "$script, with programs that change nothing"
 done
 
@@ -184,7 +184,7 @@ for change in 's/ < \/dev\/null > "\$log"/ > "$log"/' 's/> "\$log" 2>&1/2>\&1/' 
     wrong_front "$change"
 done
 for change in 's/in src specs proofs/in src proofs/' 's/"\$version" //' 's/find crates.txt HANDLES/find HANDLES/' 's/find crates.txt HANDLES/find crates.txt/' \
-    's/"crates\/\$crate\/\$part")/"crates\/$crate")/' 's/crates=\$(crates_below)/crates=$(ls crates)/' 's/crates=\$(crates_below)/crates=click_prog/' \
+    's/"crates\/\$crate\/\$part")/"crates\/$crate")/' 's/crates=\$(crates_below click_prog)/crates=$(ls crates)/' 's/crates=\$(crates_below click_prog)/crates=click_prog/' \
     's/ \$(sum_of_program)" \]/ $(cut -d " " -f 2 "$stamp")" ]/'; do
     wrong_built "$change"
 done
