@@ -4,6 +4,7 @@
 #
 #   NAME.session     what it reads                NAME.status   its status, where that is not 0
 #   NAME.transcript  what it writes               NAME.fault    what it writes on standard error
+set -eu
 . "$(dirname "$(readlink -f "$0")")/../tools/checking.sh"
 is_built "$program"
 cd "$top/examples"

@@ -1,7 +1,6 @@
 # Sourced by the scripts that check: the programs, a folder `work` that is removed at the end, and the checks. A check that fails says what was wanted
 # and what came, and ends the script with status 1. It does so by itself: nothing here rests on `set -e`, which bash forgets in conditions and lists.
 # So no check may stand in a subshell, where `exit` would end just that.
-set -eu
 
 top=$(dirname "$(dirname "$(readlink -f "${BASH_SOURCE[0]}")")")
 # The programs that are checked. tools/wrong_programs.sh has the scripts check others.

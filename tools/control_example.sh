@@ -2,6 +2,7 @@
 # Serves the session that docs/CONTROL.md shows: over the text in the line before it, the commands behind `> ` are sent, and all else has to come.
 #
 #   tools/control_example.sh [PAGE]
+set -eu
 . "$(dirname "$(readlink -f "$0")")/checking.sh"
 is_built "$program"
 page=${1:-$top/docs/CONTROL.md}

@@ -2,6 +2,7 @@
 # Compares the manual pages in crates/click_classes/src/classes with the sections of docs/ELEMENTS.md, word by word, in the order of CLASSES.
 #
 #   tools/element_pages.sh [PAGE]
+set -eu
 . "$(dirname "$(readlink -f "$0")")/checking.sh"
 page=${1:-$top/docs/ELEMENTS.md}
 classes=$top/crates/click_classes/src

@@ -5,6 +5,7 @@
 # A row is `| number name | meaning | place | example | line | what to do |`; example and line are in backquotes, where a bar is written `\|`.
 #
 #   tools/fault_examples.sh [PAGE]
+set -eu
 . "$(dirname "$(readlink -f "$0")")/checking.sh"
 is_built "$program" "$bench"
 page=${1:-$top/docs/FAULTS.md}

@@ -3,6 +3,7 @@
 # arguments, standard input and process, and gives its own output and status.
 #
 #   tools/front_door.sh [RUN_SH [BUILT_SH]]
+set -eu
 . "$(dirname "$(readlink -f "$0")")/checking.sh"
 tree=$work/tree
 mkdir -p "$tree/tools" "$work/bin" "$work/elsewhere"

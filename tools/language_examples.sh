@@ -4,6 +4,7 @@
 # block, the program has to refuse the example with it; every other example has to be served. The programs must have been built.
 #
 #   tools/language_examples.sh [READINGS PAGE..]
+set -eu
 . "$(dirname "$(readlink -f "$0")")/checking.sh"
 is_built "$program" "$bench"
 if [ $# = 0 ]; then set -- "$top/examples/readings.txt" "$top/docs/LANGUAGE.md" "$top/docs/ELEMENTS.md"; fi

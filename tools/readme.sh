@@ -3,6 +3,7 @@
 # block that README shows after the line 'which answers': without carriage returns, which a page does not show.
 #
 #   tools/readme.sh [PAGE]
+set -eu
 . "$(dirname "$(readlink -f "$0")")/checking.sh"
 page=${1:-$top/README.md}
 cd "$top"

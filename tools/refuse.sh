@@ -3,6 +3,7 @@
 # some texts, the making of some elements. The programs must have been built.
 #
 #   tools/refuse.sh [program|bench]    the runs of click_prog, or of click_bench, alone
+set -eu
 . "$(dirname "$(readlink -f "$0")")/checking.sh"
 is_built "$program" "$bench"
 if ! command -v cc > /dev/null; then fail 'there is no C compiler cc, which tools/refuse.c needs'; fi

@@ -2,6 +2,7 @@
 # Shows that the scripts of the gate can fail: each is run against programs that answer wrongly, and pages that say something wrong, and has to refuse
 # each that concerns it: with status 1, and saying why. A wrong program runs the real one and changes what comes. One that changes nothing has to pass,
 # so that it is the change that is refused. The programs must have been built.
+set -eu
 . "$(dirname "$(readlink -f "$0")")/checking.sh"
 is_built "$program" "$bench"
 cd "$top"
