@@ -1,13 +1,22 @@
 #!/usr/bin/env bash
-# The gate: every proof from nothing, the must-fail edits, the tests and the stored runs; and then, with the programs that it has built, the examples
-# and the refusals of memory.
+# The gate: every proof from nothing, the must-fail edits, the tests and the stored runs; then, with the programs that this has built, the scripts that
+# try the programs and the pages; and at last these scripts themselves, against programs that are wrong.
 set -eu
-cd "$(dirname "$0")"
+cd "$(dirname "$(readlink -f "$0")")"
+. tools/built.sh
+sources=$(sum_of_sources)
 rt ci
+if [ "$(sum_of_sources)" != "$sources" ]; then
+    echo 'test.sh: the sources changed while they were proved' >&2
+    exit 1
+fi
+write_stamp "$sources"
+tools/front_door.sh
+tools/readme.sh
+tools/control_example.sh
 examples/run.sh
 tools/language_examples.sh
+tools/fault_examples.sh
 tools/element_pages.sh
-tools/refuse_each.sh
-tools/refuse_parse.sh
-tools/refuse_make.sh
-tools/refuse_prepare.sh
+tools/refuse.sh
+tools/wrong_programs.sh

@@ -1,25 +1,69 @@
 #!/usr/bin/env bash
-# Runs each example through the program, which must have been built (`rt ci`, or `rt run click_prog`), and compares what it writes and its status.
+# Runs each example through the program, which must have been built (`rt ci`, or `rt run` in its crate's folder), and compares what it writes and its
+# status. An example is a file NAME.click, and beside it, only where there is something in them:
+#
+#   NAME.session     what it reads                NAME.status   its status, where that is not 0
+#   NAME.transcript  what it writes               NAME.fault    what it writes on standard error
 set -eu
-cd "$(dirname "$0")"
-program=../crates/click_prog/out/click_prog
-work=$(mktemp -d)
-trap 'rm -rf "$work"' EXIT
+. "$(dirname "$(readlink -f "$0")")/../tools/checking.sh"
+is_built "$program"
+cd "$top/examples"
 passed=0
-for example in */; do
-    status=0
-    "$program" -e "$(cat "$example/configuration")" < "$example/session" > "$work/out" 2> "$work/err" || status=$?
-    cmp "$work/out" "$example/transcript"
-    cmp "$work/err" "$example/fault"
-    [ "$status" = "$(cat "$example/status")" ]
+no_bytes=$work/no_bytes
+: > "$no_bytes"
+
+# present FILE: the file, or one without bytes where it is not there.
+present() { if [ -e "$1" ]; then echo "$1"; else echo "$no_bytes"; fi }
+
+for config in *.click; do
+    example=${config%.click} wanted=0
+    if [ -e "$example.status" ]; then wanted=$(cat "$example.status"); fi
+    ran "$program" -e "$(cat "$config")" < "$(present "$example.session")"
+    same_bytes "$(present "$example.transcript")" "$work/out" "example $example"
+    same_bytes "$(present "$example.fault")" "$work/err" "example $example, on standard error"
+    same_status "$wanted" "$status" "example $example"
     passed=$((passed + 1))
 done
-# A text is refused with that line, and with status 1.
+# A file that belongs to no example would be read by nothing.
+for file in *.session *.transcript *.status *.fault; do
+    if ! [ -e "${file%.*}.click" ]; then fail "$file stands beside no ${file%.*}.click"; fi
+done
+
+# Wrong arguments, help, and a word that is no text: a text on standard error alone.
+wrong_arguments() {
+    ran "$program" "$@" < /dev/null
+    is_empty "$work/out" "standard output beside the arguments '$*'"
+    is_not_empty "$work/err" "standard error at the arguments '$*'"
+    same_status 2 "$status" "the arguments '$*'"
+    passed=$((passed + 1))
+}
+wrong_arguments
+wrong_arguments -e
+wrong_arguments -x
+wrong_arguments --help
+wrong_arguments -e $'\xff'
+printf 'click_prog: an argument is not UTF-8\n' > "$work/wanted"
+same_bytes "$work/wanted" "$work/err" 'an argument that is no text'
+
+# A peer that takes nothing more is a failed write; standard input that cannot be read is a failed read, after the greeting.
+status=0
+"$program" -e '' < counter.session > /dev/full 2> "$work/err" || status=$?
+is_empty "$work/err" 'standard error at a full device'
+same_status 4 "$status" 'a full device'
+passed=$((passed + 1))
+ran "$program" -e '' <&-
+same_bytes nothing.transcript "$work/out" 'closed standard input'
+is_empty "$work/err" 'standard error at closed standard input'
+same_status 4 "$status" 'closed standard input'
+passed=$((passed + 1))
+
+# refused FAULT TEXT: the text is refused with that line alone, and with status 1.
 refused() {
-    status=0
-    "$program" -e "$2" < /dev/null > "$work/out" 2> "$work/err" || status=$?
-    printf 'click_prog: %s\n' "$1" | cmp - "$work/err"
-    [ "$status" = 1 ] && ! [ -s "$work/out" ]
+    ran "$program" -e "$2" < /dev/null
+    printf 'click_prog: %s\n' "$1" > "$work/wanted"
+    same_bytes "$work/wanted" "$work/err" "refused: $(head -c 200 <<< "$2")"
+    is_empty "$work/out" "standard output beside '$1'"
+    same_status 1 "$status" "$1"
     passed=$((passed + 1))
 }
 while IFS=$'\t' read -r fault text; do
@@ -30,7 +74,7 @@ times() { for _ in $(seq "$1"); do printf '%s' "$2"; done; }
 refused '4 Unexpected at 1:33' "$(times 32 '{')"
 refused '5 TooDeep at 1:33' "$(times 33 '{')"
 refused '16 TooMany' "$(times 4097 'Idle;')"
-# A wrong class is told before a passed limit, and that before a flat name that is taken.
+# A wrong class comes before a passed limit, and that before a flat name that is taken.
 refused '13 UnknownClass at 1:20491' "$(times 4097 'Idle;')x :: Foo;"
 refused '16 TooMany' "a :: { b :: Idle; }; a/b :: Idle; $(times 4097 'Idle;')"
 doubling='elementclass B0 { }'
@@ -38,24 +82,9 @@ for k in $(seq 15); do
     doubling+=" elementclass B$k { x, y :: B$((k - 1)); }"
 done
 refused '16 TooMany' "$doubling z :: B15;"
-"$program" -e "$(times 4096 'Idle;')" < nothing/session | cmp - nothing/transcript
+ran "$program" -e "$(times 4096 'Idle;')" < /dev/null
+same_bytes nothing.transcript "$work/out" '4096 elements'
+is_empty "$work/err" '4096 elements, on standard error'
+same_status 0 "$status" '4096 elements'
 passed=$((passed + 1))
-# Wrong arguments, and help: clap's text on standard error.
-for wrong in '' '-e' '-x' '--help'; do
-    status=0
-    "$program" $wrong < /dev/null > "$work/out" 2> "$work/err" || status=$?
-    [ "$status" = 2 ] && [ -s "$work/err" ] && ! [ -s "$work/out" ]
-    passed=$((passed + 1))
-done
-# A word that is no text.
-status=0
-"$program" -e $'\xff' < /dev/null > "$work/out" 2> "$work/err" || status=$?
-[ "$status" = 2 ] && [ -s "$work/err" ] && ! [ -s "$work/out" ]
-# A peer that takes nothing more is a failed write; standard input that cannot be read is a failed read.
-status=0
-"$program" -e '' < counter/session > /dev/full 2> "$work/err" || status=$?
-[ "$status" = 4 ]
-status=0
-"$program" -e '' <&- > "$work/out" 2> "$work/err" || status=$?
-[ "$status" = 4 ]
-echo "$((passed + 3)) examples passed"
+echo "$passed examples passed"

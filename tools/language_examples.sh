@@ -1,32 +1,58 @@
 #!/usr/bin/env bash
-# Parses each example of docs/LANGUAGE.md and docs/ELEMENTS.md and compares what is read with the line behind it; where a fault stands behind that,
-# the router has to refuse the example with that line. The programs must have been built: `rt ci`, or `rt run` of click_bench and click_prog.
+# The examples of docs/LANGUAGE.md and docs/ELEMENTS.md, the blocks that begin with ```click, in their order. What click_bench's parser reads in each is
+# compared with its line of examples/readings.txt, which has that and, after a tab, the example's first line. Where a line `Fault: ..` stands after the
+# block, the program has to refuse the example with it; every other example has to be served. The programs must have been built.
+#
+#   tools/language_examples.sh [READINGS PAGE..]
 set -eu
-cd "$(dirname "$0")/.."
-passed=0 refused=0
-text= inside=no
-while IFS= read -r line; do
-    case "$inside:$line" in
-    'no:```click') inside=yes text= ;;
-    'yes:```') inside=read ;;
-    yes:*) text+="$line"$'\n' ;;
-    'read:Reads: '*)
-        told=$(printf '%s' "$text" | crates/click_bench/out/click_bench input)
-        if [ "$told" != "${line#Reads: }" ]; then
-            printf 'expected %s, read %s in:\n%s' "${line#Reads: }" "$told" "$text"
-            exit 1
-        fi
-        passed=$((passed + 1)) inside=no ;;
-    'no:Fault: '*)
-        status=0
-        told=$(crates/click_prog/out/click_prog -e "$text" < /dev/null 2>&1 > /dev/null) || status=$?
-        if [ "$status" != 1 ] || [ "$told" != "click_prog: ${line#Fault: }" ]; then
-            printf 'expected %s, told %s in:\n%s' "${line#Fault: }" "$told" "$text"
-            exit 1
-        fi
-        refused=$((refused + 1)) ;;
-    esac
-done < <(cat docs/LANGUAGE.md docs/ELEMENTS.md)
-[ "$passed" = "$(cat docs/LANGUAGE.md docs/ELEMENTS.md | grep -c '^```click')" ]
-[ "$refused" = "$(grep -c '^Fault: ' docs/LANGUAGE.md)" ]
-echo "$passed examples of the language read, $refused refused"
+. "$(dirname "$(readlink -f "$0")")/checking.sh"
+is_built "$program" "$bench"
+if [ $# = 0 ]; then set -- "$top/examples/readings.txt" "$top/docs/LANGUAGE.md" "$top/docs/ELEMENTS.md"; fi
+readings=$1
+shift
+printf 'Click::ControlSocket/1.3\r\n' > "$work/greeting"
+
+# The examples' texts, and their lines of fault, if they have one.
+texts=() faults=() inside=no
+for page in "$@"; do
+    while IFS= read -r line; do
+        case "$inside:$line" in
+        'no:```click') inside=yes text= ;;
+        'yes:```') inside=no texts+=("$text") faults+=('') ;;
+        yes:*) text+="$line"$'\n' ;;
+        'no:Fault: '*)
+            if [ ${#texts[@]} = 0 ] || [ -n "${faults[-1]}" ]; then fail "$page: a second fault of one example, or one of none: $line"; fi
+            faults[-1]=${line#Fault: } ;;
+        esac
+    done < "$page"
+    same no "$inside" "$page: the last block is closed"
+done
+mapfile -t lines < "$readings"
+if [ ${#texts[@]} = 0 ]; then fail "no example stands in $*"; fi
+
+served=0 refused=0
+for at in "${!texts[@]}"; do
+    text=${texts[at]} fault=${faults[at]}
+    first=${text%%$'\n'*}
+    if [ "$at" -ge ${#lines[@]} ]; then fail "$readings has no line for the example that begins with: $first"; fi
+    same "${lines[at]#*$'\t'}" "$first" "line $((at + 1)) of $readings belongs to the example"
+    ran "$bench" input < <(printf '%s' "$text")
+    printf '%s\n' "${lines[at]%%$'\t'*}" > "$work/wanted"
+    same_bytes "$work/wanted" "$work/out" "what is read in the example that begins with: $first"
+    same_status 0 "$status" "reading the example that begins with: $first"
+    ran "$program" -e "$text" < /dev/null
+    if [ -n "$fault" ]; then
+        printf 'click_prog: %s\n' "$fault" > "$work/wanted"
+        same_bytes "$work/wanted" "$work/err" "the fault of the example that begins with: $first"
+        is_empty "$work/out" "standard output beside the fault of: $first"
+        same_status 1 "$status" "the example that begins with: $first"
+        refused=$((refused + 1))
+    else
+        is_empty "$work/err" "standard error at the example that begins with: $first"
+        same_bytes "$work/greeting" "$work/out" "the example that begins with: $first"
+        same_status 0 "$status" "the example that begins with: $first"
+        served=$((served + 1))
+    fi
+done
+same "${#texts[@]}" "${#lines[@]}" "the examples, and the lines of $readings"
+echo "$served examples of the pages served, $refused refused, each read as $(basename "$readings") says"

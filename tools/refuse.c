@@ -1,13 +1,17 @@
-// Refuses the Nth request for memory, where REFUSE names N. Preloaded into a program, it shows what that program answers.
+// Refuses the Nth request for memory, where REFUSE names N. Preloaded into a program, it shows what that program answers. It refuses those of
+// click_prog and click_bench alone, so that another program may stand round them.
 #define _GNU_SOURCE
 #include <dlfcn.h>
+#include <errno.h>
 #include <stdlib.h>
+#include <string.h>
 #include <unistd.h>
 
 static long left = -1;
 
 static int refused(void)
 {
+    if (strncmp(program_invocation_short_name, "click_", 6) != 0) return 0;
     if (left < 0) {
         const char *nth = getenv("REFUSE");
         left = nth ? atol(nth) : 0;

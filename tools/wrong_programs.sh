@@ -1,0 +1,198 @@
+#!/usr/bin/env bash
+# Shows that the scripts of the gate can fail: each is run against programs that answer wrongly, and pages that say something wrong, and has to refuse
+# each that concerns it: with status 1, and saying why. A wrong program runs the real one and changes what comes. One that changes nothing has to pass,
+# so that it is the change that is refused. The programs must have been built.
+set -eu
+. "$(dirname "$(readlink -f "$0")")/checking.sh"
+is_built "$program" "$bench"
+cd "$top"
+refused=0
+
+# wrapped FILE PROGRAM CHANGE: makes the wrong program. CHANGE is a piece of script over $status and the files $out and $err. Over /dev/full the real
+# program writes for itself, since a failed write is its own.
+wrapped() {
+    local answer
+    answer=$(mktemp -d "$work/answer.XXXX")
+    cat > "$1" << E
+#!/bin/sh
+out=$answer/out err=$answer/err status=0
+: > "\$out"
+if [ /dev/stdout -ef /dev/full ]; then
+    "$2" "\$@" 2> "\$err" || status=\$?
+else
+    "$2" "\$@" > "\$out" 2> "\$err" || status=\$?
+fi
+$3
+if [ -s "\$out" ]; then cat "\$out"; fi
+if [ -s "\$err" ]; then cat "\$err" >&2; fi
+exit \$status
+E
+    chmod +x "$1"
+}
+wrapped "$work/click_prog" "$program" ''
+wrapped "$work/click_bench" "$bench" ''
+
+# script_of LETTER [PROGRAM]: Examples, Readme, Control example, Language examples, fAults, reFused memory, of that program alone.
+script_of() {
+    case "$1" in
+    E) echo examples/run.sh ;;
+    R) echo tools/readme.sh ;;
+    C) echo tools/control_example.sh ;;
+    L) echo tools/language_examples.sh ;;
+    A) echo tools/fault_examples.sh ;;
+    F) echo tools/refuse.sh "${2:-}" ;;
+    esac
+}
+
+# is_refused WHAT COMMAND..: a check that fails ends with status 1 and says why; a script that breaks ends otherwise.
+is_refused() {
+    local what=$1
+    shift
+    ran "$@"
+    same_status 1 "$status" "$what, by $(basename "$1")"
+    is_not_empty "$work/err" "$what, by $(basename "$1"): why"
+    refused=$((refused + 1))
+}
+
+# wrong SCRIPTS WHAT CHANGE: each of the scripts refuses a click_prog with the change.
+wrong() {
+    local scripts=$1 at
+    wrapped "$work/wrong" "$program" "$3"
+    for ((at = 0; at < ${#scripts}; at++)); do
+        PROGRAM=$work/wrong BENCH=$bench is_refused "a program with $2" $(script_of "${scripts:at:1}" program)
+    done
+}
+
+# wrong_bench SCRIPTS WHAT CHANGE: each of the scripts refuses a click_bench with the change.
+wrong_bench() {
+    local scripts=$1 at
+    wrapped "$work/wrong_bench" "$bench" "$3"
+    for ((at = 0; at < ${#scripts}; at++)); do
+        PROGRAM=$program BENCH=$work/wrong_bench is_refused "a click_bench with $2" $(script_of "${scripts:at:1}" bench)
+    done
+}
+
+# What is right passes.
+for letter in E R C L A F; do
+    script=$(script_of $letter)
+    PROGRAM=$work/click_prog BENCH=$work/click_bench ran $script
+    same_status 0 "$status" "$script, with programs that change nothing"
+done
+
+# Each status in place of each other one.
+for from in 0 1 2 3 4; do
+    case $from in 0) scripts=ERCLF ;; 1) scripts=ELA ;; 2 | 4) scripts=E ;; 3) scripts=F ;; esac
+    for to in 0 1 2 3 4; do
+        if [ $from != $to ]; then wrong $scripts "status $to in place of $from" "if [ \$status = $from ]; then status=$to; fi"; fi
+    done
+done
+
+# What is written.
+wrong ERCLAF 'no answer' ': > "$out"; : > "$err"; status=0'
+wrong ERCLAF 'no answer, but its status' ': > "$out"; : > "$err"'
+wrong ELA 'junk on standard output beside a fault' 'if [ $status = 1 ]; then echo junk >> "$out"; fi'
+wrong ELA 'a fault on standard output' 'if [ $status = 1 ]; then mv "$err" "$out"; : > "$err"; fi'
+wrong ELA 'a fault on both' 'if [ $status = 1 ]; then cp "$err" "$out"; fi'
+wrong ELA 'a fault without its place' 'sed -i "s/ \(at\|in\) .*//" "$err"'
+wrong ELA 'a fault that is cut' 'if [ $status = 1 ]; then head -c -2 "$err" > "$out.cut"; mv "$out.cut" "$err"; fi'
+wrong ELA 'a fault of another number' 'sed -i "s/: [0-9]*/: 99/" "$err"'
+wrong ELA 'a fault that is served' 'if [ $status = 1 ]; then printf "Click::ControlSocket/1.3\r\n" > "$out"; : > "$err"; status=0; fi'
+wrong ERCLF 'one fault for all' ': > "$out"; echo "click_prog: 1 BadByte at 1:1" > "$err"; status=1'
+wrong E 'help on standard output' 'if [ $status = 2 ]; then mv "$err" "$out"; : > "$err"; fi'
+wrong E 'no help' 'if [ $status = 2 ]; then : > "$err"; fi'
+wrong ERCLF 'junk on standard error' 'if [ $status = 0 ]; then echo junk >> "$err"; fi'
+wrong ERCLF 'no greeting' 'sed -i 1d "$out"'
+wrong ERCF 'the first reply left out' 'sed -i 2d "$out"'
+wrong ERCF 'the last reply left out' 'sed -i "2,\$ { \$d }" "$out"'
+wrong ERCF 'the first reply given twice' 'sed -i 2p "$out"'
+wrong ERCF 'the last reply given twice' 'sed -i "2,\$ { \$p }" "$out"'
+wrong ERCF "another element's reply" 'sed -i "s/'"'c\\.'"'/d./; s/c\.count/d.count/" "$out"'
+wrong ERCF 'another value' 'sed -i "s/^0/7/" "$out"'
+wrong ELF 'lines that end without CR' 'sed -i "s/\r//" "$out"'
+
+# Memory.
+wrong F 'another answer where memory runs out' 'sed -i "s/^520 .*/511 No handler named '"'c.count'"'\r/" "$out"'
+wrong F 'a fault where memory runs out' 'if [ $status = 3 ]; then echo "click_prog: 16 TooMany" > "$err"; status=1; fi'
+wrong F 'a line where memory runs out' 'if [ $status = 3 ]; then echo "click_prog: 7 NoMemory" > "$err"; fi'
+wrong F 'junk where memory runs out' 'if [ $status = 3 ]; then echo junk >> "$out"; fi'
+
+# click_bench.
+wrong_bench LAF 'no answer' ': > "$out"'
+wrong_bench LAF 'another status' 'if [ $status = 0 ]; then status=1; fi'
+wrong_bench LAF 'junk' 'echo junk >> "$out"'
+wrong_bench LF 'another count' 'sed -i "s/ statements/1 statements/" "$out"'
+wrong_bench LF 'another place' 'sed -i "s/\.\./..1/" "$out"'
+wrong_bench F 'another fault where memory runs out' 'sed -i "s/NoMemory/BadNumber/" "$out"'
+wrong_bench F 'an element where memory runs out' 'sed -i "s/NoMemory/made/" "$out"'
+wrong_bench F 'a good end where memory runs out' 'status=0'
+wrong_bench A 'a limit that is greater' 'sed -i "s/TooLarge/prepared/" "$out"'
+wrong_bench A 'a limit that is less' 'sed -i "s/prepared/TooLarge/" "$out"'
+echo "$refused times a wrong program was refused"
+
+# changed FILE CHANGE: the file with the change, a script of sed that has to change something, as $work/page.
+changed() {
+    sed "$2" "$1" > "$work/page"
+    if cmp -s "$1" "$work/page"; then fail "$2 changes nothing in $1"; fi
+}
+refused=0
+# wrong_page SCRIPT FILE CHANGE..: the script refuses the file with each of the changes.
+wrong_page() {
+    local script=$1 file=$2 change
+    shift 2
+    for change in "$@"; do
+        changed "$file" "$change"
+        is_refused "$file with the change $change" "$script" "$work/page"
+    done
+}
+PROGRAM=$program wrong_page tools/readme.sh README.md '/^    \.\/run\.sh/d' 's/^    \.\/run\.sh -e/    .\/run.sh -x/' '/^which answers/d' \
+    '/^    DATA 1/d' 's/^    200 Read/    201 Read/' 's/^    0200/    200/'
+wrong_page tools/control_example.sh docs/CONTROL.md '/^An example, with/d' 's/^    > QUIT/    > STOP/' 's/^    510/    511/' '/^    DATA 1/d'
+wrong_page tools/element_pages.sh docs/ELEMENTS.md 's/^## Tee$/## Tea/' '/^## Tee$/,/^## PullTee$/d' 's/Tee(2)/Tee(3)/' 's/Packets pass\./Packets pass on./'
+wrong_page tools/fault_examples.sh docs/FAULTS.md '/^| 23 /d' 's/^| 23 BadText/| 23 BadWord/' 's/^| 23 /| 27 /' '/^| 23 /p' 's/at 1:48/at 1:49/' \
+    's/17 BrokenText in P@2/17 BrokenText in P@3/' 's/Idle => Discard/Idle -> Discard/' 's/^| /- /'
+
+# The examples of the language: a page and the list of what is read have to agree.
+wrong_language() {
+    changed docs/LANGUAGE.md "$1"
+    is_refused "docs/LANGUAGE.md with the change $1" tools/language_examples.sh examples/readings.txt "$work/page" docs/ELEMENTS.md
+}
+wrong_readings() {
+    changed examples/readings.txt "$1"
+    is_refused "examples/readings.txt with the change $1" tools/language_examples.sh "$work/page" docs/LANGUAGE.md docs/ELEMENTS.md
+}
+for change in '0,/^```click$/s//```/' '/^Fault: 11 /d' 's/^Fault: 13 UnknownClass at 1:6/Fault: 13 UnknownClass at 1:7/' '/^Fault: 12 /p' \
+    's/^x :: { y :: Idle };/x :: { z :: Idle };/' '$a ```click\nIdle;\n```' '$a ```click\nIdle;' '$a Fault: 1 BadByte at 1:1' 's/```click/```/'; do
+    wrong_language "$change"
+done
+for change in 1d '$d' '$p' 's/^3 statements/2 statements/' 's/BadByte 5\.\.6/BadByte 5..7/' 's/\tx\/y/\tx/' d; do
+    wrong_readings "$change"
+done
+echo "$refused times a wrong page was refused"
+
+# run.sh, and what it takes from tools/built.sh.
+refused=0
+wrong_front() {
+    changed run.sh "$1"
+    is_refused "run.sh with the change $1" tools/front_door.sh "$work/page"
+}
+wrong_built() {
+    changed tools/built.sh "$1"
+    is_refused "tools/built.sh with the change $1" tools/front_door.sh run.sh "$work/page"
+}
+for change in 's/ < \/dev\/null > "\$log"/ > "$log"/' 's/> "\$log" 2>&1/2>\&1/' 's/> "\$log" 2>&1/> "$log"/' 's/^exec //' 's/^exec \(.*\)"\$@"/exec \1$@/' \
+    's/^exec \(.*\) "\$@"/exec \1/' 's/^exec /cd "$top"; exec /' 's/exit 5/exit 1/' '/write_stamp/d' '/changed while/d' '/command -v rt/d' 's/^if ! is_built_from.*/if true; then/' \
+    's/^if ! is_built_from.*/if ! [ -x "$built" ]; then/'; do
+    wrong_front "$change"
+done
+for change in 's/in src specs proofs/in src proofs/' 's/"\$version" //' 's/find crates.txt HANDLES/find HANDLES/' 's/find crates.txt HANDLES/find crates.txt/' \
+    's/"crates\/\$crate\/\$part")/"crates\/$crate")/' 's/crates=\$(crates_below click_prog)/crates=$(ls crates)/' 's/crates=\$(crates_below click_prog)/crates=click_prog/' \
+    's/ \$(sum_of_program)" \]/ $(cut -d " " -f 2 "$stamp")" ]/'; do
+    wrong_built "$change"
+done
+echo "$refused times a wrong run.sh was refused"
+
+# Without a C compiler nothing can be refused, and that is a failure.
+mkdir "$work/without"
+for word in bash dirname readlink mktemp rm; do ln -s "$(command -v $word)" "$work/without/$word"; done
+is_refused 'no C compiler' env PATH="$work/without" "$work/without/bash" tools/refuse.sh
+echo 'no C compiler is a failure'
