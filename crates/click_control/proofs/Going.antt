@@ -1,7 +1,7 @@
 -- Lemmas on a session that goes on.
-use Rattle.std.proofs.Common.{◌≡◌, ℕ, ◌+◌, ◌≤◌, ◌<◌, List, [], ◌∷◌, ◌++◌, length, Bool, true, false, ◌||◌, Option, Result, Ok, Err, refl, sym, ap, ◌∙◌, inl, inr, le_trans, append_assoc, append-nil, add-zero, length-append, arith}
-use Rattle.std.specs.Io.KnownBytes.{Appends}
-use Rattle.std.proofs.KnownBytes.{Consumes-nil, Consumes-trans, Consumes-kept, Appends-trans}
+use Rattle.std.proofs.Common.{◌≡◌, ℕ, ◌+◌, ◌≤◌, ◌<◌, List, [], ◌∷◌, ◌++◌, length, Bool, true, false, ◌||◌, Option, None, Some, Result, Ok, Err, refl, sym, ap, ◌∙◌, inl, inr, le_trans, append_assoc, append-nil, add-zero, add_assoc, length-append, arith}
+use Rattle.std.specs.Io.KnownBytes.{Keeps, Consumes}
+use Rattle.std.proofs.KnownBytes.{Consumes-nil, Consumes-trans, Appends-trans}
 use Rattle.std.proofs.lemmas.List.Elements.{All-nil, All-push}
 use Rattle.click_router.specs.declared.call.Call.{Call}
 use Rattle.click_router.specs.declared.call.Reply.{Reply}
@@ -14,11 +14,12 @@ use Rattle.click_control.specs.declared.serving.Ended.TheVariants as ended
 use Rattle.click_control.specs.declared.serving.ServeFault.{ServeFault}
 use Rattle.click_control.specs.declared.serving.ServeFault.TheVariants as fault
 use Rattle.click_control.specs.Commands.{commands, commands_from, in_line, fresh, Pending, to_come}
-use Rattle.click_control.proofs.Streams.{commands_from-nil}
+use Rattle.click_control.specs.Peers.{Input, Output, HasRead, HasWritten}
 use Rattle.click_control.specs.ReplyText.{greeting, text_of}
-use Rattle.click_control.specs.Lines.{Tells, TellsOne}
-use Rattle.click_control.specs.Serving.{Answered, Asked, nothing, then_one, call_of, replies, is_last, most_reads, IsWhole, EndsWith, Ends, Serves}
-use Rattle.click_control.specs.Going.{Written, TakesIn, ending_of, SoFar, Goes}
+use Rattle.click_control.specs.Serving.{Answered, Asked, nothing, then_one, call_of, replies, is_last, most_reads, Course, IsWhole, IsFront, EndsWith, Ends, Serves}
+use Rattle.click_control.specs.kept.Lines.{Yields, YieldsOne}
+use Rattle.click_control.specs.kept.Going.{Written, TakesIn, ending_of, SoFar, Goes}
+use Rattle.click_control.proofs.Streams.{commands_from-nil}
 
 pub or-false : (b : Bool) → (b || false) ≡ b
 or-false true = refl
@@ -26,6 +27,43 @@ or-false false = refl
 
 pub commands-nil : commands [] ≡ []
 commands-nil = commands_from-nil (in_line [])
+
+-- ---- what was read and written between moments
+
+Consumes-none : (a b : Option (List ℕ)) → Keeps a b → Consumes a b []
+Consumes-none None b h = tt
+Consumes-none (Some x) None h = absurd h
+Consumes-none (Some x) (Some y) h = sym h
+
+-- a read that failed
+pub HasRead-failed : (a b : Input) → Keeps a.remaining b.remaining → b.reads ≡ a.reads → b.failed ≡ (a.failed || true) → HasRead a b [] 0 true
+HasRead-failed a b kept same failed = record {
+  consumed = Consumes-none a.remaining b.remaining kept;
+  counted = same ∙ sym (add-zero a.reads);
+  failed = failed;
+}
+
+pub HasRead-none : (a : Input) → HasRead a a [] 0 false
+HasRead-none a = record {
+  consumed = Consumes-nil a.remaining;
+  counted = sym (add-zero a.reads);
+  failed = sym (or-false a.failed);
+}
+
+pub HasRead-trans : (a b c : Input) (xs ys : List ℕ) (m n : ℕ) (failed : Bool) → HasRead a b xs m false → HasRead b c ys n failed
+    → HasRead a c (xs ++ ys) (m + n) failed
+HasRead-trans a b c xs ys m n failed p q = record {
+  consumed = Consumes-trans a.remaining b.remaining c.remaining xs ys p.consumed q.consumed;
+  counted = q.counted ∙ ap (λ k. k + n) p.counted ∙ add_assoc a.reads m n;
+  failed = q.failed ∙ ap (λ k. k || failed) (p.failed ∙ or-false a.failed);
+}
+
+pub HasWritten-trans : (a b c : Output) (xs ys : List ℕ) (failed : Bool) → HasWritten a b xs false → HasWritten b c ys failed
+    → HasWritten a c (xs ++ ys) failed
+HasWritten-trans a b c xs ys failed p q = record {
+  appended = Appends-trans a.contents b.contents c.contents xs ys p.appended q.appended;
+  failed = q.failed ∙ ap (λ k. k || failed) (p.failed ∙ or-false a.failed);
+}
 
 -- ---- one more command and its answer
 
@@ -37,8 +75,50 @@ replies-push (d ∷ cs) [] c a e = absurd (omega arith)
 replies-push (d ∷ cs) (b ∷ answers) c a e =
     ap (λ t. text_of d b ++ t) (replies-push cs answers c a (omega arith)) ∙ sym (append_assoc (text_of d b) (replies cs answers) (text_of c a))
 
+-- the replies to the first commands are a front of the replies to all
+replies-front : (cs ds : List Command) (answers : List Answer) → (rest : List ℕ) × (replies (cs ++ ds) answers ≡ replies cs answers ++ rest)
+replies-front [] ds answers = (replies ds answers, refl)
+replies-front (c ∷ cs) ds [] = ([], refl)
+replies-front (c ∷ cs) ds (a ∷ answers) =
+    let more = replies-front cs ds answers in
+    (more.0, ap (λ t. text_of c a ++ t) more.1 ∙ sym (append_assoc (text_of c a) (replies cs answers) more.0))
+
+-- one answer more changes nothing of the replies to commands that have theirs
+replies-more : (cs : List Command) (answers more : List Answer) → length cs ≤ length answers → replies cs (answers ++ more) ≡ replies cs answers
+replies-more [] answers more h = refl
+replies-more (c ∷ cs) [] more h = absurd (omega arith)
+replies-more (c ∷ cs) (a ∷ answers) more h = ap (λ t. text_of c a ++ t) (replies-more cs answers more (omega arith))
+
 read-push : (taken : List Command) (c : Command) (all rest more : List Command) → all ≡ taken ++ rest → rest ≡ c ∷ more → all ≡ (taken ++ c ∷ []) ++ more
 read-push taken c all rest more e f = e ∙ ap (λ l. taken ++ l) f ∙ sym (append_assoc taken (c ∷ []) more)
+
+-- two lists with a last element each are equal only where the rest is
+same_front : (xs ys : List Command) (x y : Command) → xs ++ x ∷ [] ≡ ys ++ y ∷ [] → xs ≡ ys
+same_front [] [] x y e = refl
+same_front [] (z ∷ ys) x y e = absurd (omega (arith, ap length e, length-append ys (y ∷ [])))
+same_front (z ∷ xs) [] x y e = absurd (omega (arith, ap length e, length-append xs (x ∷ [])))
+same_front (z ∷ xs) (w ∷ ys) x y e =
+    let head : z ≡ w = cc in
+    let tail : xs ++ x ∷ [] ≡ ys ++ y ∷ [] = cc in
+    ap (λ k. k ∷ xs) head ∙ ap (λ l. w ∷ l) (same_front xs ys x y tail)
+
+-- where all replies were written, those to all commands but the last were
+written-whole : (taken : List Command) (answers : List Answer) (output : List ℕ) → output ≡ greeting ++ replies taken answers
+    → (earlier : List Command) (last : Command) → taken ≡ earlier ++ last ∷ [] → (rest : List ℕ) × (output ≡ greeting ++ replies earlier answers ++ rest)
+written-whole taken answers output e earlier last is =
+    let more = replies-front earlier (last ∷ []) answers in
+    (more.0, e ∙ ap (λ l. greeting ++ replies l answers) is ∙ ap (λ l. greeting ++ l) more.1 ∙ sym (append_assoc greeting (replies earlier answers) more.0))
+
+-- where all replies were written but part of the last, too
+written-part : (taken : List Command) (c : Command) (answers : List Answer) (a : Answer) (output front : List ℕ) → length taken ≡ length answers
+    → output ≡ greeting ++ replies taken answers
+    → (earlier : List Command) (last : Command) → taken ++ c ∷ [] ≡ earlier ++ last ∷ []
+    → (rest : List ℕ) × (output ++ front ≡ greeting ++ replies earlier (answers ++ a ∷ []) ++ rest)
+written-part taken c answers a output front len e earlier last is = (
+  front,
+  ap (λ l. l ++ front) (e ∙ ap (λ l. greeting ++ l)
+      (sym (replies-more taken answers (a ∷ []) (omega arith)) ∙ ap (λ l. replies l (answers ++ a ∷ [])) (same_front taken earlier c last is))),
+)
 
 module _ {P : Type 0} (asks : P → Call → Result Reply AskFault → P → Type 0) where
   Asked-length : (p : P) (cs : List Command) (answers : List Answer) (q : P) → Asked asks p cs answers q → length cs ≡ length answers
@@ -52,366 +132,377 @@ module _ {P : Type 0} (asks : P → Call → Result Reply AskFault → P → Typ
       ap (λ l. l ++ text_of c a) e ∙ append_assoc greeting (replies taken answers) (text_of c a)
       ∙ ap (λ l. greeting ++ l) (sym (replies-push taken answers c a (Asked-length p taken answers q h)))
 
-  -- the commands that come behind a line
-  pub SoFar-line : (old now : P) (had left : Option (List ℕ)) (rb rn : Bool) (cb cn : ℕ) (held holds : Option (List ℕ)) (wb wn : Bool) (s t : Pending) (reads : ℕ)
-      → SoFar asks old now had left rb rn cb cn held holds wb wn s reads → Tells s t [] → SoFar asks old now had left rb rn cb cn held holds wb wn t reads
-  SoFar-line old now had left rb rn cb cn held holds wb wn s t reads h tells = record {
+  -- the commands that come after a line
+  pub SoFar-line : (old now : P) (had left : Input) (held holds : Output) (s t : Pending) (reads : ℕ)
+      → SoFar asks old now had left held holds s reads → Yields s t [] → SoFar asks old now had left held holds t reads
+  SoFar-line old now had left held holds s t reads h yields = record {
     input = h.input;
-    consumed = h.consumed;
+    read = h.read;
     many = h.many;
-    counted = h.counted;
     within = h.within;
     taken = h.taken;
     goes_on = h.goes_on;
-    read = λ more. h.read more ∙ ap (λ l. h.taken ++ l) (tells more);
+    spelled = λ more. h.spelled more ∙ ap (λ l. h.taken ++ l) (yields more);
     answers = h.answers;
     asked = h.asked;
     output = h.output;
     written = h.written;
     whole = h.whole;
-    reading = h.reading;
-    writing = h.writing;
   }
 
-  -- nothing was done, and no memory was left
-  pub Serves-no_memory : (old now : P) (had left : Option (List ℕ)) (rb rn : Bool) (cb cn : ℕ) (held holds : Option (List ℕ)) (wb wn : Bool) (s : Pending) (reads : ℕ)
-      → SoFar asks old now had left rb rn cb cn held holds wb wn s reads → Serves asks old now had left rb rn cb cn held holds wb wn (Err fault.NoMemory)
-  Serves-no_memory old now had left rb rn cb cn held holds wb wn s reads h = record {
-    input = h.input;
-    consumed = h.consumed;
-    reads = reads;
-    counted = h.counted;
+  -- what was read is the commands taken up and those still to come
+  all-read : (old now : P) (had left : Input) (held holds : Output) (s : Pending) (reads : ℕ)
+      → (h : SoFar asks old now had left held holds s reads) → commands h.input ≡ h.taken ++ to_come s []
+  all-read old now had left held holds s reads h = ap commands (sym (append-nil h.input)) ∙ h.spelled []
+
+  all-taken : (old now : P) (had left : Input) (held holds : Output) (s : Pending) (reads : ℕ)
+      → (h : SoFar asks old now had left held holds s reads) → to_come s [] ≡ [] → commands h.input ≡ h.taken ++ []
+  all-taken old now had left held holds s reads h none = all-read old now had left held holds s reads h ∙ ap (λ l. h.taken ++ l) none
+
+  -- nothing was done, and memory ran out
+  pub Serves-no_memory : (old now : P) (had left : Input) (held holds : Output) (s : Pending) (reads : ℕ)
+      → SoFar asks old now had left held holds s reads → Serves asks old now had left held holds (Err fault.NoMemory)
+  Serves-no_memory old now had left held holds s reads h = record {
+    course = record {
+      input = h.input;
+      reads = reads;
+      read_failed = false;
+      taken = h.taken;
+      more = to_come s [];
+      answers = h.answers;
+      output = h.output;
+      write_failed = false;
+    };
+    read = h.read;
     within = h.within;
-    taken = h.taken;
-    more = to_come s [];
-    read = ap commands (sym (append-nil h.input)) ∙ h.read [];
-    answers = h.answers;
+    spelled = all-read old now had left held holds s reads h;
     asked = h.asked;
-    output = h.output;
     written = h.written;
-    read_failed = false;
-    reading = h.reading ∙ sym (or-false rb);
-    write_failed = false;
-    writing = h.writing ∙ sym (or-false wb);
-    ends = (([], sym h.whole ∙ sym (append-nil h.output)), refl, refl);
+    ends = (
+      record {
+        front = ([], sym h.whole ∙ sym (append-nil h.output));
+        all_but_last = written-whole h.taken h.answers h.output h.whole;
+      },
+      refl,
+      refl,
+    );
+  }
+
+  -- a front of a reply was written after all earlier replies
+  part-front : (old now : P) (had left : Input) (held holds : Output) (s : Pending) (reads : ℕ) (c : Command) (a : Answer) (more : List Command) (failed : Bool)
+      (front rest : List ℕ) → (h : SoFar asks old now had left held holds s reads) → text_of c a ≡ front ++ rest
+      → IsFront (record {
+        input = h.input;
+        reads = reads;
+        read_failed = false;
+        taken = h.taken ++ c ∷ [];
+        more = more;
+        answers = h.answers ++ a ∷ [];
+        output = h.output ++ front;
+        write_failed = failed;
+      })
+  part-front old now had left held holds s reads c a more failed front rest h is = record {
+    front = (
+      rest,
+      sym (whole-push old now h.taken h.answers c a h.output h.asked h.whole) ∙ ap (λ l. h.output ++ l) is ∙ sym (append_assoc h.output front rest),
+    );
+    all_but_last = written-part h.taken c h.answers a h.output front (Asked-length old h.taken h.answers now h.asked) h.whole;
   }
 
   -- a reply that was not written in full
-  pub Serves-reply : (f : ServeFault) (old now next : P) (had left : Option (List ℕ)) (rb rn : Bool) (cb cn : ℕ) (held holds then : Option (List ℕ)) (wb wn wt : Bool) (s t : Pending) (reads : ℕ) (c : Command) (a : Answer)
-      → SoFar asks old now had left rb rn cb cn held holds wb wn s reads → TellsOne s t c → Answered asks now (call_of c) a next
-      → Written {T = Unit {0}} (Err f) holds then wn wt (text_of c a)
-      → Serves asks old next had left rb rn cb cn held then wb wt (Err f)
-  Serves-reply fault.ReadFailed old now next had left rb rn cb cn held holds then wb wn wt s t reads c a h tells answered w = absurd w
-  Serves-reply fault.WriteFailed old now next had left rb rn cb cn held holds then wb wn wt s t reads c a h tells answered w =
-      let front = w.0.0 in
-      let rest = w.0.1 in
-      record {
-        input = h.input;
-        consumed = h.consumed;
-        reads = reads;
-        counted = h.counted;
-        within = h.within;
-        taken = h.taken ++ c ∷ [];
-        more = to_come t [];
-        read = read-push h.taken c (commands h.input) (to_come s []) (to_come t []) (ap commands (sym (append-nil h.input)) ∙ h.read []) (tells.tells []);
-        answers = h.answers ++ a ∷ [];
-        asked = then_one old now next h.taken h.answers c a h.asked answered;
-        output = h.output ++ front;
-        written = Appends-trans held holds then h.output front h.written w.0.3;
-        read_failed = false;
-        reading = h.reading ∙ sym (or-false rb);
-        write_failed = true;
-        writing = w.1 ∙ ap (λ b. b || true) h.writing;
-        ends = (
-          (
-            rest,
-            sym (whole-push old now h.taken h.answers c a h.output h.asked h.whole) ∙ ap (λ l. h.output ++ l) w.0.2 ∙ sym (append_assoc h.output front rest),
-          ),
-          refl,
-          refl,
-        );
-      }
-  Serves-reply fault.NoMemory old now next had left rb rn cb cn held holds then wb wn wt s t reads c a h tells answered w =
-      let front = w.0.0 in
-      let rest = w.0.1 in
-      record {
-        input = h.input;
-        consumed = h.consumed;
-        reads = reads;
-        counted = h.counted;
-        within = h.within;
-        taken = h.taken ++ c ∷ [];
-        more = to_come t [];
-        read = read-push h.taken c (commands h.input) (to_come s []) (to_come t []) (ap commands (sym (append-nil h.input)) ∙ h.read []) (tells.tells []);
-        answers = h.answers ++ a ∷ [];
-        asked = then_one old now next h.taken h.answers c a h.asked answered;
-        output = h.output ++ front;
-        written = Appends-trans held holds then h.output front h.written w.0.3;
-        read_failed = false;
-        reading = h.reading ∙ sym (or-false rb);
-        write_failed = false;
-        writing = w.1 ∙ h.writing ∙ sym (or-false wb);
-        ends = (
-          (
-            rest,
-            sym (whole-push old now h.taken h.answers c a h.output h.asked h.whole) ∙ ap (λ l. h.output ++ l) w.0.2 ∙ sym (append_assoc h.output front rest),
-          ),
-          refl,
-          refl,
-        );
-      }
+  pub Serves-reply : (f : ServeFault) (old now next : P) (had left : Input) (held holds then : Output) (s t : Pending) (reads : ℕ) (c : Command) (a : Answer)
+      → SoFar asks old now had left held holds s reads → YieldsOne s t c → Answered asks now (call_of c) a next
+      → Written {T = Unit {0}} (Err f) holds then (text_of c a)
+      → Serves asks old next had left held then (Err f)
+  Serves-reply fault.ReadFailed old now next had left held holds then s t reads c a h one answered w = absurd w
+  Serves-reply fault.WriteFailed old now next had left held holds then s t reads c a h one answered w = record {
+    course = record {
+      input = h.input;
+      reads = reads;
+      read_failed = false;
+      taken = h.taken ++ c ∷ [];
+      more = to_come t [];
+      answers = h.answers ++ a ∷ [];
+      output = h.output ++ w.0;
+      write_failed = true;
+    };
+    read = h.read;
+    within = h.within;
+    spelled = read-push h.taken c (commands h.input) (to_come s []) (to_come t []) (all-read old now had left held holds s reads h) (one.yields []);
+    asked = then_one old now next h.taken h.answers c a h.asked answered;
+    written = HasWritten-trans held holds then h.output w.0 true h.written w.3;
+    ends = (part-front old now had left held holds s reads c a (to_come t []) true w.0 w.1 h w.2, refl, refl);
+  }
+  Serves-reply fault.NoMemory old now next had left held holds then s t reads c a h one answered w = record {
+    course = record {
+      input = h.input;
+      reads = reads;
+      read_failed = false;
+      taken = h.taken ++ c ∷ [];
+      more = to_come t [];
+      answers = h.answers ++ a ∷ [];
+      output = h.output ++ w.0;
+      write_failed = false;
+    };
+    read = h.read;
+    within = h.within;
+    spelled = read-push h.taken c (commands h.input) (to_come s []) (to_come t []) (all-read old now had left held holds s reads h) (one.yields []);
+    asked = then_one old now next h.taken h.answers c a h.asked answered;
+    written = HasWritten-trans held holds then h.output w.0 false h.written w.3;
+    ends = (part-front old now had left held holds s reads c a (to_come t []) false w.0 w.1 h w.2, refl, refl);
+  }
 
   -- a command that does not end the session, answered in full
-  SoFar-replied : (old now next : P) (had left : Option (List ℕ)) (rb rn : Bool) (cb cn : ℕ) (held holds then : Option (List ℕ)) (wb wn wt : Bool) (s t : Pending) (reads : ℕ) (c : Command) (a : Answer)
-      → SoFar asks old now had left rb rn cb cn held holds wb wn s reads → TellsOne s t c → Answered asks now (call_of c) a next
-      → Appends holds then (text_of c a) → wt ≡ wn → is_last c ≡ false
-      → SoFar asks old next had left rb rn cb cn held then wb wt t reads
-  SoFar-replied old now next had left rb rn cb cn held holds then wb wn wt s t reads c a h tells answered text same on = record {
+  SoFar-replied : (old now next : P) (had left : Input) (held holds then : Output) (s t : Pending) (reads : ℕ) (c : Command) (a : Answer)
+      → SoFar asks old now had left held holds s reads → YieldsOne s t c → Answered asks now (call_of c) a next
+      → HasWritten holds then (text_of c a) false → is_last c ≡ false
+      → SoFar asks old next had left held then t reads
+  SoFar-replied old now next had left held holds then s t reads c a h one answered text on = record {
     input = h.input;
-    consumed = h.consumed;
+    read = h.read;
     many = h.many;
-    counted = h.counted;
     within = h.within;
     taken = h.taken ++ c ∷ [];
     goes_on = All-push (λ d. is_last d ≡ false) h.taken c h.goes_on on;
-    read = λ more. read-push h.taken c (commands (h.input ++ more)) (to_come s more) (to_come t more) (h.read more) (tells.tells more);
+    spelled = λ more. read-push h.taken c (commands (h.input ++ more)) (to_come s more) (to_come t more) (h.spelled more) (one.yields more);
     answers = h.answers ++ a ∷ [];
     asked = then_one old now next h.taken h.answers c a h.asked answered;
     output = h.output ++ text_of c a;
-    written = Appends-trans held holds then h.output (text_of c a) h.written text;
+    written = HasWritten-trans held holds then h.output (text_of c a) false h.written text;
     whole = whole-push old now h.taken h.answers c a h.output h.asked h.whole;
-    reading = h.reading;
-    writing = same ∙ h.writing;
   }
 
   -- a command that ends the session, answered in full
-  Serves-last : (e : Ended) (old now next : P) (had left : Option (List ℕ)) (rb rn : Bool) (cb cn : ℕ) (held holds then : Option (List ℕ)) (wb wn wt : Bool) (s t : Pending) (reads : ℕ) (c : Command) (a : Answer)
-      → (h : SoFar asks old now had left rb rn cb cn held holds wb wn s reads) → TellsOne s t c → Answered asks now (call_of c) a next
-      → Appends holds then (text_of c a) → wt ≡ wn → is_last c ≡ true
-      → ((taken : List Command) (answers : List Answer) (output : List ℕ) → IsWhole taken [] answers output → EndsWith taken c
-      → Ends (Ok e) h.input left taken [] answers output reads false false)
-      → Serves asks old next had left rb rn cb cn held then wb wt (Ok e)
-  Serves-last e old now next had left rb rn cb cn held holds then wb wn wt s t reads c a h tells answered text same last ends = record {
-    input = h.input;
-    consumed = h.consumed;
-    reads = reads;
-    counted = h.counted;
+  Serves-last : (e : Ended) (old now next : P) (had left : Input) (held holds then : Output) (s t : Pending) (reads : ℕ) (c : Command) (a : Answer)
+      → SoFar asks old now had left held holds s reads → YieldsOne s t c → Answered asks now (call_of c) a next
+      → HasWritten holds then (text_of c a) false → is_last c ≡ true
+      → ((course : Course) → IsWhole course → EndsWith course.taken c → course.read_failed ≡ false → course.write_failed ≡ false → Ends (Ok e) course left)
+      → Serves asks old next had left held then (Ok e)
+  Serves-last e old now next had left held holds then s t reads c a h one answered text last ends = record {
+    course = record {
+      input = h.input;
+      reads = reads;
+      read_failed = false;
+      taken = h.taken ++ c ∷ [];
+      more = [];
+      answers = h.answers ++ a ∷ [];
+      output = h.output ++ text_of c a;
+      write_failed = false;
+    };
+    read = h.read;
     within = h.within;
-    taken = h.taken ++ c ∷ [];
-    more = [];
-    read = read-push h.taken c (commands h.input) (to_come s []) [] (ap commands (sym (append-nil h.input)) ∙ h.read []) (tells.tells [] ∙ ap (λ l. c ∷ l) (tells.last last []));
-    answers = h.answers ++ a ∷ [];
+    spelled = read-push h.taken c (commands h.input) (to_come s []) [] (all-read old now had left held holds s reads h) (one.yields [] ∙ ap (λ l. c ∷ l) (one.last last []));
     asked = then_one old now next h.taken h.answers c a h.asked answered;
-    output = h.output ++ text_of c a;
-    written = Appends-trans held holds then h.output (text_of c a) h.written text;
-    read_failed = false;
-    reading = h.reading ∙ sym (or-false rb);
-    write_failed = false;
-    writing = same ∙ h.writing ∙ sym (or-false wb);
-    ends = ends (h.taken ++ c ∷ []) (h.answers ++ a ∷ []) (h.output ++ text_of c a)
-        (refl, whole-push old now h.taken h.answers c a h.output h.asked h.whole) (h.taken, refl);
+    written = HasWritten-trans held holds then h.output (text_of c a) false h.written text;
+    ends = ends _ (refl, whole-push old now h.taken h.answers c a h.output h.asked h.whole) (h.taken, refl) refl refl;
   }
 
   -- a command whose reply was written in full
-  pub Goes-replied : (c : Command) (old now next : P) (had left : Option (List ℕ)) (rb rn : Bool) (cb cn : ℕ) (held holds then : Option (List ℕ)) (wb wn wt : Bool) (s t : Pending) (reads : ℕ) (a : Answer)
-      → SoFar asks old now had left rb rn cb cn held holds wb wn s reads → TellsOne s t c → Answered asks now (call_of c) a next
-      → Appends holds then (text_of c a) → wt ≡ wn
-      → Goes asks old next had left rb rn cb cn held then wb wt t reads (Ok (ending_of c))
-  Goes-replied (command.Read name text) old now next had left rb rn cb cn held holds then wb wn wt s t reads a h tells answered w same =
-      SoFar-replied old now next had left rb rn cb cn held holds then wb wn wt s t reads (command.Read name text) a h tells answered w same refl
-  Goes-replied command.Quit old now next had left rb rn cb cn held holds then wb wn wt s t reads a h tells answered w same =
-      Serves-last ended.Quit old now next had left rb rn cb cn held holds then wb wn wt s t reads command.Quit a h tells answered w same refl
-      (λ taken answers output whole last. (whole, last, refl, refl))
-  Goes-replied command.Syntax old now next had left rb rn cb cn held holds then wb wn wt s t reads a h tells answered w same =
-      SoFar-replied old now next had left rb rn cb cn held holds then wb wn wt s t reads command.Syntax a h tells answered w same refl
-  Goes-replied command.LineTooLong old now next had left rb rn cb cn held holds then wb wn wt s t reads a h tells answered w same =
-      Serves-last ended.TooLong old now next had left rb rn cb cn held holds then wb wn wt s t reads command.LineTooLong a h tells answered w same refl
-      (λ taken answers output whole last. (whole, last, refl, refl))
-  Goes-replied (command.Unknown word) old now next had left rb rn cb cn held holds then wb wn wt s t reads a h tells answered w same =
-      SoFar-replied old now next had left rb rn cb cn held holds then wb wn wt s t reads (command.Unknown word) a h tells answered w same refl
+  pub Goes-replied : (c : Command) (old now next : P) (had left : Input) (held holds then : Output) (s t : Pending) (reads : ℕ) (a : Answer)
+      → SoFar asks old now had left held holds s reads → YieldsOne s t c → Answered asks now (call_of c) a next
+      → HasWritten holds then (text_of c a) false
+      → Goes asks old next had left held then t reads (Ok (ending_of c))
+  Goes-replied (command.Read name text) old now next had left held holds then s t reads a h one answered w =
+      SoFar-replied old now next had left held holds then s t reads (command.Read name text) a h one answered w refl
+  Goes-replied command.Quit old now next had left held holds then s t reads a h one answered w =
+      Serves-last ended.Quit old now next had left held holds then s t reads command.Quit a h one answered w refl
+      (λ course whole last read write. (whole, last, read, write))
+  Goes-replied command.Syntax old now next had left held holds then s t reads a h one answered w =
+      SoFar-replied old now next had left held holds then s t reads command.Syntax a h one answered w refl
+  Goes-replied command.LineTooLong old now next had left held holds then s t reads a h one answered w =
+      Serves-last ended.TooLong old now next had left held holds then s t reads command.LineTooLong a h one answered w refl
+      (λ course whole last read write. (whole, last, read, write))
+  Goes-replied (command.Unknown word) old now next had left held holds then s t reads a h one answered w =
+      SoFar-replied old now next had left held holds then s t reads (command.Unknown word) a h one answered w refl
 
   -- ---- the greeting
 
-  pub SoFar-greeted : (p : P) (had : Option (List ℕ)) (rb : Bool) (cb : ℕ) (held holds : Option (List ℕ)) (wb wn : Bool)
-      → Appends held holds greeting → wn ≡ wb → SoFar asks p p had had rb rb cb cb held holds wb wn fresh 0
-  SoFar-greeted p had rb cb held holds wb wn text same = record {
+  pub SoFar-greeted : (p : P) (had : Input) (held holds : Output) → HasWritten held holds greeting false → SoFar asks p p had had held holds fresh 0
+  SoFar-greeted p had held holds text = record {
     input = [];
-    consumed = Consumes-nil had;
+    read = HasRead-none had;
     many = omega arith;
-    counted = sym (add-zero cb);
     within = omega arith;
     taken = [];
     goes_on = All-nil (λ c. is_last c ≡ false);
-    read = λ more. refl;
+    spelled = λ more. refl;
     answers = [];
     asked = nothing p;
     output = greeting;
     written = text;
     whole = sym (append-nil greeting);
-    reading = refl;
-    writing = same;
   }
 
-  pub Serves-greeting : (f : ServeFault) (p : P) (had : Option (List ℕ)) (rb : Bool) (cb : ℕ) (held holds : Option (List ℕ)) (wb wn : Bool)
-      → Written {T = Unit {0}} (Err f) held holds wb wn greeting → Serves asks p p had had rb rb cb cb held holds wb wn (Err f)
-  Serves-greeting fault.ReadFailed p had rb cb held holds wb wn w = absurd w
-  Serves-greeting fault.WriteFailed p had rb cb held holds wb wn w = record {
-    input = [];
-    consumed = Consumes-nil had;
-    reads = 0;
-    counted = sym (add-zero cb);
+  none-taken : (output : List ℕ) (earlier : List Command) (last : Command) → [] ≡ earlier ++ last ∷ []
+      → (rest : List ℕ) × (output ≡ greeting ++ replies earlier [] ++ rest)
+  none-taken output earlier last e = absurd (omega (arith, ap length e, length-append earlier (last ∷ [])))
+
+  pub Serves-greeting : (f : ServeFault) (p : P) (had : Input) (held holds : Output) → Written {T = Unit {0}} (Err f) held holds greeting
+      → Serves asks p p had had held holds (Err f)
+  Serves-greeting fault.ReadFailed p had held holds w = absurd w
+  Serves-greeting fault.WriteFailed p had held holds w = record {
+    course = record {
+      input = [];
+      reads = 0;
+      read_failed = false;
+      taken = [];
+      more = [];
+      answers = [];
+      output = w.0;
+      write_failed = true;
+    };
+    read = HasRead-none had;
     within = omega arith;
-    taken = [];
-    more = [];
-    read = commands-nil;
-    answers = [];
+    spelled = commands-nil;
     asked = nothing p;
-    output = w.0.0;
-    written = w.0.3;
-    read_failed = false;
-    reading = sym (or-false rb);
-    write_failed = true;
-    writing = w.1;
-    ends = ((w.0.1, append-nil greeting ∙ w.0.2), refl, refl);
+    written = w.3;
+    ends = (
+      record {
+        front = (w.1, append-nil greeting ∙ w.2);
+        all_but_last = none-taken w.0;
+      },
+      refl,
+      refl,
+    );
   }
-  Serves-greeting fault.NoMemory p had rb cb held holds wb wn w = record {
-    input = [];
-    consumed = Consumes-nil had;
-    reads = 0;
-    counted = sym (add-zero cb);
+  Serves-greeting fault.NoMemory p had held holds w = record {
+    course = record {
+      input = [];
+      reads = 0;
+      read_failed = false;
+      taken = [];
+      more = [];
+      answers = [];
+      output = w.0;
+      write_failed = false;
+    };
+    read = HasRead-none had;
     within = omega arith;
-    taken = [];
-    more = [];
-    read = commands-nil;
-    answers = [];
+    spelled = commands-nil;
     asked = nothing p;
-    output = w.0.0;
-    written = w.0.3;
-    read_failed = false;
-    reading = sym (or-false rb);
-    write_failed = false;
-    writing = w.1 ∙ sym (or-false wb);
-    ends = ((w.0.1, append-nil greeting ∙ w.0.2), refl, refl);
+    written = w.3;
+    ends = (
+      record {
+        front = (w.1, append-nil greeting ∙ w.2);
+        all_but_last = none-taken w.0;
+      },
+      refl,
+      refl,
+    );
   }
 
   -- ---- a read
 
-  pub SoFar-took : (old now : P) (had left then : Option (List ℕ)) (rb rn rt : Bool) (cb cn ct : ℕ) (held holds : Option (List ℕ)) (wb wn : Bool) (s t : Pending) (reads : ℕ)
-      → SoFar asks old now had left rb rn cb cn held holds wb wn s reads → reads < most_reads → TakesIn left then rn rt cn ct s t (Ok true)
-      → SoFar asks old now had then rb rt cb ct held holds wb wn t (reads + 1)
-  SoFar-took old now had left then rb rn rt cb cn ct held holds wb wn s t reads h room took =
+  pub SoFar-took : (old now : P) (had left then : Input) (held holds : Output) (s t : Pending) (reads : ℕ)
+      → SoFar asks old now had left held holds s reads → reads < most_reads → TakesIn left then s t (Ok true)
+      → SoFar asks old now had then held holds t (reads + 1)
+  SoFar-took old now had left then held holds s t reads h room took =
       let piece = took.0 in
       record {
         input = h.input ++ piece;
-        consumed = Consumes-trans had left then h.input piece h.consumed took.2;
+        read = HasRead-trans had left then h.input piece reads 1 false h.read took.2;
         many = omega (arith, h.many, took.1, length-append h.input piece);
-        counted = omega (arith, h.counted, took.5);
         within = omega (arith, room);
         taken = h.taken;
         goes_on = h.goes_on;
-        read = λ more. ap commands (append_assoc h.input piece more) ∙ h.read (piece ++ more)
-            ∙ ap (λ l. h.taken ++ commands_from s.from l) (sym (append_assoc s.bytes piece more)) ∙ ap (λ q. h.taken ++ to_come q more) (sym took.4);
+        spelled = λ more. ap commands (append_assoc h.input piece more) ∙ h.spelled (piece ++ more)
+            ∙ ap (λ l. h.taken ++ commands_from s.from l) (sym (append_assoc s.bytes piece more)) ∙ ap (λ q. h.taken ++ to_come q more) (sym took.3);
         answers = h.answers;
         asked = h.asked;
         output = h.output;
         written = h.written;
         whole = h.whole;
-        reading = took.3 ∙ h.reading;
-        writing = h.writing;
       }
 
-  all-read : (old now : P) (had left : Option (List ℕ)) (rb rn : Bool) (cb cn : ℕ) (held holds : Option (List ℕ)) (wb wn : Bool) (s : Pending) (reads : ℕ)
-      → (h : SoFar asks old now had left rb rn cb cn held holds wb wn s reads) → to_come s [] ≡ [] → commands h.input ≡ h.taken ++ []
-  all-read old now had left rb rn cb cn held holds wb wn s reads h none = ap commands (sym (append-nil h.input)) ∙ h.read [] ∙ ap (λ l. h.taken ++ l) none
-
-  pub Serves-end : (old now : P) (had left then : Option (List ℕ)) (rb rn rt : Bool) (cb cn ct : ℕ) (held holds : Option (List ℕ)) (wb wn : Bool) (s t : Pending) (reads : ℕ)
-      → SoFar asks old now had left rb rn cb cn held holds wb wn s reads → to_come s [] ≡ [] → reads < most_reads → TakesIn left then rn rt cn ct s t (Ok false)
-      → Serves asks old now had then rb rt cb ct held holds wb wn (Ok ended.EndOfInput)
-  Serves-end old now had left then rb rn rt cb cn ct held holds wb wn s t reads h none room took = record {
-    input = h.input ++ [];
-    consumed = Consumes-trans had left then h.input [] h.consumed took.0;
-    reads = reads + 1;
-    counted = omega (arith, h.counted, took.4);
+  pub Serves-end : (old now : P) (had left then : Input) (held holds : Output) (s t : Pending) (reads : ℕ)
+      → SoFar asks old now had left held holds s reads → to_come s [] ≡ [] → reads < most_reads → TakesIn left then s t (Ok false)
+      → Serves asks old now had then held holds (Ok ended.EndOfInput)
+  Serves-end old now had left then held holds s t reads h none room took = record {
+    course = record {
+      input = h.input ++ [];
+      reads = reads + 1;
+      read_failed = false;
+      taken = h.taken;
+      more = [];
+      answers = h.answers;
+      output = h.output;
+      write_failed = false;
+    };
+    read = HasRead-trans had left then h.input [] reads 1 false h.read took.0;
     within = omega (arith, room);
-    taken = h.taken;
-    more = [];
-    read = ap commands (append-nil h.input) ∙ all-read old now had left rb rn cb cn held holds wb wn s reads h none;
-    answers = h.answers;
+    spelled = ap commands (append-nil h.input) ∙ all-taken old now had left held holds s reads h none;
     asked = h.asked;
-    output = h.output;
     written = h.written;
-    read_failed = false;
-    reading = took.2 ∙ h.reading ∙ sym (or-false rb);
-    write_failed = false;
-    writing = h.writing ∙ sym (or-false wb);
     ends = ((refl, h.whole), h.goes_on, took.1, refl, refl);
   }
 
-  pub Serves-read : (f : ServeFault) (old now : P) (had left then : Option (List ℕ)) (rb rn rt : Bool) (cb cn ct : ℕ) (held holds : Option (List ℕ)) (wb wn : Bool) (s t : Pending) (reads : ℕ)
-      → SoFar asks old now had left rb rn cb cn held holds wb wn s reads → to_come s [] ≡ [] → reads < most_reads → TakesIn left then rn rt cn ct s t (Err f)
-      → Serves asks old now had then rb rt cb ct held holds wb wn (Err f)
-  Serves-read fault.ReadFailed old now had left then rb rn rt cb cn ct held holds wb wn s t reads h none room took = record {
-    input = h.input;
-    consumed = Consumes-kept had left then h.input h.consumed took.0;
-    reads = reads;
-    counted = took.2 ∙ h.counted;
-    within = h.within;
-    taken = h.taken;
-    more = [];
-    read = all-read old now had left rb rn cb cn held holds wb wn s reads h none;
-    answers = h.answers;
+  pub Serves-read : (f : ServeFault) (old now : P) (had left then : Input) (held holds : Output) (s t : Pending) (reads : ℕ)
+      → SoFar asks old now had left held holds s reads → to_come s [] ≡ [] → reads < most_reads → TakesIn left then s t (Err f)
+      → Serves asks old now had then held holds (Err f)
+  Serves-read fault.ReadFailed old now had left then held holds s t reads h none room took = record {
+    course = record {
+      input = h.input ++ [];
+      reads = reads + 0;
+      read_failed = true;
+      taken = h.taken;
+      more = [];
+      answers = h.answers;
+      output = h.output;
+      write_failed = false;
+    };
+    read = HasRead-trans had left then h.input [] reads 0 true h.read took;
+    within = omega (arith, room);
+    spelled = ap commands (append-nil h.input) ∙ all-taken old now had left held holds s reads h none;
     asked = h.asked;
-    output = h.output;
     written = h.written;
-    read_failed = true;
-    reading = took.1 ∙ ap (λ b. b || true) h.reading;
-    write_failed = false;
-    writing = h.writing ∙ sym (or-false wb);
-    ends = ((refl, h.whole), h.goes_on, inl (refl, room), refl);
+    ends = ((refl, h.whole), h.goes_on, inl (refl, omega (arith, room)), refl);
   }
-  Serves-read fault.NoMemory old now had left then rb rn rt cb cn ct held holds wb wn s t reads h none room took =
-      let piece = took.0.0 in
+  Serves-read fault.NoMemory old now had left then held holds s t reads h none room took = record {
+    course = record {
+      input = h.input ++ took.0;
+      reads = reads + 1;
+      read_failed = false;
+      taken = h.taken;
+      more = to_come s took.0;
+      answers = h.answers;
+      output = h.output;
+      write_failed = false;
+    };
+    read = HasRead-trans had left then h.input took.0 reads 1 false h.read took.1;
+    within = omega (arith, room);
+    spelled = h.spelled took.0;
+    asked = h.asked;
+    written = h.written;
+    ends = (
       record {
-        input = h.input ++ piece;
-        consumed = Consumes-trans had left then h.input piece h.consumed took.0.1;
-        reads = reads + 1;
-        counted = omega (arith, h.counted, took.2);
-        within = omega (arith, room);
-        taken = h.taken;
-        more = to_come s piece;
-        read = h.read piece;
-        answers = h.answers;
-        asked = h.asked;
-        output = h.output;
-        written = h.written;
-        read_failed = false;
-        reading = took.1 ∙ h.reading ∙ sym (or-false rb);
-        write_failed = false;
-        writing = h.writing ∙ sym (or-false wb);
-        ends = (([], sym h.whole ∙ sym (append-nil h.output)), refl, refl);
-      }
-  Serves-read fault.WriteFailed old now had left then rb rn rt cb cn ct held holds wb wn s t reads h none room took = absurd took
+        front = ([], sym h.whole ∙ sym (append-nil h.output));
+        all_but_last = written-whole h.taken h.answers h.output h.whole;
+      },
+      refl,
+      refl,
+    );
+  }
+  Serves-read fault.WriteFailed old now had left then held holds s t reads h none room took = absurd took
 
   -- all the reads are used up
-  pub Serves-spent : (old now : P) (had left : Option (List ℕ)) (rb rn : Bool) (cb cn : ℕ) (held holds : Option (List ℕ)) (wb wn : Bool) (s : Pending) (reads : ℕ)
-      → SoFar asks old now had left rb rn cb cn held holds wb wn s reads → to_come s [] ≡ [] → most_reads ≤ reads
-      → Serves asks old now had left rb rn cb cn held holds wb wn (Err fault.ReadFailed)
-  Serves-spent old now had left rb rn cb cn held holds wb wn s reads h none spent = record {
-    input = h.input;
-    consumed = h.consumed;
-    reads = reads;
-    counted = h.counted;
+  pub Serves-spent : (old now : P) (had left : Input) (held holds : Output) (s : Pending) (reads : ℕ)
+      → SoFar asks old now had left held holds s reads → to_come s [] ≡ [] → most_reads ≤ reads
+      → Serves asks old now had left held holds (Err fault.ReadFailed)
+  Serves-spent old now had left held holds s reads h none spent = record {
+    course = record {
+      input = h.input;
+      reads = reads;
+      read_failed = false;
+      taken = h.taken;
+      more = [];
+      answers = h.answers;
+      output = h.output;
+      write_failed = false;
+    };
+    read = h.read;
     within = h.within;
-    taken = h.taken;
-    more = [];
-    read = all-read old now had left rb rn cb cn held holds wb wn s reads h none;
-    answers = h.answers;
+    spelled = all-taken old now had left held holds s reads h none;
     asked = h.asked;
-    output = h.output;
     written = h.written;
-    read_failed = false;
-    reading = h.reading ∙ sym (or-false rb);
-    write_failed = false;
-    writing = h.writing ∙ sym (or-false wb);
     ends = ((refl, h.whole), h.goes_on, inr (refl, omega (arith, spent, h.within), le_trans spent h.many), refl);
   }

@@ -3,20 +3,20 @@ use Rattle.std.proofs.Common.{◌≡◌, ℕ, zero, suc, ◌+◌, ◌-◌, ◌<�
 use Rattle.std.proofs.lemmas.Bool.{lt-leb, le-leb, ne_eqb, cases_lt}
 use Rattle.std.proofs.lemmas.List.{drop_more}
 use Rattle.click_control.specs.declared.command.Command.TheVariants as command
-use Rattle.click_control.specs.Commands.{Reading, in_line, after_return, over, told, behind, told_in, behind_in, commands_from, command_of, is_end, listed, behind_line, longest_line}
-use Rattle.click_control.specs.Lines.{HasNoEnd}
+use Rattle.click_control.specs.Commands.{Reading, in_line, after_return, over, completed, after_byte, completed_in, after_byte_in, commands_from, command_of, is_end, listed, after_line, longest_line}
+use Rattle.click_control.specs.kept.Lines.{HasNoEnd}
 
--- where the reading stands behind these bytes
-abbrev pub reading_behind : Reading → List ℕ → Reading
-reading_behind r [] = r
-reading_behind r (b ∷ bs) = reading_behind (behind r b) bs
+-- where the reading stands after these bytes
+abbrev pub reading_after : Reading → List ℕ → Reading
+reading_after r [] = r
+reading_after r (b ∷ bs) = reading_after (after_byte r b) bs
 
-pub commands_from-append : (r : Reading) (xs ys : List ℕ) → commands_from r (xs ++ ys) ≡ commands_from r xs ++ commands_from (reading_behind r xs) ys
+pub commands_from-append : (r : Reading) (xs ys : List ℕ) → commands_from r (xs ++ ys) ≡ commands_from r xs ++ commands_from (reading_after r xs) ys
 unfolding commands_from
 commands_from-append r [] ys = refl
 commands_from-append r (x ∷ xs) ys =
-    ap (λ cs. told r x ++ cs) (commands_from-append (behind r x) xs ys)
-    ∙ sym (append_assoc (told r x) (commands_from (behind r x) xs) (commands_from (reading_behind (behind r x) xs) ys))
+    ap (λ cs. completed r x ++ cs) (commands_from-append (after_byte r x) xs ys)
+    ∙ sym (append_assoc (completed r x) (commands_from (after_byte r x) xs) (commands_from (reading_after (after_byte r x) xs) ys))
 
 pub commands_from-over : (xs : List ℕ) → commands_from over xs ≡ []
 unfolding commands_from
@@ -45,11 +45,11 @@ HasNoEnd-take (suc n) (b ∷ bs) h = (h.0, HasNoEnd-take n bs h.1)
 
 -- ---- a line of a stream
 
-told_within : (line : List ℕ) (x : ℕ) → is_end x ≡ false → length line < longest_line → told_in line x ≡ []
-told_within line x h q = rw (h, lt-leb longest_line (length line) q) refl
+completed_within : (line : List ℕ) (x : ℕ) → is_end x ≡ false → length line < longest_line → completed_in line x ≡ []
+completed_within line x h q = rw (h, lt-leb longest_line (length line) q) refl
 
-behind_within : (line : List ℕ) (x : ℕ) → is_end x ≡ false → length line < longest_line → behind_in line x ≡ in_line (line ++ x ∷ [])
-behind_within line x h q = rw (h, lt-leb longest_line (length line) q) refl
+after_within : (line : List ℕ) (x : ℕ) → is_end x ≡ false → length line < longest_line → after_byte_in line x ≡ in_line (line ++ x ∷ [])
+after_within line x h q = rw (h, lt-leb longest_line (length line) q) refl
 
 -- bytes that hold no line end go into the line
 pub commands_from-within : (line xs ys : List ℕ) → HasNoEnd xs → length line + length xs ≤ longest_line → commands_from (in_line line) (xs ++ ys) ≡ commands_from (in_line (line ++ xs)) ys
@@ -57,12 +57,12 @@ unfolding commands_from
 commands_from-within line [] ys h q = ap (λ l. commands_from (in_line l) ys) (sym (append-nil line))
 commands_from-within line (x ∷ xs) ys h q =
     let short : length line < longest_line = omega arith in
-    ap (λ cs. cs ++ commands_from (behind_in line x) (xs ++ ys)) (told_within line x h.0 short)
-    ∙ ap (λ r. commands_from r (xs ++ ys)) (behind_within line x h.0 short)
+    ap (λ cs. cs ++ commands_from (after_byte_in line x) (xs ++ ys)) (completed_within line x h.0 short)
+    ∙ ap (λ r. commands_from r (xs ++ ys)) (after_within line x h.0 short)
     ∙ commands_from-within (line ++ x ∷ []) xs ys h.1 (omega (arith, length-append line (x ∷ [])))
     ∙ ap (λ l. commands_from (in_line l) ys) (append_assoc line (x ∷ []) xs)
 
-commands_from-end : (line : List ℕ) (e : ℕ) (ys : List ℕ) → is_end e ≡ true → commands_from (in_line line) (e ∷ ys) ≡ listed (command_of line) ++ commands_from (behind_line (command_of line) e) ys
+commands_from-end : (line : List ℕ) (e : ℕ) (ys : List ℕ) → is_end e ≡ true → commands_from (in_line line) (e ∷ ys) ≡ listed (command_of line) ++ commands_from (after_line (command_of line) e) ys
 unfolding commands_from
 commands_from-end line e ys h = rw h refl
 
@@ -79,7 +79,7 @@ split_more bytes more n q = ap (λ l. l ++ more) (split_at bytes n q) ∙ append
 
 -- a line that has its end
 pub commands_from-line : (bytes more : List ℕ) (n : ℕ) → n < length bytes → n ≤ longest_line → HasNoEnd (take n bytes) → is_end (get_or bytes n 0) ≡ true
-    → commands_from (in_line []) (bytes ++ more) ≡ listed (command_of (take n bytes)) ++ commands_from (behind_line (command_of (take n bytes)) (get_or bytes n 0)) (drop (n + 1) bytes ++ more)
+    → commands_from (in_line []) (bytes ++ more) ≡ listed (command_of (take n bytes)) ++ commands_from (after_line (command_of (take n bytes)) (get_or bytes n 0)) (drop (n + 1) bytes ++ more)
 commands_from-line bytes more n q short h e =
     ap (λ l. commands_from (in_line []) l) (split_more bytes more n q)
     ∙ commands_from-within [] (take n bytes) (get_or bytes n 0 ∷ (drop (n + 1) bytes ++ more)) h (omega (arith, length-take n bytes))
@@ -97,33 +97,33 @@ commands_from-long bytes more m n is long q h =
     ∙ commands_from-within [] (take m bytes) (get_or bytes m 0 ∷ (drop (m + 1) bytes ++ more)) front (omega arith)
     ∙ commands_from-beyond (take m bytes) (get_or bytes m 0) (drop (m + 1) bytes ++ more) next (omega arith)
 
--- a line whose end has not come tells nothing
+-- a line whose end has not come yields nothing
 pub commands_from-partial : (bytes : List ℕ) → HasNoEnd bytes → length bytes ≤ longest_line → commands_from (in_line []) bytes ≡ []
 commands_from-partial bytes h q =
     ap (λ l. commands_from (in_line []) l) (sym (append-nil bytes)) ∙ commands_from-within [] bytes [] h (omega arith) ∙ commands_from-nil (in_line bytes)
 
--- ---- behind a CR
+-- ---- after a CR
 
 at_front : (bytes : List ℕ) → 0 < length bytes → bytes ≡ get_or bytes 0 0 ∷ drop 1 bytes
 at_front [] q = absurd (omega arith)
 at_front (b ∷ bytes) q = refl
 
-feed_behind_return : (ys : List ℕ) → commands_from after_return (10 ∷ ys) ≡ commands_from (in_line []) ys
+feed_after_return : (ys : List ℕ) → commands_from after_return (10 ∷ ys) ≡ commands_from (in_line []) ys
 unfolding commands_from
-feed_behind_return ys = refl
+feed_after_return ys = refl
 
-other_behind_return : (b : ℕ) (ys : List ℕ) → eqb b 10 ≡ false → commands_from after_return (b ∷ ys) ≡ commands_from (in_line []) (b ∷ ys)
+other_after_return : (b : ℕ) (ys : List ℕ) → eqb b 10 ≡ false → commands_from after_return (b ∷ ys) ≡ commands_from (in_line []) (b ∷ ys)
 unfolding commands_from
-other_behind_return b ys h = rw h refl
+other_after_return b ys h = rw h refl
 
 pub commands_from-feed : (bytes more : List ℕ) → 0 < length bytes → get_or bytes 0 0 ≡ 10 → commands_from after_return (bytes ++ more) ≡ commands_from (in_line []) (drop 1 bytes ++ more)
 commands_from-feed bytes more q e =
-    ap (λ l. commands_from after_return (l ++ more)) (at_front bytes q ∙ ap (λ b. b ∷ drop 1 bytes) e) ∙ feed_behind_return (drop 1 bytes ++ more)
+    ap (λ l. commands_from after_return (l ++ more)) (at_front bytes q ∙ ap (λ b. b ∷ drop 1 bytes) e) ∙ feed_after_return (drop 1 bytes ++ more)
 
 pub commands_from-no_feed : (bytes more : List ℕ) → 0 < length bytes → (get_or bytes 0 0 ≡ 10 → ⊥) → commands_from after_return (bytes ++ more) ≡ commands_from (in_line []) (bytes ++ more)
 commands_from-no_feed bytes more q e =
     ap (λ l. commands_from after_return (l ++ more)) (at_front bytes q)
-    ∙ other_behind_return (get_or bytes 0 0) (drop 1 bytes ++ more) (ne_eqb (get_or bytes 0 0) 10 e)
+    ∙ other_after_return (get_or bytes 0 0) (drop 1 bytes ++ more) (ne_eqb (get_or bytes 0 0) 10 e)
     ∙ ap (λ l. commands_from (in_line []) (l ++ more)) (sym (at_front bytes q))
 
 pub commands_from-empty : (r : Reading) (bytes : List ℕ) → eqb (length bytes) 0 ≡ true → commands_from r bytes ≡ []

@@ -7,7 +7,7 @@ use Rattle.click_router.specs.declared.call.Reply.{Reply}
 use Rattle.click_control.specs.declared.port.AskFault.{AskFault}
 use Rattle.click_control.specs.declared.port.AskFault.TheVariants as ask
 
--- one call of the router, or want of memory, which changes nothing
+-- one call of the router; or memory ran out, and nothing changed
 abbrev pub Steps : RouterState → Call → Result Reply AskFault → RouterState → Type 0
 Steps old c (Ok reply) new = one old c ≡ (new, reply)
 Steps old c (Err f) new = (f ≡ ask.NoMemory) × (new ≡ old)

@@ -1,6 +1,7 @@
 pub mod Alone
 pub mod Commands
-pub mod Going
-pub mod Lines
+pub mod Devices
+pub mod Peers
 pub mod ReplyText
 pub mod Serving
+pub mod kept

@@ -21,7 +21,7 @@ naming front name back = front ++ codes "'" ++ name ++ codes "'" ++ back ++ code
 abbrev pub data_text : List ℕ → List ℕ
 data_text bytes = codes "DATA " ++ decimal (length bytes) ++ codes "\r\n" ++ bytes
 
--- what `READ` of a handler is told
+-- the reply to `READ` of a handler
 abbrev pub read_text : List ℕ → Answer → List ℕ
 read_text handler (answer.Replied (reply.Value bytes)) = naming (codes "200 Read handler ") handler (codes " OK") ++ data_text bytes
 read_text handler (answer.Replied (reply.Refused refusal.NoElement)) = naming (codes "510 No element named ") (before_last is_dot handler) []

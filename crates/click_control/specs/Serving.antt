@@ -1,6 +1,6 @@
 -- A whole session: what it asked, and what it wrote.
 use Rattle.std.specs.Prelude.{◌≡◌, ◌⊎◌, ℕ, ◌+◌, ◌≤◌, ◌<◌, List, [], ◌∷◌, ◌++◌, length, All, Bool, true, false, ◌||◌, Option, Some, None, Result, Ok, Err}
-use Rattle.std.specs.Io.KnownBytes.{Consumes, Appends, IsAtEnd}
+use Rattle.std.specs.Io.KnownBytes.{IsAtEnd}
 use Rattle.click_router.specs.declared.call.Call.{Call}
 use Rattle.click_router.specs.declared.call.Call.TheVariants as call
 use Rattle.click_router.specs.declared.call.Reply.{Reply}
@@ -14,12 +14,16 @@ use Rattle.click_control.specs.declared.serving.Ended.TheVariants as ended
 use Rattle.click_control.specs.declared.serving.ServeFault.{ServeFault}
 use Rattle.click_control.specs.declared.serving.ServeFault.TheVariants as fault
 use Rattle.click_control.specs.Commands.{commands}
+use Rattle.click_control.specs.Peers.{Input, Output, HasRead, HasWritten}
 use Rattle.click_control.specs.ReplyText.{greeting, text_of}
 
 -- the call that a command makes
 abbrev pub call_of : Command → Option Call
 call_of (command.Read handler text) = Some (call.Read handler text)
-call_of _ = None
+call_of command.Quit = None
+call_of command.Syntax = None
+call_of command.LineTooLong = None
+call_of (command.Unknown word) = None
 
 -- what a port answered
 abbrev pub answer_of : Result Reply AskFault → Answer
@@ -45,9 +49,11 @@ replies (c ∷ cs) (a ∷ answers) = text_of c a ++ replies cs answers
 
 -- a command after which a session ends
 abbrev pub is_last : Command → Bool
+is_last (command.Read handler text) = false
 is_last command.Quit = true
+is_last command.Syntax = false
 is_last command.LineTooLong = true
-is_last _ = false
+is_last (command.Unknown word) = false
 
 -- how many reads a session may have
 abbrev pub most_reads : ℕ
@@ -60,57 +66,57 @@ EndsWith cs c = (front : List Command) × (cs ≡ front ++ c ∷ [])
 abbrev pub GoesOn : List Command → Type 0
 GoesOn cs = All (λ c. is_last c ≡ false) cs
 
--- all commands that were read are answered, and their replies written
-abbrev pub IsWhole : List Command → List Command → List Answer → List ℕ → Type 0
-IsWhole taken more answers output = (more ≡ []) × (output ≡ greeting ++ replies taken answers)
-
--- what was written is a front of the greeting and the replies to the commands taken up
-abbrev pub IsFront : List Command → List Answer → List ℕ → Type 0
-IsFront taken answers output = (rest : List ℕ) × (greeting ++ replies taken answers ≡ output ++ rest)
-
--- Why a session reads no more of its input: a read failed, or it had as many as it may have, each of which gave a byte.
-abbrev pub ReadsNoMore : List ℕ → ℕ → Bool → Type 0
-ReadsNoMore input reads read_failed =
-    ((read_failed ≡ true) × (reads < most_reads)) ⊎ ((read_failed ≡ false) × (reads ≡ most_reads) × (most_reads ≤ length input))
-
--- How a session ends. `reads`: how many reads were made that did not fail. `failed`: whether a read, and whether a write, has failed in it.
-abbrev pub Ends : Result Ended ServeFault → List ℕ → Option (List ℕ) → List Command → List Command → List Answer → List ℕ → ℕ → Bool → Bool → Type 0
-Ends (Ok ended.Quit) input left taken more answers output reads read_failed write_failed =
-    IsWhole taken more answers output × EndsWith taken command.Quit × (read_failed ≡ false) × (write_failed ≡ false)
-Ends (Ok ended.TooLong) input left taken more answers output reads read_failed write_failed =
-    IsWhole taken more answers output × EndsWith taken command.LineTooLong × (read_failed ≡ false) × (write_failed ≡ false)
-Ends (Ok ended.EndOfInput) input left taken more answers output reads read_failed write_failed =
-    IsWhole taken more answers output × GoesOn taken × IsAtEnd left × (read_failed ≡ false) × (write_failed ≡ false)
-Ends (Err fault.ReadFailed) input left taken more answers output reads read_failed write_failed =
-    IsWhole taken more answers output × GoesOn taken × ReadsNoMore input reads read_failed × (write_failed ≡ false)
-Ends (Err fault.WriteFailed) input left taken more answers output reads read_failed write_failed =
-    IsFront taken answers output × (read_failed ≡ false) × (write_failed ≡ true)
-Ends (Err fault.NoMemory) input left taken more answers output reads read_failed write_failed =
-    IsFront taken answers output × (read_failed ≡ false) × (write_failed ≡ false)
-
--- A session with a port, a reader and a writer, each before and behind it.
-pub record Serves {P : Type 0} (asks : P → Call → Result Reply AskFault → P → Type 0) (old new : P)
-    (had left : Option (List ℕ)) (read_failed_before read_failed_now : Bool) (reads_before reads_now : ℕ)
-    (held holds : Option (List ℕ)) (write_failed_before write_failed_now : Bool) (result : Result Ended ServeFault) : Type 0 where
-  -- the bytes that were read
+-- What a session did: the bytes that it read, by so many reads that did not fail; whether a read failed; the commands that it took up, and the others
+-- that were read; the answers to those taken up; the bytes that it wrote; and whether a write failed.
+pub record Course : Type 0 where
   pub input : List ℕ
-  pub consumed : Consumes had left input
-  -- how many reads were made that did not fail
   pub reads : ℕ
-  pub counted : reads_now ≡ reads_before + reads
-  pub within : reads ≤ most_reads
-  -- the commands taken up, and the others that were read
+  pub read_failed : Bool
   pub taken : List Command
   pub more : List Command
-  pub read : commands input ≡ taken ++ more
   pub answers : List Answer
-  pub asked : Asked asks old taken answers new
-  -- the bytes that were written
   pub output : List ℕ
-  pub written : Appends held holds output
-  -- whether a read, and whether a write, has failed
-  pub read_failed : Bool
-  pub reading : read_failed_now ≡ (read_failed_before || read_failed)
   pub write_failed : Bool
-  pub writing : write_failed_now ≡ (write_failed_before || write_failed)
-  pub ends : Ends result input left taken more answers output reads read_failed write_failed
+
+-- all commands that were read are answered, and their replies written
+abbrev pub IsWhole : Course → Type 0
+IsWhole course = (course.more ≡ []) × (course.output ≡ greeting ++ replies course.taken course.answers)
+
+-- What was written is a front of the greeting and the replies to the commands taken up, and it has the greeting and the replies to all of them but the
+-- last: no command is taken up before the reply to the one before it was written.
+pub record IsFront (course : Course) : Type 0 where
+  pub front : (rest : List ℕ) × (greeting ++ replies course.taken course.answers ≡ course.output ++ rest)
+  pub all_but_last : (earlier : List Command) (last : Command) → course.taken ≡ earlier ++ last ∷ []
+      → (rest : List ℕ) × (course.output ≡ greeting ++ replies earlier course.answers ++ rest)
+
+-- Why a session reads no more of its input: a read failed, or it had as many as it may have, each of which gave a byte.
+abbrev pub ReadsNoMore : Course → Type 0
+ReadsNoMore course =
+    ((course.read_failed ≡ true) × (course.reads < most_reads))
+    ⊎ ((course.read_failed ≡ false) × (course.reads ≡ most_reads) × (most_reads ≤ length course.input))
+
+-- How a session ends, which leaves its reader like this.
+abbrev pub Ends : Result Ended ServeFault → Course → Input → Type 0
+Ends (Ok ended.Quit) course left =
+    IsWhole course × EndsWith course.taken command.Quit × (course.read_failed ≡ false) × (course.write_failed ≡ false)
+Ends (Ok ended.TooLong) course left =
+    IsWhole course × EndsWith course.taken command.LineTooLong × (course.read_failed ≡ false) × (course.write_failed ≡ false)
+Ends (Ok ended.EndOfInput) course left =
+    IsWhole course × GoesOn course.taken × IsAtEnd left.remaining × (course.read_failed ≡ false) × (course.write_failed ≡ false)
+Ends (Err fault.ReadFailed) course left =
+    IsWhole course × GoesOn course.taken × ReadsNoMore course × (course.write_failed ≡ false)
+Ends (Err fault.WriteFailed) course left =
+    IsFront course × (course.read_failed ≡ false) × (course.write_failed ≡ true)
+Ends (Err fault.NoMemory) course left =
+    IsFront course × (course.read_failed ≡ false) × (course.write_failed ≡ false)
+
+-- A session with a port, a reader and a writer, each before and after it.
+pub record Serves {P : Type 0} (asks : P → Call → Result Reply AskFault → P → Type 0) (old new : P) (had left : Input) (held holds : Output)
+    (result : Result Ended ServeFault) : Type 0 where
+  pub course : Course
+  pub read : HasRead had left course.input course.reads course.read_failed
+  pub within : course.reads ≤ most_reads
+  pub spelled : commands course.input ≡ course.taken ++ course.more
+  pub asked : Asked asks old course.taken course.answers new
+  pub written : HasWritten held holds course.output course.write_failed
+  pub ends : Ends result course left

@@ -1,4 +1,4 @@
-//! What a session is told, and what it answers.
+//! A session's commands, and what comes of them.
 
 use crate::port::AskFault;
 use click_router::Reply;
@@ -14,7 +14,7 @@ pub enum Command {
     },
     /// `QUIT`.
     Quit,
-    /// A command word with the wrong words behind it.
+    /// A command word with the wrong words after it.
     Syntax,
     /// A line of more than 65,536 bytes.
     LineTooLong,

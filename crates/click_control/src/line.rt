@@ -4,7 +4,7 @@ ghost use Rattle.std.specs.Prelude.{◌≡◌, ◌<◌, ◌≤◌, ℕ, List, le
 ghost use Rattle.std.specs.List.{prefix_len};
 ghost use Rattle.std.specs.Str.{str_eq_ignore_ascii_case};
 ghost use Rattle.click_control.specs.Commands.{is_blank, is_end, without_front, trimmed, from_blank, read_command, command_of};
-ghost use Rattle.click_control.specs.Lines.{HasNoEnd, IsFound};
+ghost use Rattle.click_control.specs.kept.Lines.{HasNoEnd, IsFound};
 
 use crate::command::Command;
 use click_text::sequence::Sequence;

@@ -2,12 +2,15 @@
 
 use click_router::{Call, Reply};
 use std::alloc::Global;
+use thiserror::Error;
 
 /// Why a call was not answered.
-#[derive(Clone, Copy, Debug, PartialEq, Eq)]
+#[derive(Clone, Copy, Debug, PartialEq, Eq, Error)]
 pub enum AskFault {
+    #[error("out of memory")]
     NoMemory,
     /// The history has no room for another entry.
+    #[error("history full")]
     HistoryFull,
 }
 

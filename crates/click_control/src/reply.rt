@@ -38,7 +38,7 @@ fn uncalled_text(alloc: Global, answer: &Answer, text: &[u8]) -> Result<Vec<u8>,
     }
 }
 
-/// What `READ` of a handler is told.
+/// The reply to `READ` of a handler.
 fn read_text(alloc: Global, handler: &[u8], answer: &Answer) -> Result<Vec<u8>, AllocError>
     ensures { IfOk result (λ text. text.items ≡ read_text handler.now answer.now) }
 {

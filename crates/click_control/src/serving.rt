@@ -1,11 +1,11 @@
 //! A whole session.
 
-ghost use Rattle.std.specs.Prelude.{◌≡◌, ◌++◌, ◌<◌, ◌||◌, ℕ, List, [], Option, Bool, true, length, IfNone, IfOk, OnOk, OnErr};
-ghost use Rattle.std.specs.Io.KnownBytes.{Appends};
+ghost use Rattle.std.specs.Prelude.{◌≡◌, ◌++◌, ◌<◌, ℕ, List, [], false, true, length, IfNone, IfOk, OnOk, OnErr};
 ghost use Rattle.click_control.specs.Serving.{Serves, Answered, call_of};
 ghost use Rattle.click_control.specs.Commands.{Pending, to_come};
-ghost use Rattle.click_control.specs.Lines.{TellsOne};
-ghost use Rattle.click_control.specs.Going.{SoFar, Goes, Written, WroteFront, TakesIn, ending_of};
+ghost use Rattle.click_control.specs.Peers.{Input, Output, HasWritten};
+ghost use Rattle.click_control.specs.kept.Lines.{YieldsOne};
+ghost use Rattle.click_control.specs.kept.Going.{SoFar, Goes, Written, WroteFront, TakesIn, ending_of};
 ghost use Rattle.click_control.specs.ReplyText.{text_of, greeting};
 
 use crate::command::{Answer, Command};
@@ -16,6 +16,7 @@ use crate::session::{Line, Session};
 use click_router::Call;
 use click_text::sequence::Sequence;
 use std::alloc::{AllocError, Global};
+use thiserror::Error;
 
 /// How a session ends.
 #[derive(Clone, Copy, Debug, PartialEq, Eq)]
@@ -29,12 +30,14 @@ pub enum Ended {
 }
 
 /// Why a session breaks off.
-#[derive(Clone, Copy, Debug, PartialEq, Eq)]
+#[derive(Clone, Copy, Debug, PartialEq, Eq, Error)]
 pub enum ServeFault {
     /// A read failed, or the session had as many reads as one may have.
+    #[error("a read failed")]
     ReadFailed,
-    /// A write failed.
+    #[error("a write failed")]
     WriteFailed,
+    #[error("out of memory")]
     NoMemory,
 }
 
@@ -54,8 +57,7 @@ pub fn serve<R: Source, W: Sink, P: Port>(
     port: &mut P,
     readonly: bool,
 ) -> Result<Ended, ServeFault>
-    ensures { Serves P.asks port.old port.new (R.remaining reader.old) (R.remaining reader.new) (R.failed reader.old) (R.failed reader.new)
-        (R.reads reader.old) (R.reads reader.new) (W.contents writer.old) (W.contents writer.new) (W.failed writer.old) (W.failed writer.new) result }
+    ensures { Serves P.asks port.old port.new (R.input reader.old) (R.input reader.new) (W.output writer.old) (W.output writer.new) result }
 {
     // No command changes the router yet, so there is none to refuse.
     let _ = readonly;
@@ -75,7 +77,7 @@ pub fn serve<R: Source, W: Sink, P: Port>(
 
 /// Writes the greeting.
 fn greet<W: Sink>(writer: &mut W) -> Result<(), ServeFault>
-    ensures { Written result (W.contents writer.old) (W.contents writer.new) (W.failed writer.old) (W.failed writer.new) greeting }
+    ensures { Written result (W.output writer.old) (W.output writer.new) greeting }
 {
     match write_all(writer, b"Click::ControlSocket/1.3\r\n") {
         Ok(()) => Ok(()),
@@ -90,7 +92,7 @@ fn take_in<R: Source>(
     session: &mut Session,
 ) -> Result<bool, ServeFault>
     requires { 0 < length piece.old }
-    ensures { TakesIn (R.remaining reader.old) (R.remaining reader.new) (R.failed reader.old) (R.failed reader.new) (R.reads reader.old) (R.reads reader.new) session.old session.new result }
+    ensures { TakesIn (R.input reader.old) (R.input reader.new) session.old session.new result }
 {
     match reader.read(piece) {
         Err(Failed) => Err(ServeFault::ReadFailed),
@@ -109,17 +111,17 @@ fn answer_whole<W: Sink, P: Port>(
     port: &mut P,
     session: &mut Session,
 ) -> Result<Option<Ended>, ServeFault>
-    ensures goes { (first : P) (had left held : Option (List ℕ)) (read_before read_now write_before : Bool) (made_before made_now reads : ℕ)
-        → SoFar P.asks first port.old had left read_before read_now made_before made_now held (W.contents writer.old) write_before (W.failed writer.old) session.old reads
-        → Goes P.asks first port.new had left read_before read_now made_before made_now held (W.contents writer.new) write_before (W.failed writer.new) session.new reads result }
-    ensures all_told { IfOk result (λ ended. IfNone ended (to_come session.new [] ≡ [])) }
+    ensures goes { (first : P) (had left : Input) (held : Output) (reads : ℕ)
+        → SoFar P.asks first port.old had left held (W.output writer.old) session.old reads
+        → Goes P.asks first port.new had left held (W.output writer.new) session.new reads result }
+    ensures all_taken { IfOk result (λ ended. IfNone ended (to_come session.new [] ≡ [])) }
 {
     loop {
         match session.line(alloc) {
             Err(_) => return Err(ServeFault::NoMemory),
             Ok(Line::Partial) => return Ok(None),
             Ok(Line::Blank) => {}
-            Ok(Line::Told(command)) => match take_up(alloc, writer, port, command) {
+            Ok(Line::Whole(command)) => match take_up(alloc, writer, port, command) {
                 Ok(None) => {}
                 Ok(Some(ended)) => return Ok(Some(ended)),
                 Err(fault) => return Err(fault),
@@ -135,10 +137,10 @@ fn take_up<W: Sink, P: Port>(
     port: &mut P,
     command: Command,
 ) -> Result<Option<Ended>, ServeFault>
-    ensures { (first : P) (had left held : Option (List ℕ)) (read_before read_now write_before : Bool) (old new : Pending) (made_before made_now reads : ℕ)
-        → SoFar P.asks first port.old had left read_before read_now made_before made_now held (W.contents writer.old) write_before (W.failed writer.old) old reads
-        → TellsOne old new command
-        → Goes P.asks first port.new had left read_before read_now made_before made_now held (W.contents writer.new) write_before (W.failed writer.new) new reads result }
+    ensures { (first : P) (had left : Input) (held : Output) (old new : Pending) (reads : ℕ)
+        → SoFar P.asks first port.old had left held (W.output writer.old) old reads
+        → YieldsOne old new command
+        → Goes P.asks first port.new had left held (W.output writer.new) new reads result }
 {
     let Ok(call) = call_of(alloc, &command) else {
         return Err(ServeFault::NoMemory);
@@ -157,7 +159,9 @@ fn call_of(alloc: Global, command: &Command) -> Result<Option<Call>, AllocError>
             name: copy(alloc, handler)?,
             text: copy(alloc, text)?,
         })),
-        _ => Ok(None),
+        Command::Quit | Command::Syntax | Command::LineTooLong | Command::Unknown { .. } => {
+            Ok(None)
+        }
     }
 }
 
@@ -187,7 +191,7 @@ fn reply<W: Sink>(
     command: &Command,
     answer: &Answer,
 ) -> Result<(), ServeFault>
-    ensures { Written result (W.contents writer.old) (W.contents writer.new) (W.failed writer.old) (W.failed writer.new) (text_of command.now answer.now) }
+    ensures { Written result (W.output writer.old) (W.output writer.new) (text_of command.now answer.now) }
 {
     let Ok(text) = reply_text(alloc, command, answer) else {
         return Err(ServeFault::NoMemory);
@@ -200,8 +204,8 @@ fn reply<W: Sink>(
 
 /// Writes all the bytes, by as many writes as it takes.
 fn write_all<W: Sink>(writer: &mut W, bytes: &[u8]) -> Result<(), Failed>
-    ensures ok { OnOk result (Appends (W.contents writer.old) (W.contents writer.new) bytes.now × (W.failed writer.new ≡ W.failed writer.old)) }
-    ensures err { OnErr result (WroteFront (W.contents writer.old) (W.contents writer.new) bytes.now × (W.failed writer.new ≡ (W.failed writer.old || true))) }
+    ensures ok { OnOk result (HasWritten (W.output writer.old) (W.output writer.new) bytes.now false) }
+    ensures err { OnErr result (WroteFront (W.output writer.old) (W.output writer.new) bytes.now true) }
 {
     let mut at = 0;
     while at < bytes.len() {

@@ -1,8 +1,8 @@
 //! The commands of a session's bytes, as they come.
 
 ghost use Rattle.std.specs.Prelude.{◌≡◌, ◌++◌, ℕ, List, [], ◌≤◌, length, drop, IfOk, OnOk, OnErr, MatchOption, Option};
-ghost use Rattle.click_control.specs.Commands.{fresh, in_line, behind_line, commands_from};
-ghost use Rattle.click_control.specs.Lines.{TakesLine, reading_of};
+ghost use Rattle.click_control.specs.Commands.{fresh, in_line, after_end, after_line, commands_from};
+ghost use Rattle.click_control.specs.kept.Lines.{TakesLine, reading_of};
 
 use crate::command::Command;
 use crate::line::{Found, first_line};
@@ -14,9 +14,9 @@ use std::marker::Model;
 enum Start {
     /// At the beginning of a line.
     Line,
-    /// Behind a CR that ended a line: an LF belongs to that end.
+    /// After a CR that ended a line: an LF belongs to that end.
     AfterReturn,
-    /// Behind a command after which nothing follows.
+    /// After a command that nothing follows.
     Over,
 }
 
@@ -28,7 +28,7 @@ pub enum Line {
     /// It is blank.
     Blank,
     /// It is this command.
-    Told(Command),
+    Whole(Command),
 }
 
 /// The bytes of a session that are not taken up yet.
@@ -48,7 +48,7 @@ impl Model for Session {
     ghost Value = { Pending };
 
     ghost use Rattle.std.specs.Prelude.{drop};
-    ghost use Rattle.click_control.specs.Lines.{IsPlaced, reading_of};
+    ghost use Rattle.click_control.specs.kept.Lines.{IsPlaced, reading_of};
 
     ghost view = { λ s. record { from = reading_of s.start; bytes = drop s.at s.buffer.items } };
 
@@ -99,7 +99,7 @@ impl Session {
                 self.at = self.buffer.len();
                 self.searched = 0;
                 self.start = Start::Over;
-                Ok(Line::Told(Command::LineTooLong))
+                Ok(Line::Whole(Command::LineTooLong))
             }
             Found::Whole {
                 command,
@@ -108,10 +108,10 @@ impl Session {
             } => {
                 self.at = begin + length;
                 self.searched = 0;
-                self.start = start_behind(&command, last);
+                self.start = start_after(&command, last);
                 Ok(match command {
                     None => Line::Blank,
-                    Some(command) => Line::Told(command),
+                    Some(command) => Line::Whole(command),
                 })
             }
         }
@@ -130,7 +130,7 @@ fn drop_front(buffer: &mut Vec<u8>, count: usize)
     }
 }
 
-/// How many bytes stand before the next line; `None` where that has not begun, and never will behind the last command.
+/// How many bytes stand before the next line; `None` where that has not begun, and never will after the last command.
 fn line_start(start: Start, bytes: &[u8]) -> Option<usize>
     ensures { MatchOption result (commands_from (reading_of start) bytes.now ≡ [])
         (λ n. (n ≤ length bytes.now) × ((more : List ℕ) → commands_from (reading_of start) (bytes.now ++ more) ≡ commands_from (in_line []) (drop n bytes.now ++ more))) }
@@ -150,13 +150,25 @@ fn line_start(start: Start, bytes: &[u8]) -> Option<usize>
     }
 }
 
-/// Where the bytes behind a line begin.
-fn start_behind(command: &Option<Command>, last: u8) -> Start
-    ensures { reading_of result ≡ behind_line command.now last }
+/// Where the bytes after an end of a line begin.
+fn after_end(last: u8) -> Start
+    ensures { reading_of result ≡ after_end last }
+{
+    if last == b'\r' {
+        Start::AfterReturn
+    } else {
+        Start::Line
+    }
+}
+
+/// Where the bytes after a line begin.
+fn start_after(command: &Option<Command>, last: u8) -> Start
+    ensures { reading_of result ≡ after_line command.now last }
 {
     match command {
-        Some(Command::Quit) => Start::Over,
-        _ if last == b'\r' => Start::AfterReturn,
-        _ => Start::Line,
+        Some(Command::Quit | Command::LineTooLong) => Start::Over,
+        None | Some(Command::Read { .. } | Command::Syntax | Command::Unknown { .. }) => {
+            after_end(last)
+        }
     }
 }

@@ -1,7 +1,7 @@
 //! Sessions with a port, a reader and a writer in memory.
 
 use crate::{
-    Answer, AskFault, Command, Ended, Port, Reading, ServeFault, Writing, reply_text, serve,
+    Answer, AskFault, Command, Ended, Failed, Port, Reading, ServeFault, Writing, reply_text, serve,
 };
 use click_router::{Call, Refusal, Reply};
 use click_text::sequence::Sequence;
@@ -10,7 +10,10 @@ use std::cell::Cell;
 use std::io::{self, ErrorKind, Read, Write};
 use std::test::Fail;
 
-/// A port with one counter `c` that has seen nothing.
+/// How many bytes the largest value has.
+const LARGE: usize = 70_000;
+
+/// A port with one counter `c` that has seen nothing, and a value of many bytes.
 #[derive(Drop)]
 struct OneCounter;
 
@@ -29,6 +32,11 @@ impl Port for OneCounter {
             Ok(Reply::Refused(Refusal::NoHandler))
         } else if name == b"c.late".as_slice() {
             Err(AskFault::HistoryFull)
+        } else if name == b"c.large".as_slice() {
+            match vec![in alloc; b'x'; LARGE] {
+                Ok(value) => Ok(Reply::Value(Sequence::of(value))),
+                Err(_) => Err(AskFault::NoMemory),
+            }
         } else {
             Ok(Reply::Refused(Refusal::NoElement))
         }
@@ -114,7 +122,7 @@ fn session(
 
 const GREETING: &[u8] = b"Click::ControlSocket/1.3\r\n";
 
-/// The bytes behind the greeting.
+/// The bytes after the greeting.
 fn replies(written: &[u8]) -> &[u8] {
     match written.strip_prefix(GREETING) {
         Some(replies) => replies,
@@ -336,5 +344,61 @@ fn has_no_text_for_an_answer_that_cannot_be(rt: HostRuntime) -> Result<(), Fail>
         reply_text(rt.alloc(), &read, &failed)?.as_slice(),
         b"520 Out of memory\r\n".as_slice()
     );
+    Ok(())
+}
+
+/// A reply of many bytes is written in full, however many of them a write takes.
+#[test]
+fn writes_a_large_reply(rt: HostRuntime) -> Result<(), Fail> {
+    let front = b"200 Read handler 'c.large' OK\r\nDATA 70000\r\n".as_slice();
+    for size in [1000, 4097, 100_000] {
+        let (ended, written) = session(
+            rt.alloc(),
+            reader_of(b"READ c.large\n", 4096, 0),
+            writer_of(rt.alloc(), size, 0),
+        );
+        assert_eq!(rt; ended, Ok(Ended::EndOfInput));
+        let Some(value) = replies(&written).strip_prefix(front) else {
+            panic!(rt; "another reply")
+        };
+        assert_eq!(rt; value.len(), LARGE);
+        assert!(rt; value.iter().all(|byte| *byte == b'x'));
+    }
+    Ok(())
+}
+
+/// A session goes on after 65,537 reads: here each of 70,000 gives one byte of a blank line, and one more finds the end.
+#[test]
+fn reads_many_times(rt: HostRuntime) -> Result<(), Fail> {
+    let input = vec![in rt.alloc(); b'\n'; 70_000]?;
+    let mut reader = Reading::new(reader_of(&input, 1, 0));
+    let mut writer = Writing::new(writer_of(rt.alloc(), 4096, 0));
+    let ended = serve(rt.alloc(), &mut reader, &mut writer, &mut OneCounter, false);
+    assert_eq!(rt; ended, Ok(Ended::EndOfInput));
+    assert_eq!(rt; reader.into_inner().calls, 70_001);
+    assert_eq!(rt; replies(&writer.into_inner().taken).len(), 0);
+    Ok(())
+}
+
+#[test]
+fn prints_faults(rt: HostRuntime) -> Result<(), Fail> {
+    let alloc = rt.alloc();
+    let failed = Failed.to_string(alloc)?;
+    assert_eq!(rt; failed.as_str(), "a read or a write failed");
+    for (fault, want) in [
+        (ServeFault::ReadFailed, "a read failed"),
+        (ServeFault::WriteFailed, "a write failed"),
+        (ServeFault::NoMemory, "out of memory"),
+    ] {
+        let printed = fault.to_string(alloc)?;
+        assert_eq!(rt; printed.as_str(), want);
+    }
+    for (fault, want) in [
+        (AskFault::NoMemory, "out of memory"),
+        (AskFault::HistoryFull, "history full"),
+    ] {
+        let printed = fault.to_string(alloc)?;
+        assert_eq!(rt; printed.as_str(), want);
+    }
     Ok(())
 }

@@ -1,9 +1,10 @@
 -- How the program ends.
-use Rattle.std.specs.Prelude.{◌≡◌, ℕ, List, Bool, false, Option, Result, Ok, Err}
+use Rattle.std.specs.Prelude.{◌≡◌, ℕ, List, false, Result, Ok, Err}
 use Rattle.std.specs.declared.io.ErrorKind.{ErrorKind}
 use Rattle.std.specs.declared.io.ErrorKind.TheVariants as io
 use Rattle.click_router.specs.declared.fault.FaultKind.{FaultKind}
 use Rattle.click_router.specs.declared.fault.FaultKind.TheVariants as kind
+use Rattle.click_control.specs.Peers.{Input, Output}
 use Rattle.click_control.specs.declared.serving.Ended.{Ended}
 use Rattle.click_control.specs.declared.serving.ServeFault.{ServeFault}
 use Rattle.click_control.specs.declared.serving.ServeFault.TheVariants as serve
@@ -12,6 +13,14 @@ use Rattle.click_prog.specs.declared.Status.TheVariants as status
 use Rattle.click_prog.specs.declared.run.RunFault.{RunFault}
 use Rattle.click_prog.specs.declared.run.RunFault.TheVariants as fault
 use Rattle.click_prog.specs.Running.{Runs}
+
+-- the number that the program's caller sees
+abbrev pub code : Status → ℕ
+code status.Good = 0
+code status.FaultyConfiguration = 1
+code status.WrongArguments = 2
+code status.NoMemory = 3
+code status.DeviceFailed = 4
 
 -- by the fault of a configuration
 abbrev pub config_status : FaultKind → Status
@@ -35,15 +44,18 @@ abbrev pub unread_status : ErrorKind → Status
 unread_status io.OutOfMemory = status.NoMemory
 unread_status _ = status.WrongArguments
 
--- There was a run over the text, with a reader and a writer that were fresh, and this is its status.
-pub record HasRun (text : List ℕ) (s : Status) : Type 0 where
-  pub had : Option (List ℕ)
-  pub left : Option (List ℕ)
-  pub read_failed : Bool
-  pub reads : ℕ
-  pub held : Option (List ℕ)
-  pub holds : Option (List ℕ)
-  pub write_failed : Bool
+-- A run over the text with this reader and this writer, each before and after it, and its status.
+pub record RunsTo (text : List ℕ) (had left : Input) (held holds : Output) (s : Status) : Type 0 where
   pub result : Result Ended RunFault
-  pub runs : Runs text had left false read_failed 0 reads held holds false write_failed result
+  pub runs : Runs text had left held holds result
   pub is : s ≡ status_of result
+
+-- There was a run over the text, with a reader and a writer that had neither read nor failed, and this is its status.
+pub record HasRun (text : List ℕ) (s : Status) : Type 0 where
+  pub had : Input
+  pub left : Input
+  pub held : Output
+  pub holds : Output
+  pub unread : (had.reads ≡ 0) × (had.failed ≡ false)
+  pub unwritten : held.failed ≡ false
+  pub runs : RunsTo text had left held holds s

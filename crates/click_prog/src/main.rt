@@ -3,7 +3,7 @@
 
 ghost use Rattle.std.specs.Prelude.{◌≡◌, ◌++◌, ◌∷◌, [], OnOk, codes};
 ghost use Rattle.std.specs.Io.KnownBytes.{Appends};
-ghost use Rattle.click_prog.specs.Statuses.{HasRun, status_of, config_status, unread_status};
+ghost use Rattle.click_prog.specs.Statuses.{HasRun, RunsTo, code, status_of, config_status, unread_status};
 
 mod arguments;
 mod run;
@@ -12,7 +12,7 @@ mod tests;
 
 use arguments::configuration;
 use clap::error::ErrorKind;
-use click_control::{Ended, Reading, ServeFault, Writing};
+use click_control::{Ended, Reading, ServeFault, Sink, Source, Writing};
 use click_router::{ConfigFault, FaultKind};
 use run::{RunFault, run};
 use std::io::Write;
@@ -22,15 +22,30 @@ use std::{env, io};
 /// How the program ends, for its caller.
 #[derive(Clone, Copy, Debug, PartialEq, Eq)]
 enum Status {
-    Good = 0,
-    FaultyConfiguration = 1,
-    WrongArguments = 2,
-    NoMemory = 3,
-    DeviceFailed = 4,
+    Good,
+    FaultyConfiguration,
+    WrongArguments,
+    NoMemory,
+    DeviceFailed,
+}
+
+impl Status {
+    /// The number that the caller sees.
+    fn code(self) -> u8
+        ensures { result ≡ code self }
+    {
+        match self {
+            Status::Good => 0,
+            Status::FaultyConfiguration => 1,
+            Status::WrongArguments => 2,
+            Status::NoMemory => 3,
+            Status::DeviceFailed => 4,
+        }
+    }
 }
 
 fn main(rt: HostRuntime) -> ExitCode {
-    ExitCode::from(program(&rt) as u8)
+    ExitCode::from(program(&rt).code())
 }
 
 /// Reads the command line and runs the session that it asks for.
@@ -72,7 +87,19 @@ fn session(rt: &HostRuntime, text: &[u8]) -> Status
 {
     let mut reader = Reading::new(rt.stdin());
     let mut writer = Writing::new(rt.stdout());
-    let ended = run(rt.alloc(), &mut reader, &mut writer, text, false);
+    serve_text(rt, &mut reader, &mut writer, text)
+}
+
+/// Serves one session with this reader and this writer, over the router of the text.
+fn serve_text<R: Source, W: Sink>(
+    rt: &HostRuntime,
+    reader: &mut R,
+    writer: &mut W,
+    text: &[u8],
+) -> Status
+    ensures { RunsTo text.now (R.input reader.old) (R.input reader.new) (W.output writer.old) (W.output writer.new) result }
+{
+    let ended = run(rt.alloc(), reader, writer, text, false);
     status_of(rt, &ended)
 }
 

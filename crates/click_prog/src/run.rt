@@ -5,13 +5,16 @@ ghost use Rattle.click_prog.specs.Running.{Runs};
 use click_control::{Ended, ServeFault, Sink, Source, serve};
 use click_router::{ConfigFault, Router, prepare};
 use std::alloc::Global;
+use thiserror::Error;
 
 /// Why a run breaks off.
-#[derive(Drop)]
+#[derive(Debug, Drop, Error)]
 pub enum RunFault {
     /// The configuration is faulty, or memory ran out while it was prepared. Nothing was read or written.
+    #[error(transparent)]
     Config(ConfigFault),
     /// The session broke off.
+    #[error(transparent)]
     Serve(ServeFault),
 }
 
@@ -25,8 +28,7 @@ pub fn run<R: Source, W: Sink>(
     text: &[u8],
     readonly: bool,
 ) -> Result<Ended, RunFault>
-    ensures { Runs text.now (R.remaining reader.old) (R.remaining reader.new) (R.failed reader.old) (R.failed reader.new)
-        (R.reads reader.old) (R.reads reader.new) (W.contents writer.old) (W.contents writer.new) (W.failed writer.old) (W.failed writer.new) result }
+    ensures { Runs text.now (R.input reader.old) (R.input reader.new) (W.output writer.old) (W.output writer.new) result }
 {
     let mut router = match prepare(alloc, text) {
         Ok(prepared) => Router::open(prepared),

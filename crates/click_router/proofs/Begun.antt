@@ -12,7 +12,7 @@ use Rattle.click_classes.proofs.Uses.{first_well}
 use Rattle.click_expand.specs.declared.flat.FlatElement.{FlatElement}
 use Rattle.click_ports.specs.Net.{AreStatesOf}
 use Rattle.click_router.specs.Opened.{IsBegun, AreFresh, IsMemoryOr, of_arguments}
-use Rattle.click_router.specs.Refused.{IsUnfit}
+use Rattle.click_router.specs.kept.Refused.{IsUnfit}
 use Rattle.click_router.specs.declared.fault.ConfigFault.{ConfigFault}
 
 pub AreFresh-push : (es : List FlatElement) (qs : List State) (e : FlatElement) (q : State) → AreFresh es qs → IsBegun e (Ok q) → AreFresh (es ++ e ∷ []) (qs ++ q ∷ [])

@@ -98,17 +98,17 @@ both-known : (leaves others : List Leaf) → AreOfClasses leaves → AreOfClasse
 both-known [] others h k = k
 both-known (l ∷ leaves) others h k = (h.0, both-known leaves others h.1 k)
 
-behind-listed : (l : Local) (ls : List Local) → AllListed (l ∷ ls) → AllListed ls
-behind-listed l ls f m i v e = f m (contains-behind l ls m i) v e
+rest-listed : (l : Local) (ls : List Local) → AllListed (l ∷ ls) → AllListed ls
+rest-listed l ls f m i v e = f m (contains-behind l ls m i) v e
 
 leaves-known : (c : Config) (s : Scope) (around : List Scope) (path : List (List ℕ)) (bindings : Bindings) (ls : List Local) (leaves : List Leaf) (n : ℕ) → AllListed ls →
     AreLeaves c s around path bindings ls leaves n → AreOfClasses leaves
 leaves-known c s around path bindings ls leaves n f (no_elements s1 a1 p1 b1) = tt
 leaves-known c s around path bindings ls leaves n f (leaf s1 a1 p1 b1 l rest w t more k e h r) =
-    (listed w (f l (contains-here l rest) w e), leaves-known c s1 a1 p1 b1 rest more k (behind-listed l rest f) r)
+    (listed w (f l (contains-here l rest) w e), leaves-known c s1 a1 p1 b1 rest more k (rest-listed l rest f) r)
 leaves-known c s around path bindings ls leaves n f (branch s1 a1 p1 b1 l rest b v o xs ys inner more i k e g q st a r) =
     both-known inner more (leaves-known c (inside b) o _ _ (scope_locals c (inside b) v) inner i (scope-listed c (inside b) v) a)
-    (leaves-known c s1 a1 p1 b1 rest more k (behind-listed l rest f) r)
+    (leaves-known c s1 a1 p1 b1 rest more k (rest-listed l rest f) r)
 
 -- each element of a flat form has a class
 pub flat-known : (c : Config) (f : Flat) → IsFlat c f → AreKnown f.elements

@@ -19,7 +19,7 @@ use Rattle.click_ports.proofs.Lawfulness.{one-first}
 use Rattle.click_router.specs.declared.fault.ConfigFault.{ConfigFault}
 use Rattle.click_router.specs.State.{RouterState}
 use Rattle.click_router.specs.Opened.{IsBegun, AreFresh, OpensAs, IsOpened, of_text, of_expand, of_arguments, of_ports, IsFirstFault, unreadable, not_flat, unfit, unlawful}
-use Rattle.click_router.specs.Refused.{IsUnfit, IsUnlawful, IsConfigFault}
+use Rattle.click_router.specs.kept.Refused.{IsUnfit, IsUnlawful, IsConfigFault}
 use Rattle.click_router.proofs.Begun.{begun_once, same_states, refused_state}
 use Rattle.click_router.proofs.Opens.{same_flat, refused}
 

@@ -15,7 +15,7 @@ use Rattle.click_ports.proofs.Lawfulness.{lawful-none}
 use Rattle.click_router.specs.declared.fault.ConfigFault.{ConfigFault}
 use Rattle.click_router.specs.State.{RouterState}
 use Rattle.click_router.specs.Opened.{AreFresh, IsLawful, OpensAs, IsOpened, of_expand, IsFirstFault, not_flat, unfit, unlawful, IsMemoryOr, IsGiven}
-use Rattle.click_router.specs.Refused.{IsConfigFault}
+use Rattle.click_router.specs.kept.Refused.{IsConfigFault}
 use Rattle.click_router.proofs.Begun.{same_states, refused_state}
 
 router : List ℕ → Flat → List State → RouterState

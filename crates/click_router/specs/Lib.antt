@@ -1,5 +1,5 @@
 pub mod FaultText
 pub mod One
 pub mod Opened
-pub mod Refused
 pub mod State
+pub mod kept

@@ -1,4 +1,4 @@
--- One call of a router: the state behind it, and the reply (Click manual, "Handlers").
+-- One call of a router: the state after it, and the reply (Click manual, "Handlers").
 use Rattle.std.specs.Prelude.{ℕ, List, Bool, Option, Some, None, position, slice_get, codes, decimal, nat_eq, if◌then◌else◌}
 use Rattle.std.specs.List.{before_last, after_last, list_any}
 use Rattle.std.specs.Str.{bytes_eq}

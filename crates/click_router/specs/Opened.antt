@@ -67,7 +67,7 @@ pub record IsOpened (text : List ℕ) (s : RouterState) : Type 0 where
   pub opens : OpensAs config s.flat s.states
   pub copy : s.text ≡ text
 
--- a fault at a place of the text: lines are counted by the LF bytes before it, columns by the bytes behind the last of them, both from 1
+-- a fault at a place of the text: lines are counted by the LF bytes before it, columns by the bytes after the last of them, both from 1
 abbrev pub line_at : List ℕ → ℕ → ℕ
 line_at text at = count_by (λ b. nat_eq b 10) (take at text) + 1
 
@@ -155,7 +155,7 @@ pub data IsFirstFault : List ℕ → ConfigFault → Type 0 where
       IsFlat config flat → AreFresh flat.elements states → IsFirstBreach (net_of flat states).shapes (net_of flat states).connections f →
       IsFirstFault text (of_ports flat.elements f)
 
--- want of memory
+-- memory ran out
 abbrev pub IsMemory : ConfigFault → Type 0
 IsMemory f = f ≡ fault_nowhere kind.NoMemory
 

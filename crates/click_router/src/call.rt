@@ -1,6 +1,7 @@
 //! What a router is asked, and what it answers.
 
 use click_text::sequence::Sequence;
+use thiserror::Error;
 
 /// One call of a router.
 #[derive(Drop)]
@@ -13,11 +14,11 @@ pub enum Call {
 }
 
 /// Why a call is refused.
-#[derive(Clone, Copy, Debug, PartialEq, Eq)]
+#[derive(Clone, Copy, Debug, PartialEq, Eq, Error)]
 pub enum Refusal {
-    /// No element has that name.
+    #[error("no element has that name")]
     NoElement,
-    /// The element has no handler of that name.
+    #[error("the element has no handler of that name")]
     NoHandler,
 }
 
@@ -30,7 +31,8 @@ pub enum Reply {
 }
 
 /// Why a call was not answered. It has changed nothing.
-#[derive(Clone, Copy, Debug, PartialEq, Eq)]
+#[derive(Clone, Copy, Debug, PartialEq, Eq, Error)]
 pub enum StepFault {
+    #[error("out of memory")]
     NoMemory,
 }

@@ -1,4 +1,4 @@
-//! Why a configuration is refused, and the text that tells it.
+//! Why a configuration is refused, and the line that says so.
 
 ghost use Rattle.std.specs.Prelude.{◌≡◌, ◌++◌, IfOk, OnOk, decimal};
 ghost use Rattle.click_router.specs.FaultText.{kind_text, place_text, ports_text, port_text, fault_text};
@@ -7,6 +7,8 @@ pub use click_classes::Side;
 use click_text::sequence::Sequence;
 use itoa::Buffer;
 use std::alloc::{AllocError, Global};
+use std::fmt;
+use thiserror::Error;
 
 /// What is wrong. The numbers are those that operators see.
 #[derive(Clone, Copy, Debug, PartialEq, Eq)]
@@ -38,7 +40,7 @@ pub enum FaultKind {
 }
 
 /// Where a fault stands.
-#[derive(Drop)]
+#[derive(Debug, Drop)]
 pub enum FaultPlace {
     Nowhere,
     /// At a place of the text: lines and columns are counted from 1, columns in bytes.
@@ -65,7 +67,8 @@ pub enum FaultPlace {
 }
 
 /// The first fault of a configuration.
-#[derive(Drop)]
+#[derive(Debug, Drop, Error)]
+#[error("{kind}{place}")]
 pub struct ConfigFault {
     pub kind: FaultKind,
     pub place: FaultPlace,
@@ -102,6 +105,12 @@ impl FaultKind {
             FaultKind::Twice => "33 Twice",
             FaultKind::Mixed => "34 Mixed",
         }
+    }
+}
+
+impl fmt::Display for FaultKind {
+    fn fmt<W: fmt::Write>(&self, f: &mut fmt::Formatter<W>) -> fmt::Result {
+        f.write_str(self.text())
     }
 }
 
@@ -165,6 +174,27 @@ impl FaultPlace {
             }
         }
         Ok(())
+    }
+}
+
+/// A name as text; names are words of ASCII.
+fn shown(name: &Sequence<u8>) -> &str {
+    std::str::from_utf8(name.as_slice()).unwrap_or("?")
+}
+
+impl fmt::Display for FaultPlace {
+    fn fmt<W: fmt::Write>(&self, f: &mut fmt::Formatter<W>) -> fmt::Result {
+        match self {
+            FaultPlace::Nowhere => Ok(()),
+            FaultPlace::At { line, column } => write!(f, " at {line}:{column}"),
+            FaultPlace::Element { name } => write!(f, " in {}", shown(name)),
+            FaultPlace::Used { name, side, used } => {
+                write!(f, " at {}{}{used}", shown(name), ports_of(*side))
+            }
+            FaultPlace::Port { name, side, port } => {
+                write!(f, " at {}{}{port}", shown(name), port_of(*side))
+            }
+        }
     }
 }
 

@@ -1,11 +1,11 @@
 //! The router: a configuration is prepared, opened, and answers one call after another.
 #![tactic(auto)]
 
-pub mod call;
-pub mod fault;
+mod call;
+mod fault;
 pub mod laws;
-pub mod opening;
-pub mod router;
+mod opening;
+mod router;
 
 pub use call::{Call, Refusal, Reply, StepFault};
 pub use fault::{ConfigFault, FaultKind, FaultPlace, Side};

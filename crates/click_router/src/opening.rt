@@ -8,7 +8,7 @@ ghost use Rattle.click_expand.specs.Flat.{AreDistinct};
 ghost use Rattle.click_ports.specs.Net.{names_of, net_of};
 ghost use Rattle.click_router.specs.Opened as spec;
 ghost use Rattle.click_router.specs.Opened.{IsBegun, IsKnown, AreKnown, AreFresh, IsLawful, OpensAs, IsOpened, IsFirstFault, IsGiven, IsMemoryOr};
-ghost use Rattle.click_router.specs.Refused.{IsUnfit, IsUnlawful, IsConfigFault};
+ghost use Rattle.click_router.specs.kept.Refused.{IsUnfit, IsUnlawful, IsConfigFault};
 
 use crate::fault::{ConfigFault, FaultKind, FaultPlace};
 use click_classes::{ArgFault, State, class_of, make};
@@ -329,8 +329,7 @@ fn prepare_config(alloc: Global, config: Config) -> Result<Prepared, ConfigFault
     }
 }
 
-/// The first state of the router of a text, or the text's first fault. Want of memory is answered as a fault of that kind,
-/// only where memory was refused.
+/// The first state of the router of a text, or the text's first fault. Where memory runs out, that is the fault.
 pub fn prepare(alloc: Global, text: &[u8]) -> Result<Prepared, ConfigFault>
     // What is prepared is what the text opens.
     ensures opened { IfOk result (λ prepared. IsOpened text.now prepared) }
@@ -338,10 +337,10 @@ pub fn prepare(alloc: Global, text: &[u8]) -> Result<Prepared, ConfigFault>
     ensures only { (state : RouterState) → IsOpened text.now state → IsGiven result state }
     // Which fault it is.
     ensures err { IfErr result (λ fault. IsMemoryOr fault (IsFirstFault text.now fault)) }
-    // The limit on a text is tested before memory is asked for.
+    // A text over the limit is refused for just that, also where memory would run out.
     ensures large { longest_text < length text.now → result ≡ Err (spec.fault_nowhere FaultKind.TooLarge) }
 {
-    // Places are told only of a text that may be read.
+    // Places are counted only in a text that may be read.
     if text.len() > LONGEST_TEXT {
         return Err(nowhere(FaultKind::TooLarge));
     }

@@ -6,26 +6,25 @@ use std::alloc::{AllocError, Global};
 use std::process::Abort;
 use std::test::Fail;
 
-/// The line of the text's fault, or `opens`.
-fn told(alloc: Global, text: &str) -> Result<Vec<u8>, AllocError> {
-    match prepare(alloc, text.as_bytes()) {
-        Ok(_) => Vec::from_slice(alloc, b"opens"),
-        Err(fault) => fault.text(alloc),
-    }
-}
-
-/// Each text opens, or has the fault of that line.
-fn tell(rt: &impl Abort, alloc: Global, rows: &[(&str, &str)]) -> Result<(), AllocError> {
+/// Each text opens, or has the fault of that line; what the fault prints is its line.
+fn check_lines(rt: &impl Abort, alloc: Global, rows: &[(&str, &str)]) -> Result<(), AllocError> {
     for (text, want) in rows {
-        let line = told(alloc, text)?;
-        assert_eq!(rt; line.as_slice(), want.as_bytes(), "at {text}");
+        match prepare(alloc, text.as_bytes()) {
+            Ok(_) => assert_eq!(rt; "opens", *want, "at {text}"),
+            Err(fault) => {
+                let line = fault.text(alloc)?;
+                assert_eq!(rt; line.as_slice(), want.as_bytes(), "at {text}");
+                let printed = fault.to_string(alloc)?;
+                assert_eq!(rt; printed.as_str(), *want, "at {text}");
+            }
+        }
     }
     Ok(())
 }
 
 #[test]
 fn opens(rt: HostRuntime) -> Result<(), Fail> {
-    tell(
+    check_lines(
         &rt,
         rt.alloc(),
         &[
@@ -57,8 +56,8 @@ fn opens(rt: HostRuntime) -> Result<(), Fail> {
 }
 
 #[test]
-fn tells_faults_of_texts(rt: HostRuntime) -> Result<(), Fail> {
-    tell(
+fn refuses_with_faults_of_texts(rt: HostRuntime) -> Result<(), Fail> {
+    check_lines(
         &rt,
         rt.alloc(),
         &[
@@ -100,8 +99,8 @@ fn tells_faults_of_texts(rt: HostRuntime) -> Result<(), Fail> {
 }
 
 #[test]
-fn tells_faults_of_elements(rt: HostRuntime) -> Result<(), Fail> {
-    tell(
+fn refuses_with_faults_of_elements(rt: HostRuntime) -> Result<(), Fail> {
+    check_lines(
         &rt,
         rt.alloc(),
         &[

@@ -30,11 +30,7 @@ impl<'a> Script<'a> {
 }
 
 impl Source for Script<'_> {
-    ghost remaining = { λ _. None };
-
-    ghost failed = { λ script. script.failed };
-
-    ghost reads = { λ script. script.reads };
+    ghost input = { λ script. record { remaining = None; failed = script.failed; reads = script.reads } };
 
     fn read(&mut self, piece: &mut [u8]) -> Result<usize, Failed> {
         if self.failed || self.reads == usize::MAX || self.reads + 1 == self.fails {
@@ -79,9 +75,7 @@ impl Keeper {
 }
 
 impl Sink for Keeper {
-    ghost contents = { λ _. None };
-
-    ghost failed = { λ keeper. keeper.failed };
+    ghost output = { λ keeper. record { contents = None; failed = keeper.failed } };
 
     fn write(&mut self, bytes: &[u8]) -> Result<usize, Failed> {
         self.calls = self.calls.saturating_add(1);

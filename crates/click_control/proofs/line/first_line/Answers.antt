@@ -1,7 +1,6 @@
 use Rattle.std.proofs.Common.{length, take, refl, take_all, arith}
-use Rattle.click_control.specs.Lines.{HasNoEnd}
+use Rattle.click_control.specs.kept.Lines.{HasNoEnd}
 use Rattle.click_control.proofs.Streams.{commands_from-long, commands_from-line}
-use Rattle.click_control.proofs.Words.{command_of-short}
 use Rattle.click_control.proofs.line.first_line.Goals as goal
 
 pub returns-in-None : goal.returns-in-None
@@ -24,6 +23,5 @@ returns-in_ok-command-in-Some-2 c =
     rw c.in_ok-command-in-Some-2.ensures record {
       some = omega arith;
       within = omega (arith, found.0);
-      tells = λ more. commands_from-line bytes more n found.0 (omega arith) found.1 found.2;
-      short = command_of-short (take n bytes);
+      yields = λ more. commands_from-line bytes more n found.0 (omega arith) found.1 found.2;
     }

@@ -9,18 +9,27 @@ pub loop-at-preserved : goal.loop-at-preserved
 loop-at-preserved g c =
     let bytes = c.args.bytes.now in
     let at = c.loop-at.at in
-    let holds = g.W.Sink.contents in
+    let output = g.W.Sink.output in
+    let so_far = c.loop-at.invariant.written in
     record {
       within = omega (arith, rw (take_rest bytes at) at c.in-Ok.ensures.bound, length-drop at bytes);
-      written = subst (Appends (holds c.args.writer.now) (holds c.write.new.self)) (sym (take-add at c.in-Ok.n bytes))
-          (Appends-trans _ _ _ _ _ c.loop-at.invariant.written (rw (take_rest bytes at) at c.in-Ok.ensures.bytes));
-      failed = c.in-Ok.ensures.failed ∙ or-false (g.W.Sink.failed c.loop-at.writer) ∙ c.loop-at.invariant.failed;
+      written = record {
+        appended = subst (Appends (output c.args.writer.now).contents (output c.write.new.self).contents) (sym (take-add at c.in-Ok.n bytes))
+            (Appends-trans _ _ _ _ _ so_far.appended (rw (take_rest bytes at) at c.in-Ok.ensures.bytes));
+        failed = c.in-Ok.ensures.failed ∙ or-false (output c.loop-at.writer).failed ∙ so_far.failed;
+      };
     }
 
 pub returns-in-Err-clause-err : goal.returns-in-Err-clause-err
 returns-in-Err-clause-err g c =
     let bytes = c.args.bytes.now in
-    let at = c.loop-at.at in (
-      (take at bytes, drop at bytes, sym (take-append-drop at bytes), Appends-kept _ _ _ _ c.loop-at.invariant.written c.in-Err.ensures.bytes),
-      c.in-Err.ensures.failed ∙ ap (λ b. b || true) c.loop-at.invariant.failed,
+    let at = c.loop-at.at in
+    let so_far = c.loop-at.invariant.written in (
+      take at bytes,
+      drop at bytes,
+      sym (take-append-drop at bytes),
+      record {
+        appended = Appends-kept _ _ _ _ so_far.appended c.in-Err.ensures.bytes;
+        failed = c.in-Err.ensures.failed ∙ ap (λ b. b || true) (so_far.failed ∙ or-false _);
+      },
     )

@@ -3,7 +3,7 @@ use Rattle.std.proofs.lemmas.Result.{IfErr-weaker}
 use Rattle.click_text.specs.declared.syntax.Config.{Config}
 use Rattle.click_text.specs.Spelling.{too_large}
 use Rattle.click_router.specs.Opened.{OpensAs, of_text, IsFirstFault, unreadable, IsMemoryOr}
-use Rattle.click_router.specs.Refused.{IsConfigFault}
+use Rattle.click_router.specs.kept.Refused.{IsConfigFault}
 use Rattle.click_router.proofs.Opens.{given, first_fault}
 use Rattle.click_router.proofs.opening.prepare.Goals as goal
 

@@ -1,9 +1,9 @@
 use Rattle.std.proofs.Common.{◌+◌, Option, Some, None, length, drop, subst, ap, ◌∙◌, length-drop, arith}
 use Rattle.click_control.specs.declared.line.Found.TheVariants as found
 use Rattle.click_control.specs.declared.command.Command.{Command}
-use Rattle.click_control.specs.Commands.{behind_line}
-use Rattle.click_control.specs.Lines.{IsLine}
-use Rattle.click_control.proofs.Sessions.{skips_from, found_from, tells_partial, tells_long, tells_blank, tells_told}
+use Rattle.click_control.specs.Commands.{after_line}
+use Rattle.click_control.specs.kept.Lines.{IsLine}
+use Rattle.click_control.proofs.Sessions.{skips_from, found_from, yields_partial, yields_long, yields_blank, yields_command}
 use Rattle.click_control.proofs.session.Session.line.Goals as goal
 use Rattle.click_control.proofs.session.Session.line.Goals.{in-None, in-Some-command}
 
@@ -14,7 +14,7 @@ returns-in-Partial-clause-ok c =
     let n = c.in-Some.skipped in
     let skips = skips_from _ items inside.start inside.at n c.deref.ensures.value c.in-Some.ensures in
     let line = found_from _ items (inside.at + n) found.Partial c.deref-2.ensures.value (rw c.in-Partial.is at c.in_ok-first_line.ensures) in
-    tells_partial items inside.start inside.at n _ c.self.view_is skips line.0 line.1
+    yields_partial items inside.start inside.at n _ c.self.view_is skips line.0 line.1
 
 pub returns-in-TooLong-clause-ok : goal.returns-in-TooLong-clause-ok
 returns-in-TooLong-clause-ok c =
@@ -24,7 +24,7 @@ returns-in-TooLong-clause-ok c =
     let len = c.len-self-inside.result in
     let skips = skips_from _ items inside.start inside.at n c.deref.ensures.value c.in-Some.ensures in
     let line = found_from _ items (inside.at + n) found.TooLong c.deref-2.ensures.value (rw c.in-TooLong.is at c.in_ok-first_line.ensures) in
-    tells_long items (drop len items) inside.start inside.at n _ c.self.view_is skips
+    yields_long items (drop len items) inside.start inside.at n _ c.self.view_is skips
     (omega (arith, line.0, length-drop len items, length-drop inside.at items, length-drop (inside.at + n) items, c.deref.ensures.len, ap length c.deref.ensures.value, c.len-self-inside.ensures))
     line.1
 
@@ -40,12 +40,12 @@ returns-after-command-clause-ok c =
       | in-None w ↦
           let is = w.in-None.is in
           let line_of : IsLine (drop (inside.at + n) items) None whole.length whole.last = subst (λ (k : Option Command). IsLine (drop (inside.at + n) items) k whole.length whole.last) is line in
-          rw w.result-is (tells_blank items inside.start inside.at n whole.length whole.last _ _ c.self.view_is skips line_of
-          (c.start_behind-self-inside.ensures ∙ ap (λ k. behind_line k whole.last) is))
+          rw w.result-is (yields_blank items inside.start inside.at n whole.length whole.last _ _ c.self.view_is skips line_of
+          (c.start_after-self-inside.ensures ∙ ap (λ k. after_line k whole.last) is))
       | in-Some-command w ↦
           let is = w.in-Some-command.is in
           let d = w.in-Some-command.command in
           let line_of : IsLine (drop (inside.at + n) items) (Some d) whole.length whole.last = subst (λ (k : Option Command). IsLine (drop (inside.at + n) items) k whole.length whole.last) is line in
-          rw w.result-is (tells_told items inside.start inside.at n whole.length whole.last d _ _ c.self.view_is skips line_of
-          (c.start_behind-self-inside.ensures ∙ ap (λ k. behind_line k whole.last) is))
+          rw w.result-is (yields_command items inside.start inside.at n whole.length whole.last d _ _ c.self.view_is skips line_of
+          (c.start_after-self-inside.ensures ∙ ap (λ k. after_line k whole.last) is))
     ]

@@ -1,0 +1,69 @@
+-- A session that goes on: what it has done up to a moment.
+use Rattle.std.specs.Prelude.{◌≡◌, ℕ, ◌≤◌, ◌<◌, List, [], ◌++◌, length, Bool, true, false, Option, Some, None, Result, Ok, Err}
+use Rattle.std.specs.Io.KnownBytes.{IsAtEnd}
+use Rattle.click_router.specs.declared.call.Call.{Call}
+use Rattle.click_router.specs.declared.call.Reply.{Reply}
+use Rattle.click_control.specs.declared.port.AskFault.{AskFault}
+use Rattle.click_control.specs.declared.command.Command.{Command}
+use Rattle.click_control.specs.declared.command.Command.TheVariants as command
+use Rattle.click_control.specs.declared.command.Answer.{Answer}
+use Rattle.click_control.specs.declared.serving.Ended.{Ended}
+use Rattle.click_control.specs.declared.serving.Ended.TheVariants as ended
+use Rattle.click_control.specs.declared.serving.ServeFault.{ServeFault}
+use Rattle.click_control.specs.declared.serving.ServeFault.TheVariants as fault
+use Rattle.click_control.specs.Commands.{commands, Pending, to_come}
+use Rattle.click_control.specs.Peers.{Input, Output, HasRead, HasWritten}
+use Rattle.click_control.specs.ReplyText.{greeting}
+use Rattle.click_control.specs.Serving.{Asked, replies, most_reads, GoesOn, Serves}
+
+-- a front of the text was written
+abbrev pub WroteFront : Output → Output → List ℕ → Bool → Type 0
+WroteFront held holds text failed = (front : List ℕ) × (rest : List ℕ) × (text ≡ front ++ rest) × HasWritten held holds front failed
+
+-- a text was written in full; or a front of it, up to the fault
+abbrev pub Written : {T : Type 0} → Result T ServeFault → Output → Output → List ℕ → Type 0
+Written (Ok _) held holds text = HasWritten held holds text false
+Written (Err fault.WriteFailed) held holds text = WroteFront held holds text true
+Written (Err fault.NoMemory) held holds text = WroteFront held holds text false
+Written (Err fault.ReadFailed) held holds text = ⊥
+
+-- the session took in a piece of some bytes; or the input is at its end; or a fault
+abbrev pub TakesIn : Input → Input → Pending → Pending → Result Bool ServeFault → Type 0
+TakesIn had left old new (Ok true) =
+    (piece : List ℕ) × (0 < length piece) × HasRead had left piece 1 false × (new ≡ record { from = old.from; bytes = old.bytes ++ piece })
+TakesIn had left old new (Ok false) = HasRead had left [] 1 false × IsAtEnd left.remaining × (new ≡ old)
+TakesIn had left old new (Err fault.ReadFailed) = HasRead had left [] 0 true
+TakesIn had left old new (Err fault.NoMemory) = (piece : List ℕ) × HasRead had left piece 1 false
+TakesIn had left old new (Err fault.WriteFailed) = ⊥
+
+-- how a command ends a session
+abbrev pub ending_of : Command → Option Ended
+ending_of (command.Read handler text) = None
+ending_of command.Quit = Some ended.Quit
+ending_of command.Syntax = None
+ending_of command.LineTooLong = Some ended.TooLong
+ending_of (command.Unknown word) = None
+
+-- A session so far, whose commands to come are those of this state. Each command that was taken up is answered in full.
+pub record SoFar {P : Type 0} (asks : P → Call → Result Reply AskFault → P → Type 0) (old now : P) (had left : Input) (held holds : Output)
+    (s : Pending) (reads : ℕ) : Type 0 where
+  pub input : List ℕ
+  pub read : HasRead had left input reads false
+  -- each read gave a byte
+  pub many : reads ≤ length input
+  pub within : reads ≤ most_reads
+  pub taken : List Command
+  pub goes_on : GoesOn taken
+  pub spelled : (more : List ℕ) → commands (input ++ more) ≡ taken ++ to_come s more
+  pub answers : List Answer
+  pub asked : Asked asks old taken answers now
+  pub output : List ℕ
+  pub written : HasWritten held holds output false
+  pub whole : output ≡ greeting ++ replies taken answers
+
+-- What came of answering commands: the session goes on, or it ends.
+abbrev pub Goes : {P : Type 0} → (P → Call → Result Reply AskFault → P → Type 0) → P → P → Input → Input → Output → Output → Pending → ℕ
+    → Result (Option Ended) ServeFault → Type 0
+Goes asks old new had left held holds s reads (Ok None) = SoFar asks old new had left held holds s reads
+Goes asks old new had left held holds s reads (Ok (Some e)) = Serves asks old new had left held holds (Ok e)
+Goes asks old new had left held holds s reads (Err f) = Serves asks old new had left held holds (Err f)

@@ -1,0 +1,193 @@
+//! Devices as a session's peer: std's readers and writers, watched for failures.
+
+ghost use Rattle.std.specs.Prelude.{◌≡◌, ◌+◌, ◌≤◌, ◌<◌, ◌||◌, length, is_err, IfOk, OnOk, OnErr, true, false};
+ghost use Rattle.std.specs.Io.KnownBytes.{ReadConsumes, WriteAppends};
+ghost use Rattle.click_control.specs.Devices.{ReadsOnce, WritesOnce};
+
+use crate::peer::{Failed, Sink, Source};
+use std::io::{self, Read, Write};
+use std::marker::Model;
+
+/// What a source reads from. What one read does is a relation of its own, so that a contract can say that it was made just once.
+pub trait InputDevice {
+    ghost use Rattle.std.specs.Prelude.{ℕ, List, Option, Result};
+    ghost use Rattle.std.specs.declared.io.Error.{Error};
+
+    /// The bytes still to come, where they are known.
+    ghost remaining: { Self → Option (List ℕ) };
+
+    /// What one read does: the device before it, its answer, what the piece holds after it, and the device after it.
+    ghost reads: { Self → Result ℕ Error → List ℕ → Self → Type 0 };
+
+    /// One read.
+    fn read_once(&mut self, piece: &mut [u8]) -> io::Result<usize>
+        ensures bound { IfOk result (λ n. n ≤ length piece.new) }
+        ensures bytes { ReadConsumes (remaining self.old) (remaining self.new) result piece.new }
+        ensures once { reads self.old result piece.new self.new };
+}
+
+/// What a sink writes to. What one write does is a relation of its own, so that a contract can say that it was made just once.
+pub trait OutputDevice {
+    ghost use Rattle.std.specs.Prelude.{ℕ, List, Option, Result};
+    ghost use Rattle.std.specs.declared.io.Error.{Error};
+
+    /// The bytes that were taken, where they are known.
+    ghost contents: { Self → Option (List ℕ) };
+
+    /// What one write does: the device before it, its answer, the bytes that it was given, and the device after it.
+    ghost writes: { Self → Result ℕ Error → List ℕ → Self → Type 0 };
+
+    /// One write.
+    fn write_once(&mut self, bytes: &[u8]) -> io::Result<usize>
+        ensures bound { IfOk result (λ n. n ≤ length bytes.now) }
+        ensures bytes { WriteAppends (contents self.old) (contents self.new) result bytes.now }
+        ensures once { writes self.old result bytes.now self.new };
+}
+
+impl<R: Read> InputDevice for R {
+    ghost remaining = { λ reader. R.remaining reader };
+
+    ghost reads = { λ old answer piece new. ReadConsumes (R.remaining old) (R.remaining new) answer piece };
+
+    fn read_once(&mut self, piece: &mut [u8]) -> io::Result<usize> {
+        self.read(piece)
+    }
+}
+
+impl<W: Write> OutputDevice for W {
+    ghost contents = { λ writer. W.contents writer };
+
+    ghost writes = { λ old answer bytes new. WriteAppends (W.contents old) (W.contents new) answer bytes };
+
+    fn write_once(&mut self, bytes: &[u8]) -> io::Result<usize> {
+        self.write(bytes)
+    }
+}
+
+/// A reader as a source. The read past 2^64 - 1 of them fails, so that their count never wraps.
+#[derive(Drop)]
+pub struct Reading<D> {
+    device: D,
+    failed: bool,
+    /// How many reads have not failed.
+    reads: u64,
+}
+
+impl<D> Model for Reading<D> {
+    ghost use Rattle.click_control.specs.Devices.{WatchedReader};
+
+    ghost Value = { WatchedReader D };
+
+    ghost view = { λ r. record { device = r.device; failed = r.failed; reads = r.reads } };
+}
+
+/// A writer as a sink.
+#[derive(Drop)]
+pub struct Writing<D> {
+    device: D,
+    failed: bool,
+}
+
+impl<D> Model for Writing<D> {
+    ghost use Rattle.click_control.specs.Devices.{WatchedWriter};
+
+    ghost Value = { WatchedWriter D };
+
+    ghost view = { λ w. record { device = w.device; failed = w.failed } };
+}
+
+impl<D> Reading<D> {
+    /// A source that has neither read nor failed.
+    pub fn new(device: D) -> Self
+        ensures { result ≡ record { device = device; failed = false; reads = 0 } }
+    {
+        Reading {
+            device,
+            failed: false,
+            reads: 0,
+        }
+    }
+
+    /// The device.
+    pub fn into_inner(self) -> D
+        ensures { result ≡ self.device }
+    {
+        let Reading { device, .. } = self;
+        device
+    }
+}
+
+impl<D: InputDevice> Source for Reading<D> {
+    ghost input = { λ reading. record { remaining = D.remaining reading.device; failed = reading.failed; reads = reading.reads } };
+
+    fn read(&mut self, piece: &mut [u8]) -> Result<usize, Failed>
+        ensures bound { IfOk result (λ n. n ≤ length piece.new) }
+        ensures bytes { ReadConsumes (D.remaining self.old.device) (D.remaining self.new.device) result piece.new }
+        ensures counted { OnOk result (self.new.reads ≡ self.old.reads + 1) }
+        ensures uncounted { OnErr result (self.new.reads ≡ self.old.reads) }
+        ensures stays { self.old.failed ≡ true → is_err result ≡ true }
+        ensures failed { self.new.failed ≡ (self.old.failed || is_err result) }
+        // It fails only where the device did, in the one read that is made of it.
+        ensures once { ReadsOnce D.reads self.old self.new result piece.new }
+    {
+        if self.failed || self.reads == u64::MAX {
+            self.failed = true;
+            return Err(Failed);
+        }
+        match self.device.read_once(piece) {
+            Ok(n) => {
+                self.reads += 1;
+                Ok(n)
+            }
+            Err(_) => {
+                self.failed = true;
+                Err(Failed)
+            }
+        }
+    }
+}
+
+impl<D> Writing<D> {
+    /// A sink that has not failed.
+    pub fn new(device: D) -> Self
+        ensures { result ≡ record { device = device; failed = false } }
+    {
+        Writing {
+            device,
+            failed: false,
+        }
+    }
+
+    /// The device.
+    pub fn into_inner(self) -> D
+        ensures { result ≡ self.device }
+    {
+        let Writing { device, failed: _ } = self;
+        device
+    }
+}
+
+impl<D: OutputDevice> Sink for Writing<D> {
+    ghost output = { λ writing. record { contents = D.contents writing.device; failed = writing.failed } };
+
+    fn write(&mut self, bytes: &[u8]) -> Result<usize, Failed>
+        ensures bound { IfOk result (λ n. n ≤ length bytes.now) }
+        ensures some { 0 < length bytes.now → IfOk result (λ n. 0 < n) }
+        ensures bytes { WriteAppends (D.contents self.old.device) (D.contents self.new.device) result bytes.now }
+        ensures stays { self.old.failed ≡ true → is_err result ≡ true }
+        ensures failed { self.new.failed ≡ (self.old.failed || is_err result) }
+        // It fails only where the device did, or took none of some bytes, in the one write that is made of it.
+        ensures once { WritesOnce D.writes self.old self.new result bytes.now }
+    {
+        if self.failed {
+            return Err(Failed);
+        }
+        match self.device.write_once(bytes) {
+            Ok(n) if n > 0 || bytes.is_empty() => Ok(n),
+            Ok(_) | Err(_) => {
+                self.failed = true;
+                Err(Failed)
+            }
+        }
+    }
+}
