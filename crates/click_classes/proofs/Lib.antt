@@ -11,3 +11,5 @@ pub mod OneState
 pub mod Bits
 pub mod Uses
 pub mod OneRoute
+pub mod Agreeing
+pub mod SixBytes

@@ -1,3 +1,4 @@
+pub mod Acts
 pub mod Classes
 pub mod Codes
 pub mod Counts
