@@ -13,3 +13,6 @@ pub mod Uses
 pub mod OneRoute
 pub mod Agreeing
 pub mod SixBytes
+pub mod LongestRoute
+pub mod Queueing
+pub mod Aging
