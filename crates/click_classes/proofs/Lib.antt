@@ -11,3 +11,8 @@ pub mod OneState
 pub mod Bits
 pub mod Uses
 pub mod OneRoute
+pub mod Agreeing
+pub mod SixBytes
+pub mod LongestRoute
+pub mod Queueing
+pub mod Aging

@@ -1,3 +1,4 @@
+pub mod Acts
 pub mod Classes
 pub mod Codes
 pub mod Counts
@@ -7,6 +8,7 @@ pub mod Made
 pub mod Matches
 pub mod PacketList
 pub mod Patterns
+pub mod Queues
 pub mod Routes
 pub mod State
 pub mod Steps

@@ -1,6 +1,7 @@
 //! The element classes: their arguments, first states, port counts and port codes (Click element reference).
 #![tactic(auto)]
 
+mod acting;
 mod arguments;
 mod class;
 mod classes;
@@ -14,6 +15,7 @@ mod ports;
 mod state;
 mod values;
 
+pub use acting::{Fate, Outcome, PortRange, after};
 pub use class::{CLASSES, Class, class_of};
 pub use codes::{code, passes};
 pub use fault::ArgFault;

@@ -2,10 +2,12 @@
 
 ghost use Rattle.std.specs.Prelude.{◌≡◌};
 ghost use Rattle.click_classes.specs.Fresh.{get_ip_address};
+ghost use Rattle.click_classes.specs.Acts.{address_at};
 
 use crate::arguments::Arguments;
 use crate::fault::ArgFault;
 use crate::state::State;
+use click_packet::Packet;
 
 /// GetIPAddress(OFFSET): reads the destination out of packets.
 ///
@@ -23,4 +25,18 @@ pub fn make_get_ip_address(arguments: &Arguments) -> Result<State, ArgFault>
     Ok(State::GetIPAddress {
         offset: offset as u16,
     })
+}
+
+/// Makes the four bytes from the offset on a packet's destination; 0.0.0.0 where the packet is shorter.
+pub fn take_address(offset: u16, packet: &mut Packet)
+    ensures { packet.new ≡ record packet.old { destination = address_at offset packet.old.bytes } }
+{
+    let bytes = packet.bytes();
+    let at = usize::from(offset);
+    let address = if at + 4 <= bytes.len() {
+        [bytes[at], bytes[at + 1], bytes[at + 2], bytes[at + 3]]
+    } else {
+        [0, 0, 0, 0]
+    };
+    packet.set_destination(address);
 }

@@ -2,12 +2,17 @@
 
 ghost use Rattle.std.specs.Prelude.{◌≡◌};
 ghost use Rattle.click_classes.specs.Fresh.{ether_encap};
+ghost use Rattle.click_classes.specs.Acts.{encapsulated, passed, ether_header};
+ghost use Rattle.click_classes.specs.declared.state.State.{State};
+ghost use Rattle.click_classes.specs.kept.Headers.{header_of};
 
+use crate::acting::Fate;
 use crate::arguments::Arguments;
 use crate::fault::ArgFault;
 use crate::state::State;
 use crate::values::ethernet::ethernet;
 use crate::values::number::number_in;
+use click_packet::Packet;
 
 /// EtherEncap(TYPE, SOURCE, DESTINATION): puts an Ethernet header before packets.
 ///
@@ -33,4 +38,42 @@ pub fn make_ether_encap(arguments: &Arguments) -> Result<State, ArgFault>
         source,
         destination,
     })
+}
+
+/// The fourteen bytes of a header: destination, source, and the type with its high byte first.
+fn ether_header(ether_type: u16, source: [u8; 6], destination: [u8; 6]) -> [u8; 14]
+    ensures { result ≡ ether_header ether_type source destination }
+{
+    let to = destination.as_slice();
+    let from = source.as_slice();
+    let high = (ether_type / 256) as u8;
+    let low = (ether_type % 256) as u8;
+    [
+        to[0], to[1], to[2], to[3], to[4], to[5], from[0], from[1], from[2], from[3], from[4],
+        from[5], high, low,
+    ]
+}
+
+/// The header that an EtherEncap puts before packets; zeros of another element.
+pub fn header_of(state: &State) -> [u8; 14]
+    ensures { result ≡ header_of state.now }
+{
+    match state {
+        State::EtherEncap {
+            ether_type,
+            source,
+            destination,
+        } => ether_header(*ether_type, *source, *destination),
+        _ => [0; 14],
+    }
+}
+
+/// Puts a header before a packet; one that would be too long with it stays as it is and is dropped.
+pub fn encapsulate(header: &[u8], packet: &mut Packet) -> Fate
+    ensures { (state : State) → encapsulated state header.now packet.old ≡ passed state packet.new result }
+{
+    match packet.prepend(header) {
+        Ok(()) => Fate::Onward,
+        Err(_) => Fate::Dropped,
+    }
 }

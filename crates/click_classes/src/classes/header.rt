@@ -1,17 +1,21 @@
 //! Elements that look at the internet header.
 
-ghost use Rattle.std.specs.Prelude.{◌≡◌, ◌==◌, [], Ok, length, slice_index_or, if◌then◌else◌};
+ghost use Rattle.std.specs.Prelude.{◌≡◌, ◌==◌, [], Ok, length, slice_index_or, if◌then◌else◌, Option, Some};
 ghost use Rattle.click_classes.specs.Values.{address};
 ghost use Rattle.click_classes.specs.Fresh.{addresses, check_ip_header, without_arguments};
 ghost use Rattle.click_classes.specs.Made.{ByWords};
 ghost use Rattle.click_classes.specs.Steps.{each, OrNoMemory};
 ghost use Rattle.click_classes.specs.kept.Answers.{IsOrNoMemory};
+ghost use Rattle.click_classes.specs.Acts.{aged};
+ghost use Rattle.click_packet.specs.Header.{header_good, ttl};
 
+use crate::acting::Fate;
 use crate::arguments::Arguments;
 use crate::classes::plain::without_arguments;
 use crate::fault::ArgFault;
 use crate::state::State;
 use crate::values::address::address;
+use click_packet::Packet;
 use click_text::sequence::Sequence;
 use std::alloc::Global;
 
@@ -87,4 +91,28 @@ pub fn make_dec_ip_ttl(arguments: &Arguments) -> Result<State, ArgFault>
     ensures { result ≡ without_arguments State.DecIPTTL arguments.now }
 {
     without_arguments(State::DecIPTTL, arguments)
+}
+
+/// Where a packet goes after a CheckIPHeader: one whose header is bad goes aside.
+pub fn header_fate(refused: &Sequence<[u8; 4]>, packet: &Packet) -> Fate
+    ensures { result ≡ (if header_good packet.now.bytes refused.now then Fate.Onward else Fate.Aside) }
+{
+    if packet.header_good(refused.as_slice()) {
+        Fate::Onward
+    } else {
+        Fate::Aside
+    }
+}
+
+/// Takes one hop from a packet's time to live; one that has no hop left, or no header, stays as it is and goes aside.
+pub fn age(packet: &mut Packet) -> Fate
+    ensures { aged packet.old (ttl packet.old.bytes) ≡ record { state = State.DecIPTTL; packet = packet.new; fate = result } }
+{
+    match packet.ttl() {
+        Some(hops) if hops > 1 => {
+            let _set = packet.set_ttl(hops - 1);
+            Fate::Onward
+        }
+        Some(_) | None => Fate::Aside,
+    }
 }

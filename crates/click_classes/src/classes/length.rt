@@ -1,11 +1,13 @@
 //! Elements that change or test the length of packets.
 
-ghost use Rattle.std.specs.Prelude.{◌≡◌};
+ghost use Rattle.std.specs.Prelude.{◌≡◌, length, nat_le, if◌then◌else◌};
 ghost use Rattle.click_classes.specs.Fresh.{strip, check_length};
 
+use crate::acting::Fate;
 use crate::arguments::Arguments;
 use crate::fault::ArgFault;
 use crate::state::State;
+use click_packet::Packet;
 
 /// Strip(N): takes bytes off the front of packets.
 ///
@@ -40,4 +42,15 @@ pub fn make_check_length(arguments: &Arguments) -> Result<State, ArgFault>
 {
     let max = arguments.only_number(65_535)?;
     Ok(State::CheckLength { max: max as u16 })
+}
+
+/// Where a packet goes after a CheckLength: one that is too long goes aside.
+pub fn length_fate(max: u16, packet: &Packet) -> Fate
+    ensures { result ≡ (if nat_le (length packet.now.bytes) max then Fate.Onward else Fate.Aside) }
+{
+    if packet.bytes().len() <= usize::from(max) {
+        Fate::Onward
+    } else {
+        Fate::Aside
+    }
 }

@@ -3,11 +3,15 @@
 ghost use Rattle.click_classes.specs.Fresh.{static_ip_lookup};
 ghost use Rattle.click_classes.specs.Made.{ByWords};
 ghost use Rattle.click_classes.specs.Steps.{OrNoMemory};
+ghost use Rattle.std.specs.Prelude.{◌≡◌};
+ghost use Rattle.click_classes.specs.Routes.{route, covers, longer};
 
 use crate::arguments::Arguments;
 use crate::fault::ArgFault;
 use crate::state::State;
-use crate::values::entry::read_table;
+use crate::values::entry::{Entry, read_table};
+use crate::values::prefix::{Prefix, cleared};
+use click_text::sequence::Sequence;
 use std::alloc::Global;
 
 /// StaticIPLookup(ENTRY, ..): sends packets on by their destination.
@@ -30,4 +34,38 @@ pub fn make_static_ip_lookup(alloc: Global, arguments: &Arguments) -> Result<Sta
     let words = arguments.words(alloc)?;
     let entries = read_table(alloc, words.as_slice())?;
     Ok(State::StaticIPLookup { entries })
+}
+
+/// The address has the prefix.
+fn covers(prefix: Prefix, address: [u8; 4]) -> bool
+    ensures { result ≡ covers prefix address }
+{
+    cleared(prefix.len, address) == prefix.network
+}
+
+/// The entry with the longest prefix that the address has.
+pub fn route(entries: &Sequence<Entry>, address: [u8; 4]) -> Option<Entry>
+    ensures { result ≡ route entries.now address }
+{
+    let entries = entries.as_slice();
+    let mut found: Option<Entry> = None;
+    let mut at = entries.len();
+    while at > 0 {
+        at -= 1;
+        let entry = entries[at];
+        if covers(entry.prefix, address) {
+            found = Some(longer(entry, found));
+        }
+    }
+    found
+}
+
+/// Of two entries the one with the longer prefix, the first of two that are as long.
+fn longer(first: Entry, second: Option<Entry>) -> Entry
+    ensures { result ≡ longer first second }
+{
+    match second {
+        Some(second) if first.prefix.len < second.prefix.len => second,
+        Some(_) | None => first,
+    }
 }

@@ -1,11 +1,13 @@
 //! Elements that paint packets or look at the paint.
 
-ghost use Rattle.std.specs.Prelude.{◌≡◌};
+ghost use Rattle.std.specs.Prelude.{◌≡◌, ◌==◌, if◌then◌else◌};
 ghost use Rattle.click_classes.specs.Fresh.{paint, paint_tee};
 
+use crate::acting::Fate;
 use crate::arguments::Arguments;
 use crate::fault::ArgFault;
 use crate::state::State;
+use click_packet::Packet;
 
 /// Paint(COLOUR): paints packets.
 ///
@@ -42,4 +44,15 @@ pub fn make_paint_tee(arguments: &Arguments) -> Result<State, ArgFault>
     Ok(State::PaintTee {
         colour: colour as u8,
     })
+}
+
+/// Where a packet goes after a PaintTee: its copy goes too if it has the colour.
+pub fn paint_tee_fate(colour: u8, packet: &Packet) -> Fate
+    ensures { result ≡ (if packet.now.paint == colour then Fate.Copied else Fate.Onward) }
+{
+    if packet.paint() == colour {
+        Fate::Copied
+    } else {
+        Fate::Onward
+    }
 }

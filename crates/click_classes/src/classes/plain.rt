@@ -1,11 +1,13 @@
 //! Classes without arguments.
 
-ghost use Rattle.std.specs.Prelude.{◌≡◌};
+ghost use Rattle.std.specs.Prelude.{◌≡◌, length};
 ghost use Rattle.click_classes.specs.Fresh.{without_arguments};
+ghost use Rattle.click_classes.specs.Acts.{up_by};
 
 use crate::arguments::Arguments;
 use crate::fault::ArgFault;
 use crate::state::State;
+use click_packet::Packet;
 
 /// This state, where there is no argument.
 #[tactic(auto, unfolding(crate::specs::Fresh::without_arguments))]
@@ -121,4 +123,13 @@ pub fn make_pull_null(arguments: &Arguments) -> Result<State, ArgFault>
     ensures { result ≡ without_arguments State.PullNull arguments.now }
 {
     without_arguments(State::PullNull, arguments)
+}
+
+/// A packet passes a Counter.
+pub fn count_packet(count: &mut u64, byte_count: &mut u64, packet: &Packet)
+    ensures count { count.new ≡ up_by count.old 1 }
+    ensures byte_count { byte_count.new ≡ up_by byte_count.old (length packet.now.bytes) }
+{
+    *count = count.saturating_add(1);
+    *byte_count = byte_count.saturating_add(packet.bytes().len() as u64);
 }

@@ -1,14 +1,16 @@
 //! Queues.
 
-ghost use Rattle.std.specs.Prelude.{◌≡◌, ◌≤◌, [], Ok, IfOk};
+ghost use Rattle.std.specs.Prelude.{◌≡◌, ◌≤◌, [], Ok, IfOk, length};
 ghost use Rattle.click_classes.specs.Fresh.{capacity, queue, front_drop_queue};
 ghost use Rattle.click_classes.specs.kept.Answers.{IsOrNoMemory};
+ghost use Rattle.click_classes.specs.Acts.{queued, front_queued};
 
 use crate::arguments::Arguments;
 use crate::fault::ArgFault;
 use crate::packet_list::PacketList;
 use crate::state::State;
 use crate::values::number::number_in;
+use click_packet::Packet;
 use std::alloc::Global;
 
 /// How many packets there is room for.
@@ -79,4 +81,40 @@ pub fn make_front_drop_queue(alloc: Global, arguments: &Arguments) -> Result<Sta
         drops: 0,
         highest: 0,
     })
+}
+
+/// Stores a packet last; a full queue drops it.
+pub fn store(list: &mut PacketList, drops: &mut u64, highest: &mut usize, packet: &Packet)
+    ensures { queued list.old drops.old highest.old packet.now
+        ≡ record { state = State.Queue list.new drops.new highest.new; packet = packet.now; outputs = record { first = 0; count = 0 } } }
+{
+    if list.is_full() {
+        *drops = drops.saturating_add(1);
+        return;
+    }
+    list.push_back(packet);
+    *highest = list.len().max(*highest);
+}
+
+/// Stores a packet last; a full queue drops its first packet for it.
+pub fn store_for_the_first(
+    list: &mut PacketList,
+    drops: &mut u64,
+    highest: &mut usize,
+    packet: &Packet,
+)
+    ensures { front_queued list.old drops.old highest.old packet.now
+        ≡ record { state = State.FrontDropQueue list.new drops.new highest.new; packet = packet.now; outputs = record { first = 0; count = 0 } } }
+{
+    if !list.is_full() {
+        list.push_back(packet);
+        *highest = list.len().max(*highest);
+        return;
+    }
+    *drops = drops.saturating_add(1);
+    // A queue without room drops what comes.
+    if list.len() > 0 {
+        list.drop_front();
+        list.push_back(packet);
+    }
 }

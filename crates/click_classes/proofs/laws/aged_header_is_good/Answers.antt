@@ -1,0 +1,5 @@
+use Rattle.click_classes.proofs.Aging.{pass-good}
+use Rattle.click_classes.proofs.laws.aged_header_is_good.Goals as goal
+
+pub returns : goal.returns
+returns c = pass-good

@@ -1,0 +1,245 @@
+-- What an element does with a packet (Click element reference). `inputs` and `outputs` are how many ports the element has.
+use Rattle.std.specs.Prelude.{ℕ, ◌+◌, ◌-◌, ◌*◌, ◌/◌, ◌%◌, ◌^◌, ◌==◌, nat_le, nat_lt, min, max, Bool, true, false, List, [], ◌∷◌, ◌++◌, length, take, drop, position, slice_index, slice_index_or, Option, Some, None, if◌then◌else◌}
+use Rattle.std.specs.Str.{bytes_eq}
+use Rattle.click_packet.specs.Header.{header_good, ttl, with_ttl}
+use Rattle.click_packet.specs.Packet.{Packet}
+use Rattle.click_classes.specs.Matches.{matches}
+use Rattle.click_classes.specs.PacketList.{PacketList}
+use Rattle.click_classes.specs.Routes.{route}
+use Rattle.click_classes.specs.declared.acting.Fate.{Fate}
+use Rattle.click_classes.specs.declared.acting.Fate.TheVariants as fate
+use Rattle.click_classes.specs.declared.acting.PortRange.{PortRange}
+use Rattle.click_classes.specs.declared.state.State.{State}
+use Rattle.click_classes.specs.declared.state.State.TheVariants as state
+use Rattle.click_classes.specs.declared.values.entry.Entry.{Entry}
+use Rattle.click_classes.specs.declared.values.pattern.Pattern.{Pattern}
+
+-- a count of 64 bits, which stops at its top
+abbrev pub up_by : ℕ → ℕ → ℕ
+up_by n more = min (n + more) (2 ^ 64 - 1)
+
+-- the port after this one, round
+abbrev pub after : ℕ → ℕ → ℕ
+after ports port = if nat_lt (port + 1) ports then port + 1 else 0
+
+-- `count` ports from `first` on
+abbrev pub range : ℕ → ℕ → PortRange
+range first count = record { first = first; count = count }
+
+-- ---- packets that pass: through elements that do the same with what is pushed and with what is pulled
+
+-- the state and the packet after it, and where the packet goes
+pub record Passed : Type 0 where
+  pub state : State
+  pub packet : Packet
+  pub fate : Fate
+
+abbrev pub passed : State → Packet → Fate → Passed
+passed s p f = record { state = s; packet = p; fate = f }
+
+-- the four bytes from the offset on; 0.0.0.0 where the packet is shorter
+abbrev pub address_at : ℕ → List ℕ → List ℕ
+address_at offset bytes =
+    if nat_le (offset + 4) (length bytes)
+    then slice_index bytes offset ∷ slice_index bytes (offset + 1) ∷ slice_index bytes (offset + 2) ∷ slice_index bytes (offset + 3) ∷ []
+    else 0 ∷ 0 ∷ 0 ∷ 0 ∷ []
+
+-- one hop less to live; a packet without a header, or with none left, goes aside as it is (RFC 791, section 3.1)
+abbrev pub aged : Packet → Option ℕ → Passed
+aged p None = passed state.DecIPTTL p fate.Aside
+aged p (Some hops) =
+    if nat_le hops 1 then passed state.DecIPTTL p fate.Aside
+    else passed state.DecIPTTL (record p { bytes = with_ttl p.bytes (hops - 1) }) fate.Onward
+
+-- an Ethernet header: destination, source, and the type with its high byte first
+abbrev pub ether_header : ℕ → List ℕ → List ℕ → List ℕ
+ether_header ether_type source destination = destination ++ source ++ (ether_type / 256) ∷ (ether_type % 256) ∷ []
+
+-- a packet with a header before it; one that would have more than 1,600 bytes with it is dropped
+abbrev pub encapsulated : State → List ℕ → Packet → Passed
+encapsulated s header p =
+    if nat_le (length header + length p.bytes) 1600 then passed s (record p { bytes = header ++ p.bytes }) fate.Onward
+    else passed s p fate.Dropped
+
+unfoldable pub pass : State → Packet → Passed
+pass (state.Counter count byte_count) p = passed (state.Counter (up_by count 1) (up_by byte_count (length p.bytes))) p fate.Onward
+pass state.Null p = passed state.Null p fate.Onward
+pass state.PushNull p = passed state.PushNull p fate.Onward
+pass state.PullNull p = passed state.PullNull p fate.Onward
+pass (state.Paint colour) p = passed (state.Paint colour) (record p { paint = colour }) fate.Onward
+pass (state.PaintTee colour) p = passed (state.PaintTee colour) p (if p.paint == colour then fate.Copied else fate.Onward)
+pass (state.Strip count) p = passed (state.Strip count) (record p { bytes = drop count p.bytes }) fate.Onward
+pass (state.CheckLength most) p = passed (state.CheckLength most) p (if nat_le (length p.bytes) most then fate.Onward else fate.Aside)
+pass (state.GetIPAddress offset) p = passed (state.GetIPAddress offset) (record p { destination = address_at offset p.bytes }) fate.Onward
+pass (state.CheckIPHeader refused) p = passed (state.CheckIPHeader refused) p (if header_good p.bytes refused then fate.Onward else fate.Aside)
+pass state.DecIPTTL p = aged p (ttl p.bytes)
+pass (state.EtherEncap ether_type source destination) p =
+    encapsulated (state.EtherEncap ether_type source destination) (ether_header ether_type source destination) p
+-- through no other element packets pass so
+pass s p = passed s p fate.Dropped
+
+-- ---- a packet is pushed
+
+-- the state and the packet after it, and the outputs that get it, in order
+pub record Acted : Type 0 where
+  pub state : State
+  pub packet : Packet
+  pub outputs : PortRange
+
+abbrev pub sent : State → Packet → ℕ → ℕ → Acted
+sent s p first count = record { state = s; packet = p; outputs = range first count }
+
+abbrev pub kept : State → Packet → Acted
+kept s p = sent s p 0 0
+
+-- output 1, where it is there
+abbrev pub side_output : ℕ → PortRange
+side_output outputs = range 1 (if nat_lt 1 outputs then 1 else 0)
+
+-- output 0, and then output 1 where it is there
+abbrev pub both_outputs : ℕ → PortRange
+both_outputs outputs = range 0 (if nat_lt 1 outputs then 2 else 1)
+
+abbrev pub pushed_to : ℕ → Fate → PortRange
+pushed_to outputs fate.Onward = range 0 1
+pushed_to outputs fate.Copied = both_outputs outputs
+pushed_to outputs fate.Aside = side_output outputs
+pushed_to outputs fate.Dropped = range 0 0
+
+abbrev pub pushed : ℕ → Passed → Acted
+pushed outputs r = record { state = r.state; packet = r.packet; outputs = pushed_to outputs r.fate }
+
+-- a queue stores the packet last; when it is full it drops it and counts a drop
+abbrev pub queued : PacketList → ℕ → ℕ → Packet → Acted
+queued q drops highest p =
+    if length q.packets == q.capacity
+    then kept (state.Queue q (up_by drops 1) highest) p
+    else kept (state.Queue (record q { packets = q.packets ++ p ∷ [] }) drops (max (length q.packets + 1) highest)) p
+
+-- when it is full it drops the first and counts a drop, and then stores the packet last
+abbrev pub front_dropped : List Packet → PacketList → ℕ → ℕ → Packet → Acted
+front_dropped [] q drops highest p = kept (state.FrontDropQueue q (up_by drops 1) highest) p
+front_dropped (first ∷ rest) q drops highest p = kept (state.FrontDropQueue (record q { packets = rest ++ p ∷ [] }) (up_by drops 1) highest) p
+
+abbrev pub front_queued : PacketList → ℕ → ℕ → Packet → Acted
+front_queued q drops highest p =
+    if length q.packets == q.capacity
+    then front_dropped q.packets q drops highest p
+    else kept (state.FrontDropQueue (record q { packets = q.packets ++ p ∷ [] }) drops (max (length q.packets + 1) highest)) p
+
+-- to that output, or to none
+abbrev pub switched : State → Option ℕ → Packet → Acted
+switched s None p = kept s p
+switched s (Some output) p = sent s p output 1
+
+-- to the entry's output, with its gateway as the destination if it has one
+abbrev pub via : Packet → Option (List ℕ) → Packet
+via p None = p
+via p (Some gateway) = record p { destination = gateway }
+
+abbrev pub routed : State → Option Entry → Packet → Acted
+routed s None p = kept s p
+routed s (Some e) p = sent s (via p e.gateway) e.output 1
+
+-- port i of a Suppressor lets packets pass
+abbrev pub is_active : List Bool → ℕ → Bool
+is_active active port = slice_index_or active port false
+
+-- the output of the first pattern that matches, of 256 at most
+abbrev pub classified : List Pattern → List ℕ → Option ℕ
+classified patterns bytes = position (λ q. matches q bytes) (take 256 patterns)
+
+unfoldable pub act : ℕ → State → ℕ → Packet → Acted
+act outputs (state.Queue q drops highest) input p = queued q drops highest p
+act outputs (state.FrontDropQueue q drops highest) input p = front_queued q drops highest p
+act outputs (state.Switch output) input p = switched (state.Switch output) output p
+act outputs (state.RoundRobinSwitch next) input p = sent (state.RoundRobinSwitch (after outputs next)) p next 1
+act outputs (state.Tee n) input p = sent (state.Tee n) p 0 outputs
+act outputs (state.Suppressor active) input p = if is_active active input then sent (state.Suppressor active) p input 1 else kept (state.Suppressor active) p
+act outputs (state.Classifier patterns) input p = switched (state.Classifier patterns) (classified patterns p.bytes) p
+act outputs (state.StaticIPLookup entries) input p = routed (state.StaticIPLookup entries) (route entries p.destination) p
+-- it passes, or is dropped
+act outputs s input p = pushed outputs (pass s p)
+
+-- ---- a packet is pulled
+
+-- the inputs that a pull asks in order up to the first packet: `count` of them from `first` on, round
+unfoldable pub tries : ℕ → State → ℕ → PortRange
+tries inputs (state.PullSwitch None) output = range 0 0
+tries inputs (state.PullSwitch (Some input)) output = range input 1
+tries inputs (state.RoundRobinSched next) output = range next inputs
+tries inputs state.PrioSched output = range 0 inputs
+tries inputs (state.PullTee n) output = range 0 1
+tries inputs (state.Suppressor active) output = range output (if is_active active output then 1 else 0)
+tries inputs (state.Counter count byte_count) output = range 0 1
+tries inputs state.Null output = range 0 1
+tries inputs state.PullNull output = range 0 1
+tries inputs (state.Paint colour) output = range 0 1
+tries inputs (state.PaintTee colour) output = range 0 1
+tries inputs (state.Strip count) output = range 0 1
+tries inputs (state.CheckLength most) output = range 0 1
+tries inputs (state.GetIPAddress offset) output = range 0 1
+tries inputs (state.CheckIPHeader refused) output = range 0 1
+tries inputs state.DecIPTTL output = range 0 1
+tries inputs (state.EtherEncap ether_type source destination) output = range 0 1
+-- a queue gives what it has stored; nothing else has a pull output that gives
+tries inputs s output = range 0 0
+
+-- what an element gives out of itself: a packet, and its state after that
+pub record Stored : Type 0 where
+  pub packet : Packet
+  pub state : State
+
+abbrev pub first_of : List Packet → (List Packet → State) → Option Stored
+first_of [] with_rest = None
+first_of (p ∷ rest) with_rest = Some (record { packet = p; state = with_rest rest })
+
+unfoldable pub stored : State → Option Stored
+stored (state.Queue q drops highest) = first_of q.packets (λ rest. state.Queue (record q { packets = rest }) drops highest)
+stored (state.FrontDropQueue q drops highest) = first_of q.packets (λ rest. state.FrontDropQueue (record q { packets = rest }) drops highest)
+stored s = None
+
+-- a packet was pulled through an input: the state and the packet after it, the outputs that get copies first, and whether it is the answer
+pub record Gives : Type 0 where
+  pub state : State
+  pub packet : Packet
+  pub copies : PortRange
+  pub answers : Bool
+
+abbrev pub answered : State → Packet → Gives
+answered s p = record { state = s; packet = p; copies = range 0 0; answers = true }
+
+abbrev pub copied_to : ℕ → Fate → PortRange
+copied_to outputs fate.Onward = range 0 0
+copied_to outputs fate.Copied = side_output outputs
+copied_to outputs fate.Aside = side_output outputs
+copied_to outputs fate.Dropped = range 0 0
+
+abbrev pub is_answer : Fate → Bool
+is_answer fate.Onward = true
+is_answer fate.Copied = true
+is_answer fate.Aside = false
+is_answer fate.Dropped = false
+
+abbrev pub pulled : ℕ → Passed → Gives
+pulled outputs r = record { state = r.state; packet = r.packet; copies = copied_to outputs r.fate; answers = is_answer r.fate }
+
+unfoldable pub gives : ℕ → ℕ → State → ℕ → Packet → Gives
+gives inputs outputs (state.PullSwitch from) input p = answered (state.PullSwitch from) p
+gives inputs outputs (state.RoundRobinSched next) input p = answered (state.RoundRobinSched (after inputs input)) p
+gives inputs outputs state.PrioSched input p = answered state.PrioSched p
+gives inputs outputs (state.Suppressor active) input p = answered (state.Suppressor active) p
+gives inputs outputs (state.PullTee n) input p = record { state = state.PullTee n; packet = p; copies = range 1 (outputs - 1); answers = true }
+-- it passes, goes aside, or is dropped
+gives inputs outputs s input p = pulled outputs (pass s p)
+
+-- ---- devices
+
+-- a source, or a sink, of that device
+abbrev pub is_source : List ℕ → State → Bool
+is_source name (state.FromDevice device) = bytes_eq device name
+is_source name s = false
+
+abbrev pub is_sink : List ℕ → State → Bool
+is_sink name (state.ToDevice device) = bytes_eq device name
+is_sink name s = false

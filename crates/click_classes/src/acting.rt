@@ -1,0 +1,394 @@
+//! What an element does with a packet. What a class does stands in the class's own file; here are the lists of the classes.
+
+ghost use Rattle.std.specs.Prelude.{◌≡◌, MatchOption, true, false, nat_lt, if◌then◌else◌};
+ghost use Rattle.click_classes.specs.Acts.{after, range, side_output, pushed_to, copied_to, is_answer, is_active, pass, passed, act, sent, tries, stored, gives};
+
+use crate::classes::address::take_address;
+use crate::classes::classifier::classify;
+use crate::classes::encap::{encapsulate, header_of};
+use crate::classes::header::{age, header_fate};
+use crate::classes::length::length_fate;
+use crate::classes::lookup::route;
+use crate::classes::paint::paint_tee_fate;
+use crate::classes::plain::count_packet;
+use crate::classes::queues::{store, store_for_the_first};
+use crate::packet_list::PacketList;
+use crate::state::State;
+use click_packet::Packet;
+
+/// Consecutive ports: `count` of them from `first` on.
+#[derive(Clone, Copy, Debug, PartialEq, Eq)]
+pub struct PortRange {
+    pub first: u16,
+    pub count: u16,
+}
+
+/// Where a packet goes that passes an element.
+#[derive(Clone, Copy, Debug, PartialEq, Eq)]
+pub enum Fate {
+    /// To output 0.
+    Onward,
+    /// To output 0, and a copy of it to output 1 where that is there.
+    Copied,
+    /// To output 1 where that is there, else nowhere.
+    Aside,
+    /// Nowhere.
+    Dropped,
+}
+
+/// What becomes of a packet that was pulled: the outputs that get copies of it first, and whether it is the answer.
+#[derive(Clone, Copy, Debug, PartialEq, Eq)]
+pub struct Outcome {
+    pub copies: PortRange,
+    pub answers: bool,
+}
+
+const NONE: PortRange = PortRange { first: 0, count: 0 };
+
+/// The port after this one, round.
+pub fn after(ports: u16, port: u16) -> u16
+    ensures { result ≡ after ports port }
+{
+    if u32::from(port) + 1 < u32::from(ports) {
+        port + 1
+    } else {
+        0
+    }
+}
+
+/// Output 1, where it is there.
+fn side_output(outputs: u16) -> PortRange
+    ensures { result ≡ side_output outputs }
+{
+    PortRange {
+        first: 1,
+        count: if 1 < outputs { 1 } else { 0 },
+    }
+}
+
+/// The outputs that get a packet that was pushed.
+fn pushed_to(outputs: u16, fate: Fate) -> PortRange
+    ensures { result ≡ pushed_to outputs fate }
+{
+    match fate {
+        Fate::Onward => PortRange { first: 0, count: 1 },
+        Fate::Copied => PortRange {
+            first: 0,
+            count: if 1 < outputs { 2 } else { 1 },
+        },
+        Fate::Aside => side_output(outputs),
+        Fate::Dropped => NONE,
+    }
+}
+
+/// What becomes of a packet that was pulled.
+fn pulled(outputs: u16, fate: Fate) -> Outcome
+    ensures copies { result.copies ≡ copied_to outputs fate }
+    ensures answers { result.answers ≡ is_answer fate }
+{
+    match fate {
+        Fate::Onward => Outcome {
+            copies: NONE,
+            answers: true,
+        },
+        Fate::Copied => Outcome {
+            copies: side_output(outputs),
+            answers: true,
+        },
+        Fate::Aside => Outcome {
+            copies: side_output(outputs),
+            answers: false,
+        },
+        Fate::Dropped => Outcome {
+            copies: NONE,
+            answers: false,
+        },
+    }
+}
+
+/// Whether packets pass a Suppressor at this port.
+fn is_active(active: &[bool; 16], port: u16) -> bool
+    ensures { result ≡ is_active active.now port }
+{
+    usize::from(port) < 16 && active[usize::from(port)]
+}
+
+impl State {
+    /// A packet passes from one input to one output or two.
+    #[tactic(auto, unfolding(crate::specs::Acts::pass))]
+    fn pass(&mut self, packet: &mut Packet) -> Fate
+        ensures { pass self.old packet.old ≡ passed self.new packet.new result }
+    {
+        match self {
+            State::Counter { count, byte_count } => {
+                count_packet(count, byte_count, packet);
+                Fate::Onward
+            }
+            State::Null | State::PushNull | State::PullNull => Fate::Onward,
+            State::Paint { colour } => {
+                packet.set_paint(*colour);
+                Fate::Onward
+            }
+            State::PaintTee { colour } => paint_tee_fate(*colour, packet),
+            State::Strip { count } => {
+                packet.strip(usize::from(*count));
+                Fate::Onward
+            }
+            State::CheckLength { max } => length_fate(*max, packet),
+            State::GetIPAddress { offset } => {
+                take_address(*offset, packet);
+                Fate::Onward
+            }
+            State::CheckIPHeader { refused } => header_fate(refused, packet),
+            State::DecIPTTL => age(packet),
+            State::EtherEncap { .. } => encapsulate(&header_of(self), packet),
+            State::Queue { .. }
+            | State::FrontDropQueue { .. }
+            | State::Unqueue
+            | State::Switch { .. }
+            | State::PullSwitch { .. }
+            | State::RoundRobinSwitch { .. }
+            | State::RoundRobinSched { .. }
+            | State::PrioSched
+            | State::Tee { .. }
+            | State::PullTee { .. }
+            | State::Idle
+            | State::Discard
+            | State::Suppressor { .. }
+            | State::Classifier { .. }
+            | State::StaticIPLookup { .. }
+            | State::InfiniteSource { .. }
+            | State::FromDevice { .. }
+            | State::ToDevice { .. } => Fate::Dropped,
+        }
+    }
+
+    /// A packet is pushed into an input of an element with so many outputs: the outputs that get it, in order.
+    #[tactic(auto, unfolding(crate::specs::Acts::act))]
+    pub fn act(&mut self, outputs: u16, input: u16, packet: &mut Packet) -> PortRange
+        ensures { act outputs self.old input packet.old ≡ record { state = self.new; packet = packet.new; outputs = result } }
+    {
+        match self {
+            State::Queue {
+                list,
+                drops,
+                highest,
+            } => {
+                store(list, drops, highest, packet);
+                NONE
+            }
+            State::FrontDropQueue {
+                list,
+                drops,
+                highest,
+            } => {
+                store_for_the_first(list, drops, highest, packet);
+                NONE
+            }
+            State::Switch { output } => match output {
+                Some(output) => PortRange {
+                    first: u16::from(*output),
+                    count: 1,
+                },
+                None => NONE,
+            },
+            State::RoundRobinSwitch { next } => {
+                let first = *next;
+                *next = after(outputs, first);
+                PortRange { first, count: 1 }
+            }
+            State::Tee { .. } => PortRange {
+                first: 0,
+                count: outputs,
+            },
+            State::Suppressor { active } => {
+                if is_active(active, input) {
+                    PortRange {
+                        first: input,
+                        count: 1,
+                    }
+                } else {
+                    NONE
+                }
+            }
+            State::Classifier { patterns } => match classify(patterns, packet) {
+                Some(output) => PortRange {
+                    first: output as u16,
+                    count: 1,
+                },
+                None => NONE,
+            },
+            State::StaticIPLookup { entries } => match route(entries, packet.destination()) {
+                Some(entry) => {
+                    if let Some(gateway) = entry.gateway {
+                        packet.set_destination(gateway);
+                    }
+                    PortRange {
+                        first: u16::from(entry.output),
+                        count: 1,
+                    }
+                }
+                None => NONE,
+            },
+            State::Unqueue
+            | State::Counter { .. }
+            | State::PullSwitch { .. }
+            | State::RoundRobinSched { .. }
+            | State::PrioSched
+            | State::PullTee { .. }
+            | State::Idle
+            | State::Discard
+            | State::Null
+            | State::PushNull
+            | State::PullNull
+            | State::Paint { .. }
+            | State::PaintTee { .. }
+            | State::Strip { .. }
+            | State::CheckLength { .. }
+            | State::GetIPAddress { .. }
+            | State::CheckIPHeader { .. }
+            | State::DecIPTTL
+            | State::EtherEncap { .. }
+            | State::InfiniteSource { .. }
+            | State::FromDevice { .. }
+            | State::ToDevice { .. } => {
+                let fate = self.pass(packet);
+                pushed_to(outputs, fate)
+            }
+        }
+    }
+
+    /// The inputs that a pull at an output asks, in order, round, up to the first packet.
+    #[tactic(auto, unfolding(crate::specs::Acts::tries))]
+    pub fn tries(&self, inputs: u16, output: u16) -> PortRange
+        ensures { result ≡ tries inputs self.now output }
+    {
+        match self {
+            State::PullSwitch { input } => match input {
+                Some(input) => PortRange {
+                    first: u16::from(*input),
+                    count: 1,
+                },
+                None => NONE,
+            },
+            State::RoundRobinSched { next } => PortRange {
+                first: *next,
+                count: inputs,
+            },
+            State::PrioSched => PortRange {
+                first: 0,
+                count: inputs,
+            },
+            State::Suppressor { active } => PortRange {
+                first: output,
+                count: if is_active(active, output) { 1 } else { 0 },
+            },
+            State::PullTee { .. }
+            | State::Counter { .. }
+            | State::Null
+            | State::PullNull
+            | State::Paint { .. }
+            | State::PaintTee { .. }
+            | State::Strip { .. }
+            | State::CheckLength { .. }
+            | State::GetIPAddress { .. }
+            | State::CheckIPHeader { .. }
+            | State::DecIPTTL
+            | State::EtherEncap { .. } => PortRange { first: 0, count: 1 },
+            State::Queue { .. }
+            | State::FrontDropQueue { .. }
+            | State::Unqueue
+            | State::Switch { .. }
+            | State::RoundRobinSwitch { .. }
+            | State::Tee { .. }
+            | State::Idle
+            | State::Discard
+            | State::PushNull
+            | State::Classifier { .. }
+            | State::StaticIPLookup { .. }
+            | State::InfiniteSource { .. }
+            | State::FromDevice { .. }
+            | State::ToDevice { .. } => NONE,
+        }
+    }
+
+    /// Takes out what the element itself has stored, and makes `packet` equal to it; false, and without change, where there is nothing.
+    #[tactic(auto, unfolding(crate::specs::Acts::stored))]
+    pub fn take_stored(&mut self, packet: &mut Packet) -> bool
+        ensures { MatchOption (stored self.old) ((result ≡ false) × (self.new ≡ self.old) × (packet.new ≡ packet.old))
+            (λ s. (result ≡ true) × (s ≡ record { packet = packet.new; state = self.new })) }
+    {
+        match self {
+            State::Queue { list, .. } => {
+                if list.len() == 0 {
+                    return false;
+                }
+                list.pop_front(packet);
+                true
+            }
+            State::FrontDropQueue { list, .. } => {
+                if list.len() == 0 {
+                    return false;
+                }
+                list.pop_front(packet);
+                true
+            }
+            _ => false,
+        }
+    }
+
+    /// A packet was pulled through an input of an element with so many ports.
+    #[tactic(auto, unfolding(crate::specs::Acts::gives))]
+    pub fn gives(&mut self, inputs: u16, outputs: u16, input: u16, packet: &mut Packet) -> Outcome
+        ensures { gives inputs outputs self.old input packet.old
+            ≡ record { state = self.new; packet = packet.new; copies = result.copies; answers = result.answers } }
+    {
+        match self {
+            State::RoundRobinSched { next } => {
+                *next = after(inputs, input);
+                pulled(outputs, Fate::Onward)
+            }
+            State::PullSwitch { .. } | State::PrioSched | State::Suppressor { .. } => {
+                pulled(outputs, Fate::Onward)
+            }
+            State::PullTee { .. } => Outcome {
+                copies: PortRange {
+                    first: 1,
+                    count: outputs.saturating_sub(1),
+                },
+                answers: true,
+            },
+            State::Queue { .. }
+            | State::FrontDropQueue { .. }
+            | State::Unqueue
+            | State::Counter { .. }
+            | State::Switch { .. }
+            | State::RoundRobinSwitch { .. }
+            | State::Tee { .. }
+            | State::Idle
+            | State::Discard
+            | State::Null
+            | State::PushNull
+            | State::PullNull
+            | State::Paint { .. }
+            | State::PaintTee { .. }
+            | State::Strip { .. }
+            | State::CheckLength { .. }
+            | State::Classifier { .. }
+            | State::GetIPAddress { .. }
+            | State::StaticIPLookup { .. }
+            | State::CheckIPHeader { .. }
+            | State::DecIPTTL
+            | State::EtherEncap { .. }
+            | State::InfiniteSource { .. }
+            | State::FromDevice { .. }
+            | State::ToDevice { .. } => {
+                let fate = self.pass(packet);
+                pulled(outputs, fate)
+            }
+        }
+    }
+}
+
+#[cfg(test)]
+mod tests;
