@@ -23,12 +23,11 @@ abbrev pub HandsOn : Result ℕ Error → Result ℕ Failed → Type 0
 HandsOn (Ok n) result = result ≡ Ok n
 HandsOn (Err e) result = is_err result ≡ true
 
--- the same of a write, where taking none of some bytes is a failure too
-abbrev pub HandsOnSome : List ℕ → Result ℕ Error → Result ℕ Failed → Type 0
-HandsOnSome [] answer result = HandsOn answer result
-HandsOnSome (b ∷ bytes) (Ok zero) result = is_err result ≡ true
-HandsOnSome (b ∷ bytes) (Ok (suc n)) result = result ≡ Ok (suc n)
-HandsOnSome (b ∷ bytes) (Err e) result = is_err result ≡ true
+-- the same of a write, where taking none is a failure too
+abbrev pub HandsOnSome : Result ℕ Error → Result ℕ Failed → Type 0
+HandsOnSome (Ok zero) result = is_err result ≡ true
+HandsOnSome (Ok (suc n)) result = result ≡ Ok (suc n)
+HandsOnSome (Err e) result = is_err result ≡ true
 
 -- A read of a watched reader is just one read of its device, whose answer is handed on. After a failure, or past the reads that are counted, it fails
 -- and the device is left alone.
@@ -38,5 +37,5 @@ pub record ReadsOnce {D : Type 0} (reads : D → Result ℕ Error → List ℕ �
 
 -- A write of a watched writer is just one write of its device, whose answer is handed on. After a failure it fails and the device is left alone.
 pub record WritesOnce {D : Type 0} (writes : D → Result ℕ Error → List ℕ → D → Type 0) (old new : WatchedWriter D) (result : Result ℕ Failed) (bytes : List ℕ) : Type 0 where
-  pub asks : old.failed ≡ false → (answer : Result ℕ Error) × writes old.device answer bytes new.device × HandsOnSome bytes answer result
+  pub asks : old.failed ≡ false → (answer : Result ℕ Error) × writes old.device answer bytes new.device × HandsOnSome answer result
   pub leaves : old.failed ≡ true → (is_err result ≡ true) × (new.device ≡ old.device)

@@ -121,6 +121,7 @@ impl<D: InputDevice> Source for Reading<D> {
     ghost input = { λ reading. record { remaining = D.remaining reading.device; failed = reading.failed; reads = reading.reads } };
 
     fn read(&mut self, piece: &mut [u8]) -> Result<usize, Failed>
+        requires { 0 < length piece.old }
         ensures bound { IfOk result (λ n. n ≤ length piece.new) }
         ensures bytes { ReadConsumes (D.remaining self.old.device) (D.remaining self.new.device) result piece.new }
         ensures counted { OnOk result (self.new.reads ≡ self.old.reads + 1) }
@@ -171,8 +172,9 @@ impl<D: OutputDevice> Sink for Writing<D> {
     ghost output = { λ writing. record { contents = D.contents writing.device; failed = writing.failed } };
 
     fn write(&mut self, bytes: &[u8]) -> Result<usize, Failed>
+        requires { 0 < length bytes.now }
         ensures bound { IfOk result (λ n. n ≤ length bytes.now) }
-        ensures some { 0 < length bytes.now → IfOk result (λ n. 0 < n) }
+        ensures some { IfOk result (λ n. 0 < n) }
         ensures bytes { WriteAppends (D.contents self.old.device) (D.contents self.new.device) result bytes.now }
         ensures stays { self.old.failed ≡ true → is_err result ≡ true }
         ensures failed { self.new.failed ≡ (self.old.failed || is_err result) }
@@ -183,7 +185,7 @@ impl<D: OutputDevice> Sink for Writing<D> {
             return Err(Failed);
         }
         match self.device.write_once(bytes) {
-            Ok(n) if n > 0 || bytes.is_empty() => Ok(n),
+            Ok(n) if n > 0 => Ok(n),
             Ok(_) | Err(_) => {
                 self.failed = true;
                 Err(Failed)

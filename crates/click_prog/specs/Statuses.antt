@@ -1,5 +1,5 @@
 -- How the program ends.
-use Rattle.std.specs.Prelude.{◌≡◌, ℕ, List, false, Result, Ok, Err}
+use Rattle.std.specs.Prelude.{◌≡◌, ℕ, List, Option, false, Result, Ok, Err}
 use Rattle.std.specs.declared.io.ErrorKind.{ErrorKind}
 use Rattle.std.specs.declared.io.ErrorKind.TheVariants as io
 use Rattle.click_router.specs.declared.fault.FaultKind.{FaultKind}
@@ -50,12 +50,9 @@ pub record RunsTo (text : List ℕ) (had left : Input) (held holds : Output) (s 
   pub runs : Runs text had left held holds result
   pub is : s ≡ status_of result
 
--- There was a run over the text, with a reader and a writer that had neither read nor failed, and this is its status.
-pub record HasRun (text : List ℕ) (s : Status) : Type 0 where
-  pub had : Input
-  pub left : Input
-  pub held : Output
-  pub holds : Output
-  pub unread : (had.reads ≡ 0) × (had.failed ≡ false)
-  pub unwritten : held.failed ≡ false
-  pub runs : RunsTo text had left held holds s
+-- A reader that has neither read nor failed, and a writer that has not failed, with these bytes.
+abbrev pub fresh_input : Option (List ℕ) → Input
+fresh_input bytes = record { remaining = bytes; failed = false; reads = 0 }
+
+abbrev pub fresh_output : Option (List ℕ) → Output
+fresh_output bytes = record { contents = bytes; failed = false }

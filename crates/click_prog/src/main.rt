@@ -3,7 +3,7 @@
 
 ghost use Rattle.std.specs.Prelude.{◌≡◌, ◌++◌, ◌∷◌, [], OnOk, codes};
 ghost use Rattle.std.specs.Io.KnownBytes.{Appends};
-ghost use Rattle.click_prog.specs.Statuses.{HasRun, RunsTo, code, status_of, config_status, unread_status};
+ghost use Rattle.click_prog.specs.Statuses.{RunsTo, fresh_input, fresh_output, code, status_of, unread_status};
 
 mod arguments;
 mod run;
@@ -12,9 +12,10 @@ mod tests;
 
 use arguments::configuration;
 use clap::error::ErrorKind;
-use click_control::{Ended, Reading, ServeFault, Sink, Source, Writing};
+use click_control::{Ended, InputDevice, OutputDevice, Reading, ServeFault, Sink, Source, Writing};
 use click_router::{ConfigFault, FaultKind};
 use run::{RunFault, run};
+use std::alloc::Global;
 use std::io::Write;
 use std::process::ExitCode;
 use std::{env, io};
@@ -59,7 +60,11 @@ fn program(rt: &HostRuntime) -> Status {
         return Status::NoMemory;
     };
     match configuration(alloc, words.as_slice()) {
-        Ok(text) => session(rt, text.unwrap().as_bytes()),
+        Ok(text) => {
+            let bytes = text.unwrap().as_bytes();
+            let (status, _, _) = session(alloc, rt.stdin(), rt.stdout(), &mut rt.stderr(), bytes);
+            status
+        }
         Err(error) if error.kind() == ErrorKind::OutOfMemory => Status::NoMemory,
         Err(error) => {
             // A failed write changes nothing of the status.
@@ -81,35 +86,49 @@ fn unread(rt: &HostRuntime, kind: io::ErrorKind) -> Status
     Status::WrongArguments
 }
 
-/// Serves one session on standard input and output, over the router of the text.
-fn session(rt: &HostRuntime, text: &[u8]) -> Status
-    ensures { HasRun text.now result }
+/// Serves one session that reads from this device and writes to that one, over the router of the text. The devices come back as the
+/// session left them.
+fn session<I: InputDevice, O: OutputDevice, E: Write>(
+    alloc: Global,
+    input: I,
+    output: O,
+    errors: &mut E,
+    text: &[u8],
+) -> (Status, Reading<I>, Writing<O>)
+    ensures { RunsTo text.now (fresh_input (I.remaining input)) (⟦<Reading<I> as Source>⟧.input result.1)
+        (fresh_output (O.contents output)) (⟦<Writing<O> as Sink>⟧.output result.2) result.0 }
 {
-    let mut reader = Reading::new(rt.stdin());
-    let mut writer = Writing::new(rt.stdout());
-    serve_text(rt, &mut reader, &mut writer, text)
+    let mut reader = Reading::new(input);
+    let mut writer = Writing::new(output);
+    let status = serve_text(alloc, &mut reader, &mut writer, errors, text);
+    (status, reader, writer)
 }
 
-/// Serves one session with this reader and this writer, over the router of the text.
-fn serve_text<R: Source, W: Sink>(
-    rt: &HostRuntime,
+/// Serves one session with this reader and this writer, over the router of the text. Why a text is refused is written to `errors`.
+fn serve_text<R: Source, W: Sink, E: Write>(
+    alloc: Global,
     reader: &mut R,
     writer: &mut W,
+    errors: &mut E,
     text: &[u8],
 ) -> Status
     ensures { RunsTo text.now (R.input reader.old) (R.input reader.new) (W.output writer.old) (W.output writer.new) result }
 {
-    let ended = run(rt.alloc(), reader, writer, text, false);
-    status_of(rt, &ended)
+    let ended = run(alloc, reader, writer, text, false);
+    if let Err(RunFault::Config(fault)) = &ended {
+        refuse(alloc, errors, fault);
+    }
+    status_of(&ended)
 }
 
-/// The status of a run; the fault of a configuration is told.
-fn status_of(rt: &HostRuntime, ended: &Result<Ended, RunFault>) -> Status
+/// The status of a run.
+fn status_of(ended: &Result<Ended, RunFault>) -> Status
     ensures { result ≡ status_of ended.now }
 {
     match ended {
         Ok(_) => Status::Good,
-        Err(RunFault::Config(fault)) => refused(rt, fault),
+        Err(RunFault::Config(fault)) if fault.kind == FaultKind::NoMemory => Status::NoMemory,
+        Err(RunFault::Config(_)) => Status::FaultyConfiguration,
         Err(RunFault::Serve(ServeFault::NoMemory)) => Status::NoMemory,
         Err(RunFault::Serve(ServeFault::ReadFailed | ServeFault::WriteFailed)) => {
             Status::DeviceFailed
@@ -117,19 +136,16 @@ fn status_of(rt: &HostRuntime, ended: &Result<Ended, RunFault>) -> Status
     }
 }
 
-/// Tells why a configuration is refused.
-fn refused(rt: &HostRuntime, fault: &ConfigFault) -> Status
-    ensures { result ≡ config_status fault.now.kind }
-{
+/// Writes why a configuration is refused; nothing where memory ran out.
+fn refuse<E: Write>(alloc: Global, errors: &mut E, fault: &ConfigFault) {
     if fault.kind == FaultKind::NoMemory {
-        return Status::NoMemory;
+        return;
     }
     // A failed write changes nothing of the status.
-    let _ = match fault.text(rt.alloc()) {
-        Ok(text) => told(&mut rt.stderr(), text.as_slice()),
-        Err(_) => told(&mut rt.stderr(), b"faulty configuration"),
+    let _ = match fault.text(alloc) {
+        Ok(text) => told(errors, text.as_slice()),
+        Err(_) => told(errors, b"faulty configuration"),
     };
-    Status::FaultyConfiguration
 }
 
 /// Writes a fault as a line of the program's.
