@@ -1,5 +1,5 @@
 -- What an element does with a packet (Click element reference). `inputs` and `outputs` are how many ports the element has.
-use Rattle.std.specs.Prelude.{ℕ, ◌+◌, ◌-◌, ◌*◌, ◌/◌, ◌%◌, ◌^◌, ◌==◌, nat_le, nat_lt, min, max, Bool, true, false, List, [], ◌∷◌, ◌++◌, length, take, drop, position, slice_index, slice_index_or, Option, Some, None, if◌then◌else◌}
+use Rattle.std.specs.Prelude.{ℕ, ◌+◌, ◌-◌, ◌/◌, ◌%◌, ◌^◌, ◌==◌, nat_le, nat_lt, min, max, Bool, true, false, List, [], ◌∷◌, ◌++◌, length, take, drop, position, slice_index, slice_index_or, Option, Some, None, if◌then◌else◌}
 use Rattle.std.specs.Str.{bytes_eq}
 use Rattle.click_packet.specs.Header.{header_good, ttl, with_ttl}
 use Rattle.click_packet.specs.Packet.{Packet}
@@ -26,7 +26,7 @@ after ports port = if nat_lt (port + 1) ports then port + 1 else 0
 abbrev pub range : ℕ → ℕ → PortRange
 range first count = record { first = first; count = count }
 
--- ---- packets that pass: through elements that do the same with what is pushed and with what is pulled
+-- ---- packets that pass an element, which does the same with a packet that is pushed and with one that was pulled
 
 -- the state and the packet after it, and where the packet goes
 pub record Passed : Type 0 where
@@ -34,6 +34,7 @@ pub record Passed : Type 0 where
   pub packet : Packet
   pub fate : Fate
 
+-- such a result
 abbrev pub passed : State → Packet → Fate → Passed
 passed s p f = record { state = s; packet = p; fate = f }
 
@@ -44,7 +45,7 @@ address_at offset bytes =
     then slice_index bytes offset ∷ slice_index bytes (offset + 1) ∷ slice_index bytes (offset + 2) ∷ slice_index bytes (offset + 3) ∷ []
     else 0 ∷ 0 ∷ 0 ∷ 0 ∷ []
 
--- one hop less to live; a packet without a header, or with none left, goes aside as it is (RFC 791, section 3.1)
+-- a time to live less by one; a packet without a header, or with a time to live of 0 or 1, goes aside as it is (RFC 791, section 3.1)
 abbrev pub aged : Packet → Option ℕ → Passed
 aged p None = passed state.DecIPTTL p fate.Aside
 aged p (Some hops) =
@@ -75,7 +76,7 @@ pass (state.CheckIPHeader refused) p = passed (state.CheckIPHeader refused) p (i
 pass state.DecIPTTL p = aged p (ttl p.bytes)
 pass (state.EtherEncap ether_type source destination) p =
     encapsulated (state.EtherEncap ether_type source destination) (ether_header ether_type source destination) p
--- through no other element packets pass so
+-- no other element passes packets so; what is pushed to an Idle or a Discard is dropped
 pass s p = passed s p fate.Dropped
 
 -- ---- a packet is pushed
@@ -86,11 +87,13 @@ pub record Acted : Type 0 where
   pub packet : Packet
   pub outputs : PortRange
 
+-- to `count` outputs from `first` on
 abbrev pub sent : State → Packet → ℕ → ℕ → Acted
 sent s p first count = record { state = s; packet = p; outputs = range first count }
 
-abbrev pub kept : State → Packet → Acted
-kept s p = sent s p 0 0
+-- to no output: it was stored or dropped
+abbrev pub to_none : State → Packet → Acted
+to_none s p = sent s p 0 0
 
 -- output 1, where it is there
 abbrev pub side_output : ℕ → PortRange
@@ -100,6 +103,7 @@ side_output outputs = range 1 (if nat_lt 1 outputs then 1 else 0)
 abbrev pub both_outputs : ℕ → PortRange
 both_outputs outputs = range 0 (if nat_lt 1 outputs then 2 else 1)
 
+-- the outputs that get a packet with this fate when it is pushed
 abbrev pub pushed_to : ℕ → Fate → PortRange
 pushed_to outputs fate.Onward = range 0 1
 pushed_to outputs fate.Copied = both_outputs outputs
@@ -113,23 +117,24 @@ pushed outputs r = record { state = r.state; packet = r.packet; outputs = pushed
 abbrev pub queued : PacketList → ℕ → ℕ → Packet → Acted
 queued q drops highest p =
     if length q.packets == q.capacity
-    then kept (state.Queue q (up_by drops 1) highest) p
-    else kept (state.Queue (record q { packets = q.packets ++ p ∷ [] }) drops (max (length q.packets + 1) highest)) p
+    then to_none (state.Queue q (up_by drops 1) highest) p
+    else to_none (state.Queue (record q { packets = q.packets ++ p ∷ [] }) drops (max (length q.packets + 1) highest)) p
 
--- when it is full it drops the first and counts a drop, and then stores the packet last
+-- a full FrontDropQueue drops its first packet, counts a drop, and stores the packet last; without room for any it drops what comes
 abbrev pub front_dropped : List Packet → PacketList → ℕ → ℕ → Packet → Acted
-front_dropped [] q drops highest p = kept (state.FrontDropQueue q (up_by drops 1) highest) p
-front_dropped (first ∷ rest) q drops highest p = kept (state.FrontDropQueue (record q { packets = rest ++ p ∷ [] }) (up_by drops 1) highest) p
+front_dropped [] q drops highest p = to_none (state.FrontDropQueue q (up_by drops 1) highest) p
+front_dropped (first ∷ rest) q drops highest p = to_none (state.FrontDropQueue (record q { packets = rest ++ p ∷ [] }) (up_by drops 1) highest) p
 
+-- a FrontDropQueue stores the packet last; when it is full it drops its first for it
 abbrev pub front_queued : PacketList → ℕ → ℕ → Packet → Acted
 front_queued q drops highest p =
     if length q.packets == q.capacity
     then front_dropped q.packets q drops highest p
-    else kept (state.FrontDropQueue (record q { packets = q.packets ++ p ∷ [] }) drops (max (length q.packets + 1) highest)) p
+    else to_none (state.FrontDropQueue (record q { packets = q.packets ++ p ∷ [] }) drops (max (length q.packets + 1) highest)) p
 
 -- to that output, or to none
 abbrev pub switched : State → Option ℕ → Packet → Acted
-switched s None p = kept s p
+switched s None p = to_none s p
 switched s (Some output) p = sent s p output 1
 
 -- to the entry's output, with its gateway as the destination if it has one
@@ -137,15 +142,16 @@ abbrev pub via : Packet → Option (List ℕ) → Packet
 via p None = p
 via p (Some gateway) = record p { destination = gateway }
 
+-- to the output of the entry that was found, or to none
 abbrev pub routed : State → Option Entry → Packet → Acted
-routed s None p = kept s p
+routed s None p = to_none s p
 routed s (Some e) p = sent s (via p e.gateway) e.output 1
 
--- port i of a Suppressor lets packets pass
+-- a Suppressor lets packets pass at this port
 abbrev pub is_active : List Bool → ℕ → Bool
 is_active active port = slice_index_or active port false
 
--- the output of the first pattern that matches, of 256 at most
+-- the output of the first pattern that matches; there are 256 patterns at most
 abbrev pub classified : List Pattern → List ℕ → Option ℕ
 classified patterns bytes = position (λ q. matches q bytes) (take 256 patterns)
 
@@ -155,7 +161,7 @@ act outputs (state.FrontDropQueue q drops highest) input p = front_queued q drop
 act outputs (state.Switch output) input p = switched (state.Switch output) output p
 act outputs (state.RoundRobinSwitch next) input p = sent (state.RoundRobinSwitch (after outputs next)) p next 1
 act outputs (state.Tee n) input p = sent (state.Tee n) p 0 outputs
-act outputs (state.Suppressor active) input p = if is_active active input then sent (state.Suppressor active) p input 1 else kept (state.Suppressor active) p
+act outputs (state.Suppressor active) input p = if is_active active input then sent (state.Suppressor active) p input 1 else to_none (state.Suppressor active) p
 act outputs (state.Classifier patterns) input p = switched (state.Classifier patterns) (classified patterns p.bytes) p
 act outputs (state.StaticIPLookup entries) input p = routed (state.StaticIPLookup entries) (route entries p.destination) p
 -- it passes, or is dropped
@@ -163,7 +169,8 @@ act outputs s input p = pushed outputs (pass s p)
 
 -- ---- a packet is pulled
 
--- the inputs that a pull asks in order up to the first packet: `count` of them from `first` on, round
+-- the inputs that a pull asks in order up to the first packet, fixed as the pull begins: `count` of them from `first` on, and from 0 on after the
+-- last of `inputs`
 unfoldable pub tries : ℕ → State → ℕ → PortRange
 tries inputs (state.PullSwitch None) output = range 0 0
 tries inputs (state.PullSwitch (Some input)) output = range input 1
@@ -182,7 +189,7 @@ tries inputs (state.GetIPAddress offset) output = range 0 1
 tries inputs (state.CheckIPHeader refused) output = range 0 1
 tries inputs state.DecIPTTL output = range 0 1
 tries inputs (state.EtherEncap ether_type source destination) output = range 0 1
--- a queue gives what it has stored; nothing else has a pull output that gives
+-- a queue gives what it has stored, and an Idle nothing; no other class has a pull output
 tries inputs s output = range 0 0
 
 -- what an element gives out of itself: a packet, and its state after that
@@ -199,16 +206,18 @@ stored (state.Queue q drops highest) = first_of q.packets (λ rest. state.Queue 
 stored (state.FrontDropQueue q drops highest) = first_of q.packets (λ rest. state.FrontDropQueue (record q { packets = rest }) drops highest)
 stored s = None
 
--- a packet was pulled through an input: the state and the packet after it, the outputs that get copies first, and whether it is the answer
+-- a packet was pulled through an input: the state and the packet after it, the outputs that get it first, and whether it is then the answer
 pub record Gives : Type 0 where
   pub state : State
   pub packet : Packet
   pub copies : PortRange
   pub answers : Bool
 
+-- just the answer
 abbrev pub answered : State → Packet → Gives
 answered s p = record { state = s; packet = p; copies = range 0 0; answers = true }
 
+-- the outputs that get a packet with this fate when it was pulled, and whether it is the answer
 abbrev pub copied_to : ℕ → Fate → PortRange
 copied_to outputs fate.Onward = range 0 0
 copied_to outputs fate.Copied = side_output outputs

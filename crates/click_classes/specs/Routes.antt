@@ -16,11 +16,11 @@ pub record IsRoute (es : List Entry) (a : List ℕ) (e : Entry) : Type 0 where
   pub covers : Covers e.prefix a
   pub longest : (k : ℕ) (f : Entry) → slice_get es k ≡ Some f → Covers f.prefix a → f.prefix.len ≤ e.prefix.len
 
--- the test of that
+-- the test of whether an address has a prefix
 abbrev pub covers : Prefix → List ℕ → Bool
 covers p a = bytes_eq (cleared p.len a) p.network
 
--- of two entries the one with the longer prefix
+-- of two entries the one with the longer prefix, the first of two that are as long
 abbrev pub longer : Entry → Option Entry → Entry
 longer e None = e
 longer e (Some f) = if nat_lt e.prefix.len f.prefix.len then f else e

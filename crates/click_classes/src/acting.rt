@@ -16,7 +16,7 @@ use crate::packet_list::PacketList;
 use crate::state::State;
 use click_packet::Packet;
 
-/// Consecutive ports: `count` of them from `first` on.
+/// Consecutive ports: `count` of them from `first` on. A range of inputs goes on from 0 after the last.
 #[derive(Clone, Copy, Debug, PartialEq, Eq)]
 pub struct PortRange {
     pub first: u16,
@@ -30,7 +30,7 @@ pub enum Fate {
     Onward,
     /// To output 0, and a copy of it to output 1 where that is there.
     Copied,
-    /// To output 1 where that is there, else nowhere.
+    /// To output 1 where that is there, else nowhere; a pull of such a packet has no answer.
     Aside,
     /// Nowhere.
     Dropped,

@@ -104,7 +104,7 @@ pub fn header_fate(refused: &Sequence<[u8; 4]>, packet: &Packet) -> Fate
     }
 }
 
-/// Takes one hop from a packet's time to live; one that has no hop left, or no header, stays as it is and goes aside.
+/// Makes a packet's time to live less by one; a packet with a time to live of 0 or 1, or without a header, stays as it is and goes aside.
 pub fn age(packet: &mut Packet) -> Fate
     ensures { aged packet.old (ttl packet.old.bytes) ≡ record { state = State.DecIPTTL; packet = packet.new; fate = result } }
 {
