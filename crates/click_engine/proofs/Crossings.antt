@@ -1,0 +1,114 @@
+-- What a push or a pull over one connection tells.
+use Rattle.std.proofs.Common.{◌≡◌, ℕ, ◌-◌, ◌<◌, inr, refl, sym, ap, ◌∙◌, Option, Some, None, Bool, true, false, if◌then◌else◌, MatchOption, arith}
+use Rattle.click_packet.specs.Packet.{Packet}
+use Rattle.click_classes.specs.Acts.{stored, Stored}
+use Rattle.click_classes.specs.declared.acting.PortRange.{PortRange}
+use Rattle.click_classes.specs.declared.acting.PortRange.{PortRange}
+use Rattle.click_engine.specs.declared.world.Port.{Port}
+use Rattle.click_engine.specs.World.{Wiring, World, element_at, with_state, tries_at, spent, overrun, Acts}
+use Rattle.click_engine.specs.Run.{push, sent, Pulled, nothing, Answers}
+use Rattle.click_engine.specs.kept.Hops.{Pushed, Reached}
+use Rattle.click_engine.specs.declared.machine.Sender.{Sender}
+use Rattle.click_engine.specs.declared.hops.Reply.{Reply}
+use Rattle.click_engine.proofs.Steps.{push-none, push-unconnected, push-made, pull-none, pull-unconnected, pull-asks, pull-held, stored-no, spread-zero}
+
+pub answers_whole : (r : Pulled) (w : World) (got : Bool) (p : Packet) → Answers r w got p → ◌≡◌ {A = Pulled} (record { world = w; packet = if got then Some p else None }) r
+answers_whole r w got p a = rw (a.world, ← a.answer) refl
+
+module _ (net : Wiring) (w v : World) (at o : ℕ) where
+  pub pushed_none : (p : Packet) (s : Sender) → w.left ≡ 0 → v ≡ overrun w → s.count ≡ 0 → Pushed net w v at o p s
+  pushed_none p s h e c =
+      let left = ap (λ (u : World). u.left) e in
+      record {
+        made = spread-zero (λ u x. push net v.left u s.at x s.packet) s.count s.first v c ∙ e ∙ sym (push-none net w at o w.left p (inr h));
+        fewer = omega arith;
+        one = omega arith;
+        spends = λ k. omega arith;
+        few = omega arith;
+      }
+
+  pub pushed_unconnected : (p : Packet) (s : Sender) → 0 < w.left → net.target at o ≡ None → v ≡ spent w → s.count ≡ 0 → Pushed net w v at o p s
+  pushed_unconnected p s h t e c =
+      let left = ap (λ (u : World). u.left) e in
+      record {
+        made = spread-zero (λ u x. push net v.left u s.at x s.packet) s.count s.first v c ∙ e ∙ sym (push-unconnected net w at o w.left (w.left - 1) p (omega arith) h t);
+        fewer = omega arith;
+        one = omega arith;
+        spends = λ k. omega arith;
+        few = omega arith;
+      }
+
+  pub pushed_far : (p : Packet) (s : Sender) (far : Port) (w1 : World) (to : PortRange) → 0 < w.left → net.target at o ≡ Some far → w1 ≡ spent w
+      → Acts w1 v far.element far.port p s.packet to → s.at ≡ far.element → s.first ≡ to.first → s.count ≡ to.count → to.count < 65536 → Pushed net w v at o p s
+  pushed_far p s far w1 to h t e acts at_is first_is count_is few =
+      let one_less = ap (λ (u : World). u.left) e in
+      let kept = ap (λ (u : World). u.left) acts.world in
+      let left : v.left ≡ w.left - 1 = omega arith in
+      record {
+        made =
+            rw (at_is, first_is, count_is) (
+            ap (λ d. sent net d far.element s.packet to.count to.first v) left
+            ∙ push-made net w at o w.left (w.left - 1) p s.packet far w1 v (sent net (w.left - 1) far.element s.packet to.count to.first v) to (omega arith) h t e acts refl);
+        fewer = omega arith;
+        one = omega arith;
+        spends = λ k. omega arith;
+        few = omega arith;
+      }
+
+  pub reached_none : (p : Packet) (r : Reply) → w.left ≡ 0 → v ≡ overrun w → r.held ≡ false → r.count ≡ 0 → Reached net w v at o p r
+  reached_none p r h e held c =
+      let left = ap (λ (u : World). u.left) e in
+      record {
+        made = rw (held, c) (ap nothing e ∙ sym (pull-none net w at o w.left (inr h)));
+        fewer = omega arith;
+        one = omega arith;
+        spends = λ k. omega arith;
+        few = omega arith;
+        alone = λ k. held;
+      }
+
+  pub reached_unconnected : (p : Packet) (r : Reply) → 0 < w.left → net.source at o ≡ None → v ≡ spent w → r.held ≡ false → r.count ≡ 0 → Reached net w v at o p r
+  reached_unconnected p r h t e held c =
+      let left = ap (λ (u : World). u.left) e in
+      record {
+        made = rw (held, c) (ap nothing e ∙ sym (pull-unconnected net w at o w.left (w.left - 1) (omega arith) h t));
+        fewer = omega arith;
+        one = omega arith;
+        spends = λ k. omega arith;
+        few = omega arith;
+        alone = λ k. held;
+      }
+
+  module _ (p : Packet) (r : Reply) (far : Port) (w1 : World) (h : 0 < w.left) (t : net.source at o ≡ Some far) (e : w1 ≡ spent w) where
+    pub reached_held : MatchOption (stored (element_at w1 far.element).state) ((true ≡ false) × (v ≡ w1)) (λ s. (true ≡ true) × (s.packet ≡ p) × (v ≡ with_state w1 far.element s.state))
+        → (left : v.left ≡ w.left - 1) → r.held ≡ true → r.count ≡ 0 → Reached net w v at o p r
+    reached_held m left held c =
+        record {
+          made = rw held (answers_whole _ v true p (pull-held net w at o w.left (w.left - 1) far (omega arith) h t w1 v p e m));
+          fewer = omega arith;
+          one = omega arith;
+          spends = λ k. omega arith;
+          few = omega arith;
+          alone = λ k. absurd (omega arith);
+        }
+
+    pub reached_asks : (t' : PortRange) → t'.count < 65536 → MatchOption (stored (element_at w1 far.element).state) ((false ≡ false) × (v ≡ w1)) (λ s. (false ≡ true) × (s.packet ≡ p) × (v ≡ with_state w1 far.element s.state))
+        → r.held ≡ false → r.at ≡ far.element → r.inputs ≡ (element_at v far.element).inputs → t' ≡ tries_at v far.element far.port → r.count ≡ t'.count → r.first ≡ t'.first → Reached net w v at o p r
+    reached_asks t' few_are m held at_is inputs_are tries_are count_is first_is =
+        let found = stored-no _ far.element (spent w) v p (rw e at m) in
+        let less : v.left ≡ w.left - 1 = ap (λ (u : World). u.left) found.1 in
+        record {
+          made =
+              rw (held, at_is, inputs_are, count_is, first_is, tries_are, found.1) (sym (pull-asks net w at o w.left (w.left - 1) far (omega arith) h t found.0));
+          fewer = omega arith;
+          one = omega arith;
+          spends = λ k. omega arith;
+          few = omega arith;
+          alone = λ k. held;
+        }
+
+-- what an element gave out of itself changes no crossings
+pub stored-left : (o : Option Stored) (at : ℕ) (w v : World) (p : Packet) (held : Bool)
+    → MatchOption o ((held ≡ false) × (v ≡ w)) (λ s. (held ≡ true) × (s.packet ≡ p) × (v ≡ with_state w at s.state)) → v.left ≡ w.left
+stored-left None at w v p held h = ap (λ (u : World). u.left) h.1
+stored-left (Some s) at w v p held h = ap (λ (u : World). u.left) h.2

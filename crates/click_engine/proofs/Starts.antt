@@ -1,0 +1,56 @@
+-- The first frame of a run, and what the whole run made.
+use Rattle.std.proofs.Common.{◌≡◌, ℕ, ◌<◌, ◌≤◌, refl, sym, ap, ◌∙◌, Bool, false, Option, Some, None, IfSome, List, [], ◌∷◌, ◌++◌, length, take, set, get_or, arith}
+use Rattle.click_packet.specs.Packet.{Packet}
+use Rattle.click_engine.specs.World.{Wiring, World}
+use Rattle.click_engine.specs.Run.{push, pull, Pulled}
+use Rattle.click_engine.specs.Frames.{Sends, Pulls, Machine, complete}
+use Rattle.click_engine.specs.kept.Slots.{frames_of, last_of}
+use Rattle.click_engine.specs.declared.machine.Sender.{Sender}
+use Rattle.click_engine.specs.declared.machine.Ask.{Ask}
+use Rattle.click_engine.specs.declared.machine.Ask.TheVariants.{Pull}
+use Rattle.click_engine.proofs.Turns.{machine, left_with}
+use Rattle.click_engine.proofs.Slack.{push-slack}
+use Rattle.click_engine.proofs.Slot_lists.{no_asks, no_senders, one_send, some_packet, last-none}
+
+module _ (old : Machine) (d : ℕ) (xs : List Sender) (ys : List Ask) (got : Bool) (r : ℕ)
+    (view : machine (frames_of (take d xs) ys) (last_of got xs) r ≡ old) (done : old.frames ≡ []) where
+  empty : frames_of (take d xs) ys ≡ []
+  empty = ap (λ (m : Machine). m.frames) view ∙ done
+
+  same_room : r ≡ old.room
+  same_room = ap (λ (m : Machine). m.room) view
+
+  pub started_push : 0 < length xs → (s : Sender) (at : ℕ) (p : Packet) → s.at ≡ at → s.first ≡ 0 → s.count ≡ 1 → s.packet ≡ p
+      → machine (frames_of (take 1 (set xs 0 s)) ys) (last_of false (set xs 0 s)) r ≡ machine (Sends at 0 1 p ∷ []) None old.room
+  started_push first s at p at_is first_is count_is packet_is =
+      let frames : frames_of (take 1 (set xs 0 s)) ys ≡ Sends at 0 1 p ∷ [] =
+      one_send xs s ys first ∙ rw (at_is, first_is, count_is, packet_is, no_asks (take d xs) ys empty) refl in
+      rw (frames, last-none (set xs 0 s), same_room) refl
+
+  pub started_answer : 0 < length xs → (u : Sender) → u ≡ get_or xs 0 u → (s : Sender) (at : ℕ) → s.at ≡ at → s.first ≡ 0 → s.count ≡ 1 → s.packet ≡ u.packet
+      → IfSome old.last (λ p. machine (frames_of (take 1 (set xs 0 s)) ys) (last_of false (set xs 0 s)) r ≡ machine (Sends at 0 1 p ∷ []) None old.room)
+  started_answer first u there s at at_is first_is count_is packet_is = go old.last (ap (λ (m : Machine). m.last) view)
+    where
+      go : (o : Option Packet) → last_of got xs ≡ o → IfSome o (λ p. machine (frames_of (take 1 (set xs 0 s)) ys) (last_of false (set xs 0 s)) r ≡ machine (Sends at 0 1 p ∷ []) None old.room)
+      go None e = tt
+      go (Some p) e = started_push first s at p at_is first_is count_is (packet_is ∙ some_packet got xs u p first there e)
+
+  pub started_pull : d ≤ length xs → (zs : List Ask) (at : ℕ) → zs ≡ ys ++ Pull at 0 ∷ []
+      → machine (frames_of (take d xs) zs) (last_of false xs) r ≡ machine (Pulls at 0 ∷ []) None old.room
+  started_pull inside zs at e =
+      let none = no_asks (take d xs) ys empty in
+      let zero = no_senders d xs ys inside empty in
+      let frames : frames_of (take d xs) zs ≡ Pulls at 0 ∷ [] = rw (e, none, zero) refl in
+      rw (frames, last-none xs, same_room) refl
+
+module _ (net : Wiring) (w v : World) (m : Machine) (a : Option Packet) (r at : ℕ) where
+  pub ran_push : (p : Packet) → m ≡ machine (Sends at 0 1 p ∷ []) None r → complete net w m ≡ left_with v a → v ≡ push net w.left w at 0 p
+  ran_push p e f = let g : left_with (push net w.left w at 0 p) None ≡ left_with v a = rw e at f in sym (ap (λ (u : Pulled). u.world) g)
+
+  pub ran_pull : m ≡ machine (Pulls at 0 ∷ []) None r → complete net w m ≡ left_with v a → pull net w.left w at 0 ≡ left_with v a
+  ran_pull e f = rw e at f
+
+  pub ran_answer : (o : Option Packet) → IfSome o (λ p. m ≡ machine (Sends at 0 1 p ∷ []) None r) → complete net w m ≡ left_with v a
+      → (d : ℕ) → w.left ≤ d → IfSome o (λ p. v ≡ push net d w at 0 p)
+  ran_answer None h f d k = tt
+  ran_answer (Some p) h f d k = ran_push p h f ∙ push-slack net w.left d w at 0 p (omega arith) k

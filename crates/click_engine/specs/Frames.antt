@@ -1,0 +1,82 @@
+-- The frames of a run: pushes and pulls that are under way, the top first, and what they make.
+use Rattle.std.specs.Prelude.{◌≡◌, ℕ, ◌+◌, ◌-◌, ◌*◌, ◌<◌, ◌≤◌, List, [], ◌∷◌, length, Bool, true, false, Option, Some, None}
+use Rattle.click_packet.specs.Packet.{Packet}
+use Rattle.click_classes.specs.Acts.{after}
+use Rattle.click_engine.specs.World.{Wiring, World}
+use Rattle.click_engine.specs.Run.{sent, pull, asked, given, Pulled}
+
+pub data Frame : Type 0 where
+  -- `count` outputs of the element `at`, from `first` on, are still to get the packet
+  Sends : (at first count : ℕ) (packet : Packet) → Frame
+  -- an input of the element `at` is still to be asked, and what it gives is the answer
+  Pulls : (at input : ℕ) → Frame
+  -- the element `at` asked its input `back` last, and asks `count` more from `input` on, round, up to the first packet
+  Asks : (at inputs count input back : ℕ) → Frame
+
+-- the frames, the top first; what the last pull answered; and how many frames there is room for
+pub record Machine : Type 0 where
+  pub frames : List Frame
+  pub last : Option Packet
+  pub room : ℕ
+
+-- what a frame makes of what the frames above it left: a world, and what the last pull answered
+abbrev pub resume : Wiring → Frame → Pulled → Pulled
+resume net (Sends at first count p) r = record { world = sent net r.world.left at p count first r.world; packet = r.packet }
+resume net (Pulls at input) r = pull net r.world.left r.world at input
+resume net (Asks at inputs count input back) r = elim r.packet [
+  | None ↦ asked net r.world.left at inputs count input r.world
+  | Some p ↦ given net r.world.left at r.world back p
+]
+
+-- what all frames make in turn, the top first
+abbrev pub finish : Wiring → List Frame → Pulled → Pulled
+finish net [] r = r
+finish net (f ∷ below) r = finish net below (resume net f r)
+
+abbrev pub complete : Wiring → World → Machine → Pulled
+complete net w m = finish net m.frames (record { world = w; packet = m.last })
+
+-- a frame with one output or input less to go
+abbrev pub moved_on : Frame → Frame
+moved_on (Sends at first count p) = Sends at (first + 1) (count - 1) p
+moved_on (Pulls at input) = Pulls at input
+moved_on (Asks at inputs count input back) = Asks at inputs (count - 1) (after inputs input) input
+
+-- a frame has one step left at most, by what the last pull answered
+abbrev pub AtLast : Option Packet → Frame → Type 0
+AtLast last (Sends at first count p) = count ≤ 1
+AtLast last (Pulls at input) = Unit {0}
+AtLast None (Asks at inputs count input back) = count ≤ 0
+AtLast (Some p) (Asks at inputs count input back) = Unit {0}
+
+-- the top frame moves on by one step, or it does and one is begun above it; or at its last step it ends, or another takes its place
+pub data Turned (old new : Machine) : Type 0 where
+  ended : (f : Frame) (below : List Frame) → old.frames ≡ f ∷ below → AtLast old.last f → new.frames ≡ below → Turned old new
+  handed_on : (f g : Frame) (below : List Frame) → old.frames ≡ f ∷ below → AtLast old.last f → new.frames ≡ g ∷ below → Turned old new
+  moved : (f : Frame) (below : List Frame) → old.frames ≡ f ∷ below → new.frames ≡ moved_on f ∷ below → Turned old new
+  begun : (f g : Frame) (below : List Frame) → old.frames ≡ f ∷ below → new.frames ≡ g ∷ moved_on f ∷ below → Turned old new
+
+-- what a frame has still to do is at most 2^17, and each crossing begins one frame at most
+abbrev pub weight : Frame → ℕ
+weight (Sends at first count p) = count + 1
+weight (Pulls at input) = 1
+weight (Asks at inputs count input back) = count + 65537
+
+abbrev pub to_do : ℕ → List Frame → ℕ
+to_do left [] = 131072 * left
+to_do left (f ∷ below) = weight f + to_do left below
+
+-- whether a push is on top
+abbrev pub sends_first : List Frame → Bool
+sends_first (Sends at first count p ∷ below) = true
+sends_first fs = false
+
+-- one turn
+pub record IsTurn (net : Wiring) (w : World) (old : Machine) (v : World) (new : Machine) : Type 0 where
+  pub keeps : complete net v new ≡ complete net w old
+  pub step : Turned old new
+  pub fewer : v.left ≤ w.left
+  pub one : w.left ≤ v.left + 1
+  pub room : new.room ≡ old.room
+  pub fits : length new.frames + v.left ≤ new.room
+  pub falls : to_do v.left new.frames < to_do w.left old.frames

@@ -1,0 +1,7 @@
+pub mod Frames
+pub mod Plant
+pub mod Rounds
+pub mod Run
+pub mod Wires
+pub mod World
+pub mod kept

@@ -1,0 +1,84 @@
+-- Runs and rounds.
+use Rattle.std.specs.Prelude.{ℕ, zero, suc, ◌+◌, List, Option, Some, None, length, position, slice_index_or}
+use Rattle.click_packet.specs.Packet.{Packet}
+use Rattle.click_classes.specs.Acts.{is_source, is_sink}
+use Rattle.click_classes.specs.declared.state.State.{State}
+use Rattle.click_classes.specs.declared.state.State.TheVariants.{Unqueue, Discard}
+use Rattle.click_engine.specs.Plant.{most_crossings}
+use Rattle.click_engine.specs.declared.world.Element.{Element}
+use Rattle.click_engine.specs.World.{blank}
+use Rattle.click_engine.specs.Run.{push, pull, Pulled}
+use Rattle.click_engine.specs.Plant.{Plant, wiring, begin, end}
+
+-- the first source, or the first sink, of a device in flat order
+abbrev pub source_of : Plant → List ℕ → Option ℕ
+source_of v device = position (λ (e : Element). is_source device e.state) v.elements
+
+abbrev pub sink_of : Plant → List ℕ → Option ℕ
+sink_of v device = position (λ (e : Element). is_sink device e.state) v.elements
+
+-- one run: a packet leaves the element by its output 0
+abbrev pub emitted : Plant → ℕ → Packet → Plant
+emitted v at p = end v (push (wiring v) most_crossings (begin most_crossings v) at 0 p)
+
+-- one run: the element asks its input 0
+abbrev pub asks : Plant → ℕ → Pulled
+asks v at = pull (wiring v) most_crossings (begin most_crossings v) at 0
+
+-- a packet enters from a device
+abbrev pub arrive : Plant → List ℕ → Packet → Plant
+arrive v device p = elim (source_of v device) [ None ↦ v | Some at ↦ emitted v at p ]
+
+-- what a device takes, and the plant after it
+abbrev pub transmit : Plant → List ℕ → Plant
+transmit v device = elim (sink_of v device) [ None ↦ v | Some at ↦ end v (asks v at).world ]
+
+abbrev pub transmitted : Plant → List ℕ → Option Packet
+transmitted v device = elim (sink_of v device) [ None ↦ None | Some at ↦ (asks v at).packet ]
+
+-- a plant and a number of packets
+pub record Worked : Type 0 where
+  pub plant : Plant
+  pub packets : ℕ
+
+abbrev pub idle : Plant → Worked
+idle v = record { plant = v; packets = 0 }
+
+-- an Unqueue asks, and pushes what it got in the same run
+abbrev pub unqueued : Plant → ℕ → Worked
+unqueued v at =
+    let r = asks v at in
+    elim r.packet [
+      | None ↦ record { plant = end v r.world; packets = 0 }
+      | Some p ↦ record { plant = end v (push (wiring v) most_crossings r.world at 0 p); packets = 1 }
+    ]
+
+-- a Discard with a pull input asks
+abbrev pub discarded : Plant → ℕ → Worked
+discarded v at = elim ((wiring v).source at 0) [
+  | None ↦ idle v
+  | Some far ↦
+      let r = asks v at in
+      elim r.packet [ None ↦ record { plant = end v r.world; packets = 0 } | Some p ↦ record { plant = end v r.world; packets = 1 } ]
+]
+
+-- the task at an element
+abbrev pub task_of : State → Plant → ℕ → Worked
+task_of Unqueue v at = unqueued v at
+task_of Discard v at = discarded v at
+task_of s v at = idle v
+
+abbrev pub task : Plant → ℕ → Worked
+task v at = task_of (slice_index_or v.elements at blank).state v at
+
+-- the tasks of `count` elements from `at` on, in flat order
+unfoldable pub tasks : ℕ → ℕ → Plant → Worked
+tasks zero at v = idle v
+tasks (suc count) at v =
+    let done = task v at in
+    let rest = tasks count (at + 1) done.plant in
+    record { plant = rest.plant; packets = done.packets + rest.packets }
+
+-- one round: each task once
+abbrev pub round : Plant → Worked
+round v = tasks (length v.elements) 0 v

@@ -1,0 +1,92 @@
+-- Pushes and pulls, by recursion on the crossings left.
+--
+-- `left` is the number of crossings that the run has left. `depth` bounds how deep a push or pull nests: each level
+-- spends a crossing, so a depth of at least `left` never comes into play.
+use Rattle.std.specs.Prelude.{◌≡◌, ℕ, zero, suc, ◌+◌, Bool, Option, Some, None, if◌then◌else◌, ◌==◌}
+use Rattle.click_packet.specs.Packet.{Packet}
+use Rattle.click_classes.specs.Acts.{after}
+use Rattle.click_classes.specs.Acts.{tries, stored}
+use Rattle.click_engine.specs.World.{Wiring, World, element_at, with_state, acted_at, given_at, spent, overrun}
+
+-- what a pull leaves and answers
+pub record Pulled : Type 0 where
+  pub world : World
+  pub packet : Option Packet
+
+abbrev pub nothing : World → Pulled
+nothing w = record { world = w; packet = None }
+
+-- `count` outputs from `first` on get the packet in order, each in the world that the one before left
+abbrev pub spread : (World → ℕ → World) → ℕ → ℕ → World → World
+spread push_at zero first w = w
+spread push_at (suc count) first w = spread push_at count (first + 1) (push_at w first)
+
+-- a packet p was pulled through `input` of the element `at`: copies go out first, then it is the answer
+abbrev pub give : (World → ℕ → Packet → World) → World → ℕ → ℕ → Packet → Pulled
+give push_at w at input p =
+    let g = given_at w at input p in
+    record {
+      world = spread (λ v output. push_at v output g.packet) g.copies.count g.copies.first (with_state w at g.state);
+      packet = if g.answers then Some g.packet else None;
+    }
+
+-- `count` inputs from `input` on, round, are asked in order up to the first packet
+abbrev pub ask : (World → ℕ → Pulled) → (World → ℕ → Packet → Pulled) → ℕ → ℕ → ℕ → World → Pulled
+ask pull_at give_at inputs zero input w = nothing w
+ask pull_at give_at inputs (suc count) input w =
+    let r = pull_at w input in
+    elim r.packet [
+      | None ↦ ask pull_at give_at inputs count (after inputs input) r.world
+      | Some p ↦ give_at r.world input p
+    ]
+
+module _ (net : Wiring) where
+  -- a packet is pushed over the connection at an output
+  unfoldable pub push : ℕ → World → ℕ → ℕ → Packet → World
+  push zero w at output p = overrun w
+  push (suc depth) w at output p =
+      if w.left == 0 then overrun w
+      else elim (net.target at output) [
+        | None ↦ spent w
+        | Some far ↦
+            let a = acted_at (spent w) far.element far.port p in
+            spread (λ v o. push depth v far.element o a.packet) a.outputs.count a.outputs.first (with_state (spent w) far.element a.state)
+      ]
+
+  -- a packet is pulled over the connection at an input
+  unfoldable pub pull : ℕ → World → ℕ → ℕ → Pulled
+  pull zero w at input = nothing (overrun w)
+  pull (suc depth) w at input =
+      if w.left == 0 then nothing (overrun w)
+      else elim (net.source at input) [
+        | None ↦ nothing (spent w)
+        | Some far ↦
+            let e = element_at (spent w) far.element in
+            let t = tries e.inputs e.state far.port in
+            elim (stored e.state) [
+              | Some s ↦ record { world = with_state (spent w) far.element s.state; packet = Some s.packet }
+              | None ↦
+                  ask
+                  (λ v i. pull depth v far.element i)
+                  (λ v i p. give (λ u o q. push depth u far.element o q) v far.element i p)
+                  e.inputs
+                  t.count
+                  t.first
+                  (spent w)
+            ]
+      ]
+
+  -- the parts of a step, by the depth that is left below it
+  abbrev pub sent : ℕ → ℕ → Packet → ℕ → ℕ → World → World
+  sent depth at p count first w = spread (λ v o. push depth v at o p) count first w
+
+  abbrev pub given : ℕ → ℕ → World → ℕ → Packet → Pulled
+  given depth at w input p = give (λ u o q. push depth u at o q) w at input p
+
+  abbrev pub asked : ℕ → ℕ → ℕ → ℕ → ℕ → World → Pulled
+  asked depth at inputs count input w = ask (λ v i. pull depth v at i) (λ v i p. given depth at v i p) inputs count input w
+
+-- a pull left this world, and its yes or no is whether `packet` is the answer
+pub record Answers (r : Pulled) (w : World) (yes : Bool) (packet : Packet) : Type 0 where
+  pub world : w ≡ r.world
+  pub answer : r.packet ≡ (if yes then Some packet else None)

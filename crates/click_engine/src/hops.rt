@@ -1,0 +1,105 @@
+//! One push or pull over a connection.
+ghost use Rattle.std.specs.Prelude.{◌≡◌, ℕ, ◌<◌, ◌≤◌, MatchOption, IfSome, None, Some, true, false};
+ghost use Rattle.click_engine.specs.Wires.{world_of, wiring_of};
+ghost use Rattle.click_engine.specs.kept.Hops.{Pushed, Reached};
+
+use crate::machine::Sender;
+use crate::world::{Wires, Work};
+use click_packet::Packet;
+
+/// What a pull led to: an answer, or inputs of an element that are asked in turn.
+#[derive(Clone, Copy)]
+pub struct Reply {
+    pub held: bool,
+    pub at: usize,
+    pub inputs: u16,
+    pub count: u16,
+    pub first: u16,
+}
+
+/// Pushes the packet of `sender` over the connection at an output, and leaves in `sender` what goes on from there.
+#[inline(always)]
+pub(crate) fn push_over(
+    wires: &Wires,
+    work: &mut Work,
+    at: usize,
+    output: usize,
+    sender: &mut Sender,
+)
+    ensures { Pushed (wiring_of wires.now) (world_of work.old) (world_of work.new) at output sender.old.packet sender.new }
+{
+    if work.left == 0 {
+        work.overrun();
+        sender.count = 0;
+        return;
+    }
+    work.spend();
+    let Some(far) = wires.target(at, output) else {
+        sender.count = 0;
+        return;
+    };
+    let outputs = work.act(far.element, far.port, &mut sender.packet);
+    sender.at = far.element;
+    sender.first = outputs.first as usize;
+    sender.count = outputs.count as usize;
+}
+
+/// The same, for a copy.
+#[inline(never)]
+pub(crate) fn push_copy_over(
+    wires: &Wires,
+    work: &mut Work,
+    at: usize,
+    output: usize,
+    sender: &mut Sender,
+)
+    ensures { Pushed (wiring_of wires.now) (world_of work.old) (world_of work.new) at output sender.old.packet sender.new }
+{
+    push_over(wires, work, at, output, sender);
+}
+
+/// Pulls over the connection at an input. Where it is answered, `packet` is the answer.
+#[inline(always)]
+pub(crate) fn pull_over(
+    wires: &Wires,
+    work: &mut Work,
+    at: usize,
+    input: usize,
+    packet: &mut Packet,
+) -> Reply
+    ensures { Reached (wiring_of wires.now) (world_of work.old) (world_of work.new) at input packet.new result }
+{
+    let none = Reply {
+        held: false,
+        at: 0,
+        inputs: 0,
+        count: 0,
+        first: 0,
+    };
+    if work.left == 0 {
+        work.overrun();
+        return none;
+    }
+    work.spend();
+    let Some(far) = wires.source(at, input) else {
+        return none;
+    };
+    let held = work.take_stored(far.element, packet);
+    if held {
+        return Reply {
+            held,
+            at: 0,
+            inputs: 0,
+            count: 0,
+            first: 0,
+        };
+    }
+    let tries = work.tries(far.element, far.port);
+    Reply {
+        held,
+        at: far.element,
+        inputs: work.inputs(far.element),
+        count: tries.count,
+        first: tries.first,
+    }
+}

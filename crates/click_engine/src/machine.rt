@@ -1,0 +1,255 @@
+//! The pushes and pulls of a run that are under way: frames whose slots are written in place.
+ghost use Rattle.std.specs.Prelude.{◌≡◌, ℕ, ◌+◌, ◌-◌, ◌<◌, ◌≤◌, ◌^◌, List, [], ◌∷◌, ◌++◌, length};
+
+use crate::hops::{Reply, pull_over, push_copy_over, push_over};
+use crate::slots::{copy_up, tries};
+use crate::world::{Wires, Work};
+use click_classes::after;
+use click_packet::Packet;
+use std::alloc::{AllocError, Global};
+use std::marker::Model;
+
+/// The outputs of an element that are still to get a packet.
+#[derive(Drop)]
+pub struct Sender {
+    pub first: usize,
+    pub at: usize,
+    pub count: usize,
+    pub packet: Packet,
+    ghost small: { first + count < 2 ^ 32 },
+}
+
+/// A pull that waits for its answer.
+#[derive(Clone, Copy)]
+pub enum Ask {
+    /// An input is still to be asked, and what it gives is the answer.
+    Pull {
+        at: usize,
+        input: usize,
+    },
+    /// An element asked its input `back` last, and `count` more wait, from `input` on.
+    Tries {
+        at: usize,
+        inputs: u16,
+        count: u16,
+        input: u16,
+        back: u16,
+    },
+}
+
+/// Frames with their room. The pushes stand above the pulls, and an answer lies in the first push's slot.
+#[derive(Drop)]
+pub struct Machine {
+    senders: Vec<Sender>,
+    sending: usize,
+    asks: Vec<Ask>,
+    answered: bool,
+    room: usize,
+}
+
+impl Model for Machine {
+    ghost use Rattle.std.specs.Prelude.{◌≤◌, ◌<◌, vec_len, vec_capacity, take};
+    ghost use Rattle.click_engine.specs.Frames.{Machine as Seen};
+
+    ghost Value = { Seen };
+
+    ghost use Rattle.click_engine.specs.kept.Slots.{frames_of, last_of};
+
+    ghost view = { λ m. record {
+      frames = frames_of (take m.sending m.senders.items) m.asks.items;
+      last = last_of m.answered m.senders.items;
+      room = m.room;
+    } };
+
+    ghost invariant = { λ m. (m.sending ≤ vec_len m.senders) × (0 < vec_len m.senders) × (m.room < vec_capacity m.senders)
+        × (m.room ≤ vec_capacity m.asks) };
+}
+
+impl Machine {
+    ghost use Rattle.std.specs.Prelude.{◌≡◌, ℕ, ◌+◌, ◌-◌, ◌<◌, ◌≤◌, ◌^◌, List, [], ◌∷◌, ◌++◌, length, IfOk, IfSome, IsSome, IsTrue, ◌↔◌, None, Some, true, false};
+    ghost use Rattle.click_engine.specs.Frames.{Frame, Sends, Pulls, IsTurn, sends_first};
+    ghost use Rattle.click_engine.specs.Wires.{world_of, wiring_of};
+
+    /// No frames, with room for so many.
+    pub fn with_room(alloc: Global, room: usize) -> Result<Machine, AllocError>
+        requires { room < 2 ^ 62 }
+        ensures { IfOk result (λ m. m ≡ record { frames = []; last = None; room = room }) }
+    {
+        let mut senders = Vec::with_capacity(alloc, room + 1)?;
+        senders.push(Sender {
+            at: 0,
+            first: 0,
+            count: 0,
+            packet: Packet::empty(),
+        })?;
+        Ok(Machine {
+            senders,
+            sending: 0,
+            asks: Vec::with_capacity(alloc, room)?,
+            answered: false,
+            room,
+        })
+    }
+
+    /// Whether a push is on top.
+    pub(crate) fn is_sending(&self) -> bool
+        ensures { result ≡ sends_first self.now.frames }
+    {
+        self.sending > 0
+    }
+
+    /// Whether there is no frame.
+    pub(crate) fn is_done(&self) -> bool
+        ensures { IsTrue result ↔ (self.now.frames ≡ []) }
+    {
+        if self.sending > 0 {
+            return false;
+        }
+        self.asks.is_empty()
+    }
+
+    /// The last pull's answer.
+    pub(crate) fn answer(&self) -> Option<Packet>
+        ensures { result ≡ self.now.last }
+    {
+        if self.answered {
+            Some(self.senders[0].packet.copy())
+        } else {
+            None
+        }
+    }
+
+    /// Whether the last pull was answered.
+    pub(crate) fn is_answered(&self) -> bool
+        ensures { IsTrue result ↔ IsSome self.now.last }
+    {
+        self.answered
+    }
+
+    /// Begins with a push of `packet` at output 0 of an element.
+    pub(crate) fn start_push(&mut self, at: usize, packet: &Packet)
+        requires { self.old.frames ≡ [] }
+        ensures { self.new ≡ record { frames = Sends at 0 1 packet.now ∷ []; last = None; room = self.old.room } }
+    {
+        let sender = &mut self.senders[0];
+        sender.at = at;
+        sender.first = 0;
+        sender.count = 1;
+        sender.packet.copy_from(packet);
+        self.sending = 1;
+        self.answered = false;
+    }
+
+    /// Begins with a push of the last pull's answer at output 0 of an element.
+    pub(crate) fn start_push_answer(&mut self, at: usize)
+        requires done { self.old.frames ≡ [] }
+        ensures { IfSome self.old.last (λ p. self.new ≡ record { frames = Sends at 0 1 p ∷ []; last = None; room = self.old.room }) }
+    {
+        let sender = &mut self.senders[0];
+        sender.at = at;
+        sender.first = 0;
+        sender.count = 1;
+        self.sending = 1;
+        self.answered = false;
+    }
+
+    /// Begins with a pull at input 0 of an element.
+    pub(crate) fn start_pull(&mut self, at: usize)
+        requires done { self.old.frames ≡ [] }
+        requires room { 0 < self.old.room }
+        ensures { self.new ≡ record { frames = Pulls at 0 ∷ []; last = None; room = self.old.room } }
+    {
+        self.answered = false;
+        let _made = self.asks.push(Ask::Pull { at, input: 0 });
+    }
+
+    /// One turn where a push is on top.
+    pub(crate) fn turn_push(&mut self, wires: &Wires, work: &mut Work)
+        requires some { sends_first self.old.frames ≡ true }
+        requires room { length self.old.frames + work.old.left ≤ self.old.room }
+        ensures { IsTurn (wiring_of wires.now) (world_of work.old) self.old (world_of work.new) self.new }
+    {
+        let top = self.sending - 1;
+        let sender = &mut self.senders[top];
+        let at = sender.at;
+        let output = sender.first;
+        if sender.count == 1 && (!self.answered || top > 0) {
+            // The last output takes the slot itself.
+            push_over(wires, work, at, output, sender);
+            if sender.count > 0 {
+                return;
+            }
+            self.sending = top;
+            return;
+        }
+        if sender.count == 0 {
+            self.sending = top;
+            return;
+        }
+        sender.first += 1;
+        sender.count -= 1;
+        copy_up(&mut self.senders, top);
+        let above = &mut self.senders[top + 1];
+        push_copy_over(wires, work, at, output, above);
+        if above.count > 0 {
+            self.sending = top + 2;
+        }
+    }
+    /// One turn where no push is on top.
+    pub(crate) fn turn_pull(&mut self, wires: &Wires, work: &mut Work)
+        requires none { sends_first self.old.frames ≡ false }
+        requires some { 0 < length self.old.frames }
+        requires room { length self.old.frames + work.old.left ≤ self.old.room }
+        ensures { IsTurn (wiring_of wires.now) (world_of work.old) self.old (world_of work.new) self.new }
+    {
+        let top = self.asks.len() - 1;
+        match self.asks[top] {
+            Ask::Pull { at, input } => {
+                let sender = &mut self.senders[0];
+                let reply = pull_over(wires, work, at, input, &mut sender.packet);
+                self.answered = reply.held;
+                if reply.count > 0 {
+                    self.asks[top] = tries(reply);
+                } else {
+                    self.asks.truncate(top);
+                }
+            }
+            Ask::Tries {
+                at,
+                inputs,
+                count,
+                input,
+                back,
+            } => {
+                if self.answered {
+                    let sender = &mut self.senders[0];
+                    let given = work.gives(at, back, &mut sender.packet);
+                    self.answered = given.answers;
+                    self.asks.truncate(top);
+                    if given.copies.count > 0 {
+                        sender.at = at;
+                        sender.first = given.copies.first as usize;
+                        sender.count = given.copies.count as usize;
+                        self.sending = 1;
+                    }
+                } else if count == 0 {
+                    self.asks.truncate(top);
+                } else {
+                    let sender = &mut self.senders[0];
+                    let reply = pull_over(wires, work, at, input as usize, &mut sender.packet);
+                    self.answered = reply.held;
+                    self.asks[top] = Ask::Tries {
+                        at,
+                        inputs,
+                        count: count - 1,
+                        input: after(inputs, input),
+                        back: input,
+                    };
+                    if reply.count > 0 {
+                        let _made = self.asks.push(tries(reply));
+                    }
+                }
+            }
+        }
+    }
+}

@@ -1,0 +1,243 @@
+//! A plant: the elements of a net, and the runs of packets through them.
+ghost use Rattle.std.specs.Prelude.{◌≡◌, ℕ, ◌<◌, ◌≤◌, ◌+◌, IfOk};
+ghost use Rattle.click_engine.specs.Plant.{Plant as Seen};
+ghost use Rattle.click_classes.specs.Acts.{is_source, is_sink};
+
+use crate::machine::Machine;
+use crate::runs::{pull_packet, push_answer, push_packet};
+use crate::world::{Element, Wires, Work};
+use click_classes::State;
+use click_packet::Packet;
+use std::alloc::{AllocError, Global};
+use std::marker::Model;
+use std::mem;
+
+/// The most crossings of one run.
+pub const CROSSINGS: usize = 256;
+
+#[derive(Clone, Copy)]
+enum Task {
+    Nothing,
+    Unqueue,
+    Discard,
+}
+
+/// The elements of a net with their connections.
+#[derive(Drop)]
+pub struct Plant {
+    wires: Wires,
+    work: Work,
+    machine: Machine,
+}
+
+impl Model for Plant {
+    ghost use Rattle.std.specs.Prelude.{◌≡◌, ℕ, ◌+◌, List, [], map};
+    ghost use Rattle.click_engine.specs.Plant.{Plant as Seen};
+    ghost use Rattle.click_engine.specs.Wires.{rows_of};
+    ghost use Rattle.click_engine.specs.declared.plant.TheConstants.{CROSSINGS};
+
+    ghost Value = { Seen };
+
+    ghost view = { λ p. record {
+      targets = rows_of p.wires.targets;
+      sources = rows_of p.wires.sources;
+      elements = p.work.elements.items;
+      overruns = p.work.overruns;
+    } };
+
+    ghost invariant = { λ p. (p.machine.frames ≡ []) × (p.machine.room ≡ CROSSINGS + 1) };
+}
+
+/// The element is where packets of the device enter.
+fn is_source(state: &State, device: &[u8]) -> bool
+    ensures { result ≡ is_source device.now state.now }
+{
+    match state {
+        State::FromDevice { device: name } => name.as_slice() == device,
+        _ => false,
+    }
+}
+
+/// The element is where the device takes packets.
+fn is_sink(state: &State, device: &[u8]) -> bool
+    ensures { result ≡ is_sink device.now state.now }
+{
+    match state {
+        State::ToDevice { device: name } => name.as_slice() == device,
+        _ => false,
+    }
+}
+
+impl Plant {
+    ghost use Rattle.std.specs.Prelude.{◌≡◌, ℕ, ◌<◌, ◌≤◌, ◌+◌, IsTrue, ◌↔◌, IsSome, slice_index_or, slice_set, length, position, IfOk};
+    ghost use Rattle.click_engine.specs.Plant.{Plant as Seen};
+    ghost use Rattle.click_engine.specs.Rounds.{arrive, transmit, transmitted, source_of, sink_of, round, task, unqueued, discarded, Worked};
+    ghost use Rattle.click_engine.specs.declared.world.Element.{Element};
+    ghost use Rattle.click_engine.specs.World.{blank};
+    ghost use Rattle.click_engine.specs.Wires.{rows_of};
+
+    /// A plant of these elements, with its stack.
+    pub fn new(alloc: Global, wires: Wires, elements: Vec<Element>) -> Result<Plant, AllocError>
+        ensures { IfOk result (λ p. p ≡ record { targets = rows_of wires.targets; sources = rows_of wires.sources; elements = elements.items; overruns = 0 }) }
+    {
+        let machine = Machine::with_room(alloc, CROSSINGS + 1)?;
+        let work = Work {
+            elements,
+            left: 0,
+            overruns: 0,
+        };
+        Ok(Plant {
+            wires,
+            work,
+            machine,
+        })
+    }
+
+    /// The number of overruns.
+    pub fn overruns(&self) -> u64
+        ensures { result ≡ self.now.overruns }
+    {
+        self.work.overruns
+    }
+
+    /// How many elements there are.
+    pub fn len(&self) -> usize
+        ensures { result ≡ length self.now.elements }
+    {
+        self.work.elements.len()
+    }
+
+    /// The element at a place of flat order.
+    pub fn element(&self, at: usize) -> &Element
+        requires { at < length self.now.elements }
+        ensures { result.now ≡ slice_index_or self.now.elements at result.now }
+    {
+        &self.work.elements[at]
+    }
+
+    fn source(&self, device: &[u8]) -> Option<usize>
+        ensures { result ≡ source_of self.now device.now }
+    {
+        self.work
+            .elements
+            .iter()
+            .position(|e| is_source(&e.state, device))
+    }
+
+    fn sink(&self, device: &[u8]) -> Option<usize>
+        ensures { result ≡ sink_of self.now device.now }
+    {
+        self.work
+            .elements
+            .iter()
+            .position(|e| is_sink(&e.state, device))
+    }
+
+    /// Whether packets of a device enter.
+    pub fn has_source(&self, device: &[u8]) -> bool
+        ensures { IsTrue result ↔ IsSome (source_of self.now device.now) }
+    {
+        self.source(device).is_some()
+    }
+
+    /// A packet enters from a device. `false`: nothing takes it.
+    pub fn enter(&mut self, device: &[u8], packet: &Packet) -> bool
+        ensures plant { self.new ≡ arrive self.old device.now packet.now }
+        ensures entered { IsTrue result ↔ IsSome (source_of self.old device.now) }
+    {
+        let Some(at) = self.source(device) else {
+            return false;
+        };
+        self.work.left = CROSSINGS;
+        push_packet(&self.wires, &mut self.work, &mut self.machine, at, packet);
+        true
+    }
+
+    /// What a device takes.
+    pub fn pull(&mut self, device: &[u8]) -> Option<Packet>
+        ensures plant { self.new ≡ transmit self.old device.now }
+        ensures packet { result ≡ transmitted self.old device.now }
+    {
+        let at = self.sink(device)?;
+        self.work.left = CROSSINGS;
+        pull_packet(&self.wires, &mut self.work, &mut self.machine, at);
+        self.machine.answer()
+    }
+
+    /// Runs each task once in flat order, and tells how many packets they pulled.
+    pub fn round(&mut self) -> u64
+        ensures plant { self.new ≡ (round self.old).plant }
+        ensures packets { result ≡ (round self.old).packets }
+    {
+        let mut packets = 0;
+        for at in 0..self.work.elements.len() {
+            packets += self.task(at);
+        }
+        packets
+    }
+
+    fn task(&mut self, at: usize) -> u64
+        ensures plant { self.new ≡ (task self.old at).plant }
+        ensures packets { result ≡ (task self.old at).packets }
+        ensures few { result ≤ 1 }
+    {
+        let work = match self.work.elements.get(at) {
+            Some(element) => match &element.state {
+                State::Unqueue => Task::Unqueue,
+                State::Discard => Task::Discard,
+                _ => Task::Nothing,
+            },
+            None => Task::Nothing,
+        };
+        match work {
+            Task::Unqueue => self.unqueue(at),
+            Task::Discard => self.discard(at),
+            Task::Nothing => 0,
+        }
+    }
+
+    fn unqueue(&mut self, at: usize) -> u64
+        ensures plant { self.new ≡ (unqueued self.old at).plant }
+        ensures packets { result ≡ (unqueued self.old at).packets }
+        ensures few { result ≤ 1 }
+    {
+        self.work.left = CROSSINGS;
+        pull_packet(&self.wires, &mut self.work, &mut self.machine, at);
+        if !self.machine.is_answered() {
+            return 0;
+        }
+        push_answer(&self.wires, &mut self.work, &mut self.machine, at);
+        1
+    }
+
+    fn discard(&mut self, at: usize) -> u64
+        ensures plant { self.new ≡ (discarded self.old at).plant }
+        ensures packets { result ≡ (discarded self.old at).packets }
+        ensures few { result ≤ 1 }
+    {
+        if self.wires.source(at, 0).is_none() {
+            return 0;
+        }
+        self.work.left = CROSSINGS;
+        pull_packet(&self.wires, &mut self.work, &mut self.machine, at);
+        u64::from(self.machine.is_answered())
+    }
+
+    /// Hands the element at a place of flat order to `f`, and keeps the one that it answers.
+    pub fn change<R, F: FnOnce(Element) -> (Element, R)>(&mut self, at: usize, f: F) -> R
+        requires place { at < length self.old.elements }
+        requires callable { F.pre f (slice_index_or self.old.elements at blank) }
+        ensures { (e : Element) × F.post f (slice_index_or self.old.elements at blank) (record { 0 = e; 1 = result })
+            × (self.new ≡ record self.old { elements = slice_set self.old.elements at e }) }
+    {
+        let spare = Element {
+            inputs: 0,
+            outputs: 0,
+            state: State::Idle,
+        };
+        let element = mem::replace(&mut self.work.elements[at], spare);
+        let (element, answer) = f(element);
+        self.work.elements[at] = element;
+        answer
+    }
+}

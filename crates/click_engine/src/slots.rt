@@ -1,0 +1,51 @@
+//! The slots of a machine.
+ghost use Rattle.std.specs.Prelude.{◌≡◌, ℕ, ◌+◌, ◌<◌, ◌≤◌, List, length, vec_len, vec_capacity};
+ghost use Rattle.click_engine.specs.kept.Slots.{CopiedUp};
+ghost use Rattle.click_engine.specs.declared.machine.Ask.TheVariants.{Tries};
+
+use crate::hops::Reply;
+use crate::machine::{Ask, Sender};
+
+/// The inputs that a reply names are to be asked.
+pub(crate) fn tries(reply: Reply) -> Ask
+    ensures { result ≡ Tries reply.at reply.inputs reply.count reply.first 0 }
+{
+    Ask::Tries {
+        at: reply.at,
+        inputs: reply.inputs,
+        count: reply.count,
+        input: reply.first,
+        back: 0,
+    }
+}
+
+/// Makes the packet above `top` equal to the one at `top`.
+#[inline(never)]
+pub(crate) fn copy_up(senders: &mut Vec<Sender>, top: usize)
+    requires top { top < vec_len senders.old }
+    requires room { top + 1 < vec_capacity senders.old }
+    ensures copied { CopiedUp senders.old.items senders.new.items top }
+    ensures capacity { vec_capacity senders.old ≤ vec_capacity senders.new }
+{
+    if top + 1 == senders.len() {
+        let packet = senders[top].packet.copy();
+        let _made = senders.push(Sender {
+            at: 0,
+            first: 0,
+            count: 0,
+            packet,
+        });
+    } else {
+        copy_next(senders.as_mut_slice(), top);
+    }
+}
+
+fn copy_next(slots: &mut [Sender], top: usize)
+    requires { top + 1 < length slots.old }
+    ensures { CopiedUp slots.old slots.new top }
+{
+    let (below, above) = slots.split_at_mut(top + 1);
+    let next = &mut above[0];
+    let lower = &*below;
+    next.packet.copy_from(&lower[top].packet);
+}
