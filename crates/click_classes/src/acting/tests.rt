@@ -224,7 +224,7 @@ fn passes_and_switches(rt: HostRuntime) -> Result<(), Fail> {
 }
 
 #[test]
-fn pulls_ask_inputs(rt: HostRuntime) -> Result<(), Fail> {
+fn a_scheduler_goes_round(rt: HostRuntime) -> Result<(), Fail> {
     let alloc = rt.alloc();
     let mut p = packet(b"a")?;
     let mut sched = element(alloc, Class::RoundRobinSched, b"")?;
@@ -245,13 +245,29 @@ fn pulls_ask_inputs(rt: HostRuntime) -> Result<(), Fail> {
         }
     );
     assert_eq!(rt; sched.tries(3, 0), PortRange { first: 1, count: 3 });
+    Ok(())
+}
+
+#[test]
+fn pulls_ask_inputs(rt: HostRuntime) -> Result<(), Fail> {
+    let alloc = rt.alloc();
     let prio = element(alloc, Class::PrioSched, b"")?;
     assert_eq!(rt; prio.tries(2, 0), PortRange { first: 0, count: 2 });
     let switch = element(alloc, Class::PullSwitch, b"1")?;
     assert_eq!(rt; switch.tries(2, 0), to(1));
     let closed = element(alloc, Class::PullSwitch, b"-1")?;
     assert_eq!(rt; closed.tries(2, 0), NOWHERE);
-    let mut tee = element(alloc, Class::PullTee, b"")?;
+    let null = element(alloc, Class::PullNull, b"")?;
+    assert_eq!(rt; null.tries(1, 0), to(0));
+    let idle = element(alloc, Class::Idle, b"")?;
+    assert_eq!(rt; idle.tries(1, 0), NOWHERE);
+    Ok(())
+}
+
+#[test]
+fn a_pull_tee_copies(rt: HostRuntime) -> Result<(), Fail> {
+    let mut p = packet(b"a")?;
+    let mut tee = element(rt.alloc(), Class::PullTee, b"")?;
     assert_eq!(rt; tee.tries(1, 0), to(0));
     assert_eq!(rt;
         tee.gives(1, 3, 0, &mut p),
@@ -260,9 +276,5 @@ fn pulls_ask_inputs(rt: HostRuntime) -> Result<(), Fail> {
             answers: true
         }
     );
-    let null = element(alloc, Class::PullNull, b"")?;
-    assert_eq!(rt; null.tries(1, 0), to(0));
-    let idle = element(alloc, Class::Idle, b"")?;
-    assert_eq!(rt; idle.tries(1, 0), NOWHERE);
     Ok(())
 }
