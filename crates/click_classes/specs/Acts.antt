@@ -1,5 +1,5 @@
 -- What an element does with a packet (Click element reference). `inputs` and `outputs` are how many ports the element has.
-use Rattle.std.specs.Prelude.{ℕ, ◌+◌, ◌-◌, ◌/◌, ◌%◌, ◌^◌, ◌==◌, nat_le, nat_lt, min, max, Bool, true, false, List, [], ◌∷◌, ◌++◌, length, take, drop, position, slice_index, slice_index_or, Option, Some, None, if◌then◌else◌}
+use Rattle.std.specs.Prelude.{ℕ, ◌+◌, ◌-◌, ◌/◌, ◌%◌, ◌^◌, ◌==◌, nat_le, nat_lt, min, max, Bool, true, false, ◌&&◌, List, [], ◌∷◌, ◌++◌, length, take, drop, position, slice_index, slice_index_or, Option, Some, None, if◌then◌else◌}
 use Rattle.std.specs.Str.{bytes_eq}
 use Rattle.click_packet.specs.Header.{header_good, ttl, with_ttl}
 use Rattle.click_packet.specs.Packet.{Packet}
@@ -205,6 +205,28 @@ unfoldable pub stored : State → Option Stored
 stored (state.Queue q drops highest) = first_of q.packets (λ rest. state.Queue (record q { packets = rest }) drops highest)
 stored (state.FrontDropQueue q drops highest) = first_of q.packets (λ rest. state.FrontDropQueue (record q { packets = rest }) drops highest)
 stored s = None
+
+-- a source may give one more packet
+abbrev pub is_below : Option ℕ → ℕ → Bool
+is_below None count = true
+is_below (Some limit) count = nat_lt count limit
+
+-- a packet with nothing set but its bytes
+abbrev pub fresh_packet : List ℕ → Packet
+fresh_packet bytes = record { bytes = bytes; paint = 0; destination = 0 ∷ 0 ∷ 0 ∷ 0 ∷ [] }
+
+-- the packet that a source makes next, while it is active and below its limit, which it counts; bytes that no packet holds make none
+unfoldable pub emission : State → Option Stored
+emission (state.InfiniteSource bytes limit burst active count) =
+    if active && is_below limit count && nat_le (length bytes) 1600
+    then Some (record { packet = fresh_packet bytes; state = state.InfiniteSource bytes limit burst active (up_by count 1) })
+    else None
+emission s = None
+
+-- how many packets a source makes in one run of its task
+abbrev pub burst_of : State → ℕ
+burst_of (state.InfiniteSource bytes limit burst active count) = burst
+burst_of s = 0
 
 -- a packet was pulled through an input: the state and the packet after it, the outputs that get it first, and whether it is then the answer
 pub record Gives : Type 0 where

@@ -1,7 +1,7 @@
 //! What an element does with a packet. What a class does stands in the class's own file; here are the lists of the classes.
 
 ghost use Rattle.std.specs.Prelude.{◌≡◌, MatchOption, true, false, nat_lt, if◌then◌else◌};
-ghost use Rattle.click_classes.specs.Acts.{after, range, side_output, pushed_to, copied_to, is_answer, is_active, pass, passed, act, sent, tries, stored, gives};
+ghost use Rattle.click_classes.specs.Acts.{after, range, side_output, pushed_to, copied_to, is_answer, is_active, pass, passed, act, sent, tries, stored, emission, burst_of, gives};
 
 use crate::classes::address::take_address;
 use crate::classes::classifier::classify;
@@ -12,6 +12,7 @@ use crate::classes::lookup::route;
 use crate::classes::paint::paint_tee_fate;
 use crate::classes::plain::count_packet;
 use crate::classes::queues::{store, store_for_the_first};
+use crate::classes::source::has_next;
 use crate::packet_list::PacketList;
 use crate::state::State;
 use click_packet::Packet;
@@ -334,6 +335,40 @@ impl State {
                 true
             }
             _ => false,
+        }
+    }
+
+    /// Makes `packet` the one that a source gives next, and counts it; false, and without change, where there is none.
+    #[tactic(auto, unfolding(crate::specs::Acts::emission))]
+    pub fn emit(&mut self, packet: &mut Packet) -> bool
+        ensures { MatchOption (emission self.old) ((result ≡ false) × (self.new ≡ self.old) × (packet.new ≡ packet.old))
+            (λ s. (result ≡ true) × (s ≡ record { packet = packet.new; state = self.new })) }
+    {
+        let State::InfiniteSource {
+            bytes,
+            limit,
+            active,
+            count,
+            ..
+        } = self
+        else {
+            return false;
+        };
+        if !has_next(bytes, *limit, *active, *count) {
+            return false;
+        }
+        let _fits = packet.fill(bytes.as_slice());
+        *count = count.saturating_add(1);
+        true
+    }
+
+    /// How many packets a source gives in one run of its task.
+    pub fn burst(&self) -> u8
+        ensures { result ≡ burst_of self.now }
+    {
+        match self {
+            State::InfiniteSource { burst, .. } => *burst,
+            _ => 0,
         }
     }
 

@@ -1,14 +1,14 @@
 -- Runs and rounds.
-use Rattle.std.specs.Prelude.{ℕ, zero, suc, ◌+◌, List, Option, Some, None, length, position, slice_index_or}
+use Rattle.std.specs.Prelude.{ℕ, zero, suc, ◌+◌, List, Option, Some, None, length, position, slice_get, slice_index_or}
 use Rattle.click_packet.specs.Packet.{Packet}
-use Rattle.click_classes.specs.Acts.{is_source, is_sink}
+use Rattle.click_classes.specs.Acts.{Stored, burst_of, emission, is_source, is_sink}
+use Rattle.click_classes.specs.declared.class.Class.{Class}
+use Rattle.click_classes.specs.declared.class.Class.TheVariants as class
 use Rattle.click_classes.specs.declared.state.State.{State}
-use Rattle.click_classes.specs.declared.state.State.TheVariants.{Unqueue, Discard}
-use Rattle.click_engine.specs.Plant.{most_crossings}
 use Rattle.click_engine.specs.declared.world.Element.{Element}
-use Rattle.click_engine.specs.World.{blank}
+use Rattle.click_engine.specs.World.{blank, with_state}
 use Rattle.click_engine.specs.Run.{push, pull, Pulled}
-use Rattle.click_engine.specs.Plant.{Plant, wiring, begin, end}
+use Rattle.click_engine.specs.Plant.{Plant, most_crossings, wiring, begin, end}
 
 -- the first source, or the first sink, of a device in flat order
 abbrev pub source_of : Plant → List ℕ → Option ℕ
@@ -16,6 +16,9 @@ source_of v device = position (λ (e : Element). is_source device e.state) v.ele
 
 abbrev pub sink_of : Plant → List ℕ → Option ℕ
 sink_of v device = position (λ (e : Element). is_sink device e.state) v.elements
+
+abbrev pub state_at : Plant → ℕ → State
+state_at v at = (slice_index_or v.elements at blank).state
 
 -- one run: a packet leaves the element by its output 0
 abbrev pub emitted : Plant → ℕ → Packet → Plant
@@ -62,14 +65,29 @@ discarded v at = elim ((wiring v).source at 0) [
       elim r.packet [ None ↦ record { plant = end v r.world; packets = 0 } | Some p ↦ record { plant = end v r.world; packets = 1 } ]
 ]
 
--- the task at an element
-abbrev pub task_of : State → Plant → ℕ → Worked
-task_of Unqueue v at = unqueued v at
-task_of Discard v at = discarded v at
-task_of s v at = idle v
+-- one run: a source's packet is counted, and leaves by output 0
+abbrev pub sourced : Plant → ℕ → Stored → Plant
+sourced v at e = end v (push (wiring v) most_crossings (with_state (begin most_crossings v) at e.state) at 0 e.packet)
+
+-- up to `count` packets of a source, each in a run of its own
+unfoldable pub bursts : ℕ → ℕ → Plant → Worked
+bursts zero at v = idle v
+bursts (suc count) at v = elim (emission (state_at v at)) [
+  | None ↦ idle v
+  | Some e ↦
+      let rest = bursts count at (sourced v at e) in
+      record { plant = rest.plant; packets = 1 + rest.packets }
+]
+
+-- the task of an element, by its class
+abbrev pub task_of : Class → Plant → ℕ → Worked
+task_of class.InfiniteSource v at = bursts (burst_of (state_at v at)) at v
+task_of class.Unqueue v at = unqueued v at
+task_of class.Discard v at = discarded v at
+task_of c v at = idle v
 
 abbrev pub task : Plant → ℕ → Worked
-task v at = task_of (slice_index_or v.elements at blank).state v at
+task v at = elim (slice_get v.net.shapes at) [ None ↦ idle v | Some shape ↦ task_of shape.class v at ]
 
 -- the tasks of `count` elements from `at` on, in flat order
 unfoldable pub tasks : ℕ → ℕ → Plant → Worked
@@ -81,4 +99,4 @@ tasks (suc count) at v =
 
 -- one round: each task once
 abbrev pub round : Plant → Worked
-round v = tasks (length v.elements) 0 v
+round v = tasks (length v.net.shapes) 0 v

@@ -5,7 +5,7 @@ use Rattle.click_classes.specs.declared.state.State.TheVariants.{Idle}
 use Rattle.click_packet.specs.Packet.{Packet}
 use Rattle.click_classes.specs.Acts.{act, tries, gives, Acted, Gives}
 use Rattle.click_classes.specs.declared.acting.PortRange.{PortRange}
-use Rattle.click_classes.specs.declared.acting.PortRange.{PortRange}
+use Rattle.click_classes.specs.declared.class.Class.TheVariants as class
 use Rattle.click_engine.specs.declared.world.Element.{Element}
 use Rattle.click_engine.specs.declared.world.Port.{Port}
 
@@ -22,7 +22,7 @@ pub record World : Type 0 where
 
 -- an element that drops what it gets and has nothing to give
 abbrev pub blank : Element
-blank = record { inputs = 0; outputs = 0; state = Idle }
+blank = record { class = class.Idle; inputs = 0; outputs = 0; state = Idle }
 
 abbrev pub element_at : World → ℕ → Element
 element_at w at = slice_index_or w.elements at blank

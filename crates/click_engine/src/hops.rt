@@ -4,7 +4,8 @@ ghost use Rattle.click_engine.specs.Wires.{world_of, wiring_of};
 ghost use Rattle.click_engine.specs.kept.Hops.{Pushed, Reached};
 
 use crate::machine::Sender;
-use crate::world::{Wires, Work};
+use crate::wires::Wires;
+use crate::world::Work;
 use click_packet::Packet;
 
 /// What a pull led to: an answer, or inputs of an element that are asked in turn.

@@ -1,5 +1,4 @@
-//! The push and pull engine: packets go from element to element over a reserved stack (TOCS 2000, "Packet transfer"). It works on tables of connections yet; a
-//! plant over a net of click_ports is still to come.
+//! The push and pull engine: packets go from element to element over a reserved stack (TOCS 2000, "Packet transfer").
 #![tactic(auto)]
 
 mod hops;
@@ -8,8 +7,10 @@ mod machine;
 mod plant;
 mod runs;
 mod slots;
+mod wires;
 mod world;
 
 pub use machine::Machine;
 pub use plant::Plant;
-pub use world::{Element, Port, Wires, Work};
+pub use wires::Wires;
+pub use world::{Element, Port, Work};

@@ -3,7 +3,8 @@ ghost use Rattle.std.specs.Prelude.{◌≡◌, ℕ, ◌+◌, ◌-◌, ◌<◌, �
 
 use crate::hops::{Reply, pull_over, push_copy_over, push_over};
 use crate::slots::{copy_up, tries};
-use crate::world::{Wires, Work};
+use crate::wires::Wires;
+use crate::world::Work;
 use click_classes::after;
 use click_packet::Packet;
 use std::alloc::{AllocError, Global};
@@ -69,6 +70,9 @@ impl Machine {
     ghost use Rattle.std.specs.Prelude.{◌≡◌, ℕ, ◌+◌, ◌-◌, ◌<◌, ◌≤◌, ◌^◌, List, [], ◌∷◌, ◌++◌, length, IfOk, IfSome, IsSome, IsTrue, ◌↔◌, None, Some, true, false};
     ghost use Rattle.click_engine.specs.Frames.{Frame, Sends, Pulls, IsTurn, sends_first};
     ghost use Rattle.click_engine.specs.Wires.{world_of, wiring_of};
+    ghost use Rattle.click_engine.specs.World.{element_at, with_state};
+    ghost use Rattle.click_classes.specs.Acts.{emission};
+    ghost use Rattle.std.specs.Prelude.{MatchOption};
 
     /// No frames, with room for so many.
     pub fn with_room(alloc: Global, room: usize) -> Result<Machine, AllocError>
@@ -161,6 +165,20 @@ impl Machine {
     {
         self.answered = false;
         let _made = self.asks.push(Ask::Pull { at, input: 0 });
+    }
+
+    /// The answer becomes the packet that a source gives next; false, and there is none, where it gives none.
+    pub(crate) fn take_emission(&mut self, work: &mut Work, at: usize) -> bool
+        requires done { self.old.frames ≡ [] }
+        ensures left { work.new.left ≡ work.old.left }
+        ensures emitted { MatchOption (emission (element_at (world_of work.old) at).state)
+            ((result ≡ false) × (world_of work.new ≡ world_of work.old) × (self.new ≡ record { frames = []; last = None; room = self.old.room }))
+            (λ s. (result ≡ true) × (world_of work.new ≡ with_state (world_of work.old) at s.state)
+            × (self.new ≡ record { frames = []; last = Some s.packet; room = self.old.room })) }
+    {
+        let sender = &mut self.senders[0];
+        self.answered = work.emit(at, &mut sender.packet);
+        self.answered
     }
 
     /// One turn where a push is on top.

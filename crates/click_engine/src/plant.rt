@@ -1,26 +1,21 @@
 //! A plant: the elements of a net, and the runs of packets through them.
-ghost use Rattle.std.specs.Prelude.{◌≡◌, ℕ, ◌<◌, ◌≤◌, ◌+◌, IfOk};
-ghost use Rattle.click_engine.specs.Plant.{Plant as Seen};
+ghost use Rattle.std.specs.Prelude.{◌≡◌, ℕ, ◌<◌, ◌≤◌, ◌+◌, IfOk, vec_len, length};
+ghost use Rattle.click_engine.specs.Plant.{elements_from};
 ghost use Rattle.click_classes.specs.Acts.{is_source, is_sink};
 
 use crate::machine::Machine;
 use crate::runs::{pull_packet, push_answer, push_packet};
-use crate::world::{Element, Wires, Work};
-use click_classes::State;
+use crate::wires::Wires;
+use crate::world::{Element, Work};
+use click_classes::{Class, Side, State};
 use click_packet::Packet;
+use click_ports::Net;
 use std::alloc::{AllocError, Global};
 use std::marker::Model;
 use std::mem;
 
 /// The most crossings of one run.
 pub const CROSSINGS: usize = 256;
-
-#[derive(Clone, Copy)]
-enum Task {
-    Nothing,
-    Unqueue,
-    Discard,
-}
 
 /// The elements of a net with their connections.
 #[derive(Drop)]
@@ -31,19 +26,13 @@ pub struct Plant {
 }
 
 impl Model for Plant {
-    ghost use Rattle.std.specs.Prelude.{◌≡◌, ℕ, ◌+◌, List, [], map};
+    ghost use Rattle.std.specs.Prelude.{◌≡◌, ℕ, ◌+◌, [], length};
     ghost use Rattle.click_engine.specs.Plant.{Plant as Seen};
-    ghost use Rattle.click_engine.specs.Wires.{rows_of};
     ghost use Rattle.click_engine.specs.declared.plant.TheConstants.{CROSSINGS};
 
     ghost Value = { Seen };
 
-    ghost view = { λ p. record {
-      targets = rows_of p.wires.targets;
-      sources = rows_of p.wires.sources;
-      elements = p.work.elements.items;
-      overruns = p.work.overruns;
-    } };
+    ghost view = { λ p. record { net = p.wires; elements = p.work.elements.items; overruns = p.work.overruns } };
 
     ghost invariant = { λ p. (p.machine.frames ≡ []) × (p.machine.room ≡ CROSSINGS + 1) };
 }
@@ -68,19 +57,40 @@ fn is_sink(state: &State, device: &[u8]) -> bool
     }
 }
 
+/// Elements of the net with these states.
+fn elements_of(alloc: Global, net: &Net, states: Vec<State>) -> Result<Vec<Element>, AllocError>
+    requires { vec_len states ≡ length net.now.shapes }
+    ensures { IfOk result (λ elements. elements.items ≡ elements_from net.now 0 states.items) }
+{
+    let mut elements = Vec::with_capacity(alloc, states.len())?;
+    for state in states {
+        let at = elements.len();
+        elements.push(Element {
+            class: state.class(),
+            inputs: net.used(at, Side::Input),
+            outputs: net.used(at, Side::Output),
+            state,
+        })?;
+    }
+    Ok(elements)
+}
+
 impl Plant {
-    ghost use Rattle.std.specs.Prelude.{◌≡◌, ℕ, ◌<◌, ◌≤◌, ◌+◌, IsTrue, ◌↔◌, IsSome, slice_index_or, slice_set, length, position, IfOk};
-    ghost use Rattle.click_engine.specs.Plant.{Plant as Seen};
-    ghost use Rattle.click_engine.specs.Rounds.{arrive, transmit, transmitted, source_of, sink_of, round, task, unqueued, discarded, Worked};
+    ghost use Rattle.std.specs.Prelude.{◌≡◌, ℕ, ◌<◌, ◌≤◌, ◌+◌, IsTrue, ◌↔◌, IsSome, slice_index_or, slice_set, length, position, IfOk, MatchOption, min, ◌-◌, ◌^◌, true, false, vec_len};
+    ghost use Rattle.click_classes.specs.Acts.{burst_of, emission};
+    ghost use Rattle.click_engine.specs.Plant.{Plant as Seen, started};
+    ghost use Rattle.click_engine.specs.Rounds.{arrive, transmit, transmitted, source_of, sink_of, round, task, bursts, sourced, state_at, unqueued, discarded, Worked};
     ghost use Rattle.click_engine.specs.declared.world.Element.{Element};
     ghost use Rattle.click_engine.specs.World.{blank};
-    ghost use Rattle.click_engine.specs.Wires.{rows_of};
 
-    /// A plant of these elements, with its stack.
-    pub fn new(alloc: Global, wires: Wires, elements: Vec<Element>) -> Result<Plant, AllocError>
-        ensures { IfOk result (λ p. p ≡ record { targets = rows_of wires.targets; sources = rows_of wires.sources; elements = elements.items; overruns = 0 }) }
+    /// The plant of a net whose elements begin with these states, one for each, in flat order. It takes all the memory that a run will need.
+    pub fn new(alloc: Global, net: Net, states: Vec<State>) -> Result<Plant, AllocError>
+        requires { vec_len states ≡ length net.shapes }
+        ensures { IfOk result (λ p. p ≡ started net states.items) }
     {
         let machine = Machine::with_room(alloc, CROSSINGS + 1)?;
+        let elements = elements_of(alloc, &net, states)?;
+        let wires = Wires::new(alloc, net)?;
         let work = Work {
             elements,
             left: 0,
@@ -91,6 +101,13 @@ impl Plant {
             work,
             machine,
         })
+    }
+
+    /// The net.
+    pub fn net(&self) -> &Net
+        ensures { result.now ≡ self.now.net }
+    {
+        self.wires.net()
     }
 
     /// The number of overruns.
@@ -133,11 +150,18 @@ impl Plant {
             .position(|e| is_sink(&e.state, device))
     }
 
-    /// Whether packets of a device enter.
+    /// Whether a FromDevice names the device.
     pub fn has_source(&self, device: &[u8]) -> bool
         ensures { IsTrue result ↔ IsSome (source_of self.now device.now) }
     {
         self.source(device).is_some()
+    }
+
+    /// Whether a ToDevice names the device.
+    pub fn has_sink(&self, device: &[u8]) -> bool
+        ensures { IsTrue result ↔ IsSome (sink_of self.now device.now) }
+    {
+        self.sink(device).is_some()
     }
 
     /// A packet enters from a device. `false`: nothing takes it.
@@ -164,14 +188,14 @@ impl Plant {
         self.machine.answer()
     }
 
-    /// Runs each task once in flat order, and tells how many packets they pulled.
+    /// Runs each task once in flat order, and tells how many packets sources gave and Unqueues and Discards pulled, at most 2^64 - 1.
     pub fn round(&mut self) -> u64
         ensures plant { self.new ≡ (round self.old).plant }
-        ensures packets { result ≡ (round self.old).packets }
+        ensures packets { result ≡ min (round self.old).packets (2 ^ 64 - 1) }
     {
-        let mut packets = 0;
-        for at in 0..self.work.elements.len() {
-            packets += self.task(at);
+        let mut packets: u64 = 0;
+        for at in 0..self.wires.net().shapes().len() {
+            packets = packets.saturating_add(self.task(at));
         }
         packets
     }
@@ -179,21 +203,44 @@ impl Plant {
     fn task(&mut self, at: usize) -> u64
         ensures plant { self.new ≡ (task self.old at).plant }
         ensures packets { result ≡ (task self.old at).packets }
-        ensures few { result ≤ 1 }
     {
-        let work = match self.work.elements.get(at) {
-            Some(element) => match &element.state {
-                State::Unqueue => Task::Unqueue,
-                State::Discard => Task::Discard,
-                _ => Task::Nothing,
-            },
-            None => Task::Nothing,
+        let Some(shape) = self.wires.net().shapes().get(at) else {
+            return 0;
         };
-        match work {
-            Task::Unqueue => self.unqueue(at),
-            Task::Discard => self.discard(at),
-            Task::Nothing => 0,
+        match shape.class {
+            Class::InfiniteSource => self.give_burst(at),
+            Class::Unqueue => self.unqueue(at),
+            Class::Discard => self.discard(at),
+            _ => 0,
         }
+    }
+
+    /// Up to a burst of a source's packets.
+    fn give_burst(&mut self, at: usize) -> u64
+        ensures plant { self.new ≡ (bursts (burst_of (state_at self.old at)) at self.old).plant }
+        ensures packets { result ≡ (bursts (burst_of (state_at self.old at)) at self.old).packets }
+    {
+        let mut packets = 0;
+        for _packet in 0..self.work.burst(at) {
+            if !self.emit(at) {
+                return packets;
+            }
+            packets += 1;
+        }
+        packets
+    }
+
+    /// One packet of a source.
+    fn emit(&mut self, at: usize) -> bool
+        ensures { MatchOption (emission (state_at self.old at)) ((result ≡ false) × (self.new ≡ self.old))
+            (λ e. (result ≡ true) × (self.new ≡ sourced self.old at e)) }
+    {
+        self.work.left = CROSSINGS;
+        if !self.machine.take_emission(&mut self.work, at) {
+            return false;
+        }
+        push_answer(&self.wires, &mut self.work, &mut self.machine, at);
+        true
     }
 
     fn unqueue(&mut self, at: usize) -> u64
@@ -231,6 +278,7 @@ impl Plant {
             × (self.new ≡ record self.old { elements = slice_set self.old.elements at e }) }
     {
         let spare = Element {
+            class: Class::Idle,
             inputs: 0,
             outputs: 0,
             state: State::Idle,

@@ -2,7 +2,7 @@
 ghost use Rattle.std.specs.Prelude.{◌≡◌, ℕ, ◌<◌, ◌≤◌, MatchOption, IfSome, None, Some, true, false};
 ghost use Rattle.click_classes.specs.Acts.{act, tries, stored, gives};
 
-use click_classes::{Outcome, PortRange, State};
+use click_classes::{Class, Outcome, PortRange, State};
 use click_packet::Packet;
 
 /// One end of a connection: an element by its place in flat order, and one of its inputs or outputs.
@@ -12,43 +12,13 @@ pub struct Port {
     pub port: u16,
 }
 
-/// An element as handlers see it.
+/// An element as handlers see it: its class, how many ports it has, and its state.
 #[derive(Drop)]
 pub struct Element {
+    pub class: Class,
     pub inputs: u16,
     pub outputs: u16,
     pub state: State,
-}
-
-/// The connections: for each element and each output the input that a push goes to, and for each input the output
-/// that a pull asks.
-#[derive(Drop)]
-pub struct Wires {
-    pub targets: Vec<Vec<Port>>,
-    pub sources: Vec<Vec<Port>>,
-}
-
-impl Wires {
-    ghost use Rattle.std.specs.Prelude.{◌≡◌};
-    ghost use Rattle.click_engine.specs.Wires.{wiring_of};
-
-    pub(crate) fn target(&self, at: usize, output: usize) -> Option<Port>
-        ensures { result ≡ (wiring_of self.now).target at output }
-    {
-        match self.targets.get(at) {
-            Some(row) => row.get(output).copied(),
-            None => None,
-        }
-    }
-
-    pub(crate) fn source(&self, at: usize, input: usize) -> Option<Port>
-        ensures { result ≡ (wiring_of self.now).source at input }
-    {
-        match self.sources.get(at) {
-            Some(row) => row.get(input).copied(),
-            None => None,
-        }
-    }
 }
 
 /// What a run changes: the elements, the crossings left and the overruns.
@@ -61,7 +31,7 @@ pub struct Work {
 
 impl Work {
     ghost use Rattle.std.specs.Prelude.{◌≡◌, ℕ, ◌<◌, ◌≤◌, ◌-◌, MatchOption, IfSome, None, Some, true, false};
-    ghost use Rattle.click_classes.specs.Acts.{act, tries, stored, gives};
+    ghost use Rattle.click_classes.specs.Acts.{act, tries, stored, emission, burst_of, gives};
     ghost use Rattle.click_engine.specs.World.{element_at, with_state, tries_at, overrun, spent, Acts, GivesOut};
     ghost use Rattle.click_engine.specs.Wires.{world_of};
 
@@ -121,6 +91,31 @@ impl Work {
             element.state.take_stored(packet)
         } else {
             false
+        }
+    }
+
+    /// Makes `packet` the one that a source gives next; false, and without change, where there is none.
+    pub(crate) fn emit(&mut self, at: usize, packet: &mut Packet) -> bool
+        ensures left { self.new.left ≡ self.old.left }
+        ensures emitted { MatchOption (emission (element_at (world_of self.old) at).state)
+            ((result ≡ false) × (world_of self.new ≡ world_of self.old))
+            (λ s. (result ≡ true) × (s.packet ≡ packet.new) × (world_of self.new ≡ with_state (world_of self.old) at s.state)) }
+    {
+        if at < self.elements.len() {
+            let element = &mut self.elements[at];
+            element.state.emit(packet)
+        } else {
+            false
+        }
+    }
+
+    /// How many packets a source gives in one run of its task.
+    pub(crate) fn burst(&self, at: usize) -> u8
+        ensures { result ≡ burst_of (element_at (world_of self.now) at).state }
+    {
+        match self.elements.get(at) {
+            Some(element) => element.state.burst(),
+            None => 0,
         }
     }
 

@@ -1,6 +1,7 @@
 //! Elements that make packets.
 
-ghost use Rattle.std.specs.Prelude.{◌≡◌, ◌-◌, ◌^◌, None, true, slice_get};
+ghost use Rattle.std.specs.Prelude.{◌≡◌, ◌-◌, ◌^◌, ◌&&◌, None, true, slice_get, length, nat_le};
+ghost use Rattle.click_classes.specs.Acts.{is_below};
 ghost use Rattle.click_classes.specs.Values.{number_in, number_or_minus_one, truth};
 ghost use Rattle.click_classes.specs.Fresh.{optional, infinite_source};
 ghost use Rattle.click_classes.specs.Made.{ByFirst};
@@ -62,6 +63,23 @@ fn active(arguments: &Arguments) -> Result<bool, ArgFault>
         Some(bytes) => truth(bytes),
         None => Ok(true),
     }
+}
+
+/// Whether a source may give one more packet.
+fn is_below(limit: Option<u64>, count: u64) -> bool
+    ensures { result ≡ is_below limit count }
+{
+    match limit {
+        Some(limit) => count < limit,
+        None => true,
+    }
+}
+
+/// Whether a source has a packet to give now.
+pub fn has_next(bytes: &Sequence<u8>, limit: Option<u64>, active: bool, count: u64) -> bool
+    ensures { result ≡ (active && is_below limit count && nat_le (length bytes.now) 1600) }
+{
+    active && is_below(limit, count) && bytes.len() <= 1_600
 }
 
 /// InfiniteSource([BYTES [, LIMIT [, BURST [, ACTIVE]]]]): makes packets.

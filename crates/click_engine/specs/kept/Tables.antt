@@ -1,0 +1,24 @@
+-- The tables of connections.
+use Rattle.std.specs.Prelude.{◌≡◌, ℕ, List, [], map, slice_index_or, Option, Some, None, Bool, if◌then◌else◌}
+use Rattle.std.specs.declared.vec.Vec.{Vec}
+use Rattle.std.specs.declared.alloc.Global.{Global}
+use Rattle.click_engine.specs.Wires.{is_port}
+use Rattle.click_engine.specs.declared.world.Port.{Port}
+
+abbrev pub rows_of : List (Vec (Option Port) Global) → List (List (Option Port))
+rows_of rows = map (λ (row : Vec (Option Port) Global). row.items) rows
+
+abbrev pub entry : List (List (Option Port)) → ℕ → ℕ → Option Port
+entry rows at number = slice_index_or (slice_index_or rows at []) number None
+
+abbrev pub IsTable : List (List (Option Port)) → (ℕ → ℕ → Option Port) → Type 0
+IsTable rows f = (at number : ℕ) → entry rows at number ≡ f at number
+
+-- what was noted, else the far port where it is its turn
+abbrev pub first_of : Option Port → Bool → Port → Option Port
+first_of None here far = if here then Some far else None
+first_of (Some noted) here far = Some noted
+
+-- the far port was noted at the near one, unless something was
+abbrev pub IsNoted : List (List (Option Port)) → List (List (Option Port)) → Port → Port → Type 0
+IsNoted old new near far = (at number : ℕ) → entry new at number ≡ first_of (entry old at number) (is_port near at number) far

@@ -1,0 +1,163 @@
+//! The connections of a net, in tables.
+ghost use Rattle.std.specs.Prelude.{◌≡◌, ◌<◌, ◌≤◌, ◌^◌, ℕ, [], vec_len, slice_index_or, IfOk, OnOk, None, nat_eq, replicate};
+ghost use Rattle.click_engine.specs.Wires.{end_of, first_joined};
+ghost use Rattle.click_engine.specs.kept.Tables.{entry, first_of, rows_of, IsNoted, IsTable};
+
+use crate::world::Port;
+use click_classes::Side;
+use click_expand::Connection;
+use click_ports::Net;
+use std::alloc::{AllocError, Global};
+use std::marker::Model;
+
+/// A net, with tables of where a push at an output goes and which output a pull at an input asks.
+#[derive(Drop)]
+pub struct Wires {
+    net: Net,
+    targets: Vec<Vec<Option<Port>>>,
+    sources: Vec<Vec<Option<Port>>>,
+}
+
+impl Model for Wires {
+    ghost use Rattle.click_ports.specs.Net.{Net as Seen};
+    ghost use Rattle.click_engine.specs.Wires.{target_in, source_in};
+    ghost use Rattle.click_engine.specs.kept.Tables.{rows_of, IsTable};
+
+    ghost Value = { Seen };
+
+    ghost view = { λ w. w.net };
+
+    ghost invariant = { λ w. IsTable (rows_of w.targets.items) (target_in w.net.connections)
+        × IsTable (rows_of w.sources.items) (source_in w.net.connections) };
+}
+
+/// The connection's port at a side: the output that it leaves, or the input that it comes to.
+fn end_of(side: Side, connection: Connection) -> Port
+    ensures { result ≡ end_of side connection }
+{
+    match side {
+        Side::Output => Port {
+            element: connection.from,
+            port: u16::from(connection.out_port),
+        },
+        Side::Input => Port {
+            element: connection.to,
+            port: u16::from(connection.in_port),
+        },
+    }
+}
+
+/// Makes a row at least so long.
+fn pad(row: &mut Vec<Option<Port>>, count: usize) -> Result<(), AllocError>
+    ensures same { (n : ℕ) → slice_index_or row.new.items n None ≡ slice_index_or row.old.items n None }
+    ensures long { OnOk result (count ≤ vec_len row.new) }
+{
+    while row.len() < count {
+        row.push(None)?;
+    }
+    Ok(())
+}
+
+/// Notes in a row what a port is joined to, unless something is noted there.
+fn note(row: &mut Vec<Option<Port>>, port: usize, far: Port) -> Result<(), AllocError>
+    requires { port < 2 ^ 32 }
+    ensures { OnOk result ((n : ℕ) → slice_index_or row.new.items n None ≡ first_of (slice_index_or row.old.items n None) (nat_eq port n) far) }
+{
+    pad(row, port + 1)?;
+    let slot = &mut row[port];
+    if slot.is_none() {
+        *slot = Some(far);
+    }
+    Ok(())
+}
+
+/// So many rows without an entry.
+fn empty_rows(alloc: Global, count: usize) -> Result<Vec<Vec<Option<Port>>>, AllocError>
+    ensures { IfOk result (λ rows. rows_of rows.items ≡ replicate count []) }
+{
+    let mut rows = Vec::with_capacity(alloc, count)?;
+    for _row in 0..count {
+        rows.push(Vec::new(alloc))?;
+    }
+    Ok(rows)
+}
+
+/// Notes what a connection joins.
+fn note_connection(
+    rows: &mut Vec<Vec<Option<Port>>>,
+    near: Port,
+    far: Port,
+) -> Result<(), AllocError>
+    requires { near.element < vec_len rows.old }
+    ensures noted { OnOk result (IsNoted (rows_of rows.old.items) (rows_of rows.new.items) near far) }
+    ensures all { OnOk result (vec_len rows.new ≡ vec_len rows.old) }
+{
+    note(&mut rows[near.element], usize::from(near.port), far)
+}
+
+/// For each port of a side the other end of the first connection there.
+fn joined(
+    alloc: Global,
+    net: &Net,
+    side: Side,
+    other: Side,
+) -> Result<Vec<Vec<Option<Port>>>, AllocError>
+    ensures { IfOk result (λ rows. IsTable (rows_of rows.items) (first_joined side other net.now.connections)) }
+{
+    let mut rows = empty_rows(alloc, net.shapes().len())?;
+    for connection in net.connections() {
+        note_connection(
+            &mut rows,
+            end_of(side, *connection),
+            end_of(other, *connection),
+        )?;
+    }
+    Ok(rows)
+}
+
+/// What the tables say of a port.
+fn look_up(rows: &[Vec<Option<Port>>], at: usize, port: usize) -> Option<Port>
+    ensures { result ≡ entry (rows_of rows.now) at port }
+{
+    let row = rows.get(at)?;
+    *row.get(port)?
+}
+
+impl Wires {
+    ghost use Rattle.std.specs.Prelude.{◌≡◌, IfOk};
+    ghost use Rattle.click_engine.specs.Wires.{wiring_of};
+
+    /// The tables of a net.
+    pub fn new(alloc: Global, net: Net) -> Result<Wires, AllocError>
+        ensures { IfOk result (λ w. w ≡ net) }
+    {
+        let targets = joined(alloc, &net, Side::Output, Side::Input)?;
+        let sources = joined(alloc, &net, Side::Input, Side::Output)?;
+        Ok(Wires {
+            net,
+            targets,
+            sources,
+        })
+    }
+
+    /// The net.
+    pub(crate) fn net(&self) -> &Net
+        ensures { result.now ≡ self.now }
+    {
+        &self.net
+    }
+
+    /// The input that a push at an output goes to.
+    pub(crate) fn target(&self, at: usize, output: usize) -> Option<Port>
+        ensures { result ≡ (wiring_of self.now).target at output }
+    {
+        look_up(self.targets.as_slice(), at, output)
+    }
+
+    /// The output that a pull at an input asks.
+    pub(crate) fn source(&self, at: usize, input: usize) -> Option<Port>
+        ensures { result ≡ (wiring_of self.now).source at input }
+    {
+        look_up(self.sources.as_slice(), at, input)
+    }
+}
