@@ -389,6 +389,3 @@ impl State {
         }
     }
 }
-
-#[cfg(test)]
-mod tests;

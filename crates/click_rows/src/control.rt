@@ -1,6 +1,6 @@
 //! Sessions with a port, a reader and a writer in memory.
 
-use crate::{
+use click_control::{
     Answer, AskFault, Command, Ended, Failed, Port, Reading, ServeFault, Writing, reply_text, serve,
 };
 use click_router::{Call, Refusal, Reply};

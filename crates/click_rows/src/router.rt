@@ -1,6 +1,6 @@
-use crate::call::{Call, Refusal, Reply};
-use crate::opening::prepare;
-use crate::router::Router;
+//! Texts that open or have a fault, and reads of what is open, worked out by hand.
+
+use click_router::{Call, Refusal, Reply, Router, prepare};
 use click_text::sequence::Sequence;
 use std::alloc::{AllocError, Global};
 use std::process::Abort;
@@ -23,7 +23,7 @@ fn check_lines(rt: &impl Abort, alloc: Global, rows: &[(&str, &str)]) -> Result<
 }
 
 #[test]
-fn opens(rt: HostRuntime) -> Result<(), Fail> {
+fn opens(rt: HostRuntime) -> Result<(), AllocError> {
     check_lines(
         &rt,
         rt.alloc(),
@@ -51,12 +51,11 @@ fn opens(rt: HostRuntime) -> Result<(), Fail> {
                 "opens",
             ),
         ],
-    )?;
-    Ok(())
+    )
 }
 
 #[test]
-fn refuses_with_faults_of_texts(rt: HostRuntime) -> Result<(), Fail> {
+fn refuses_with_faults_of_texts(rt: HostRuntime) -> Result<(), AllocError> {
     check_lines(
         &rt,
         rt.alloc(),
@@ -94,12 +93,11 @@ fn refuses_with_faults_of_texts(rt: HostRuntime) -> Result<(), Fail> {
                 "17 BrokenText in P@2/Strip@1",
             ),
         ],
-    )?;
-    Ok(())
+    )
 }
 
 #[test]
-fn refuses_with_faults_of_elements(rt: HostRuntime) -> Result<(), Fail> {
+fn refuses_with_faults_of_elements(rt: HostRuntime) -> Result<(), AllocError> {
     check_lines(
         &rt,
         rt.alloc(),
@@ -134,8 +132,7 @@ fn refuses_with_faults_of_elements(rt: HostRuntime) -> Result<(), Fail> {
                 "34 Mixed at FromDevice@1 output 0",
             ),
         ],
-    )?;
-    Ok(())
+    )
 }
 
 /// What one read of the router of a text answers, as a line.
