@@ -22,6 +22,37 @@ fn packet(bytes: &[u8]) -> Result<Packet, Fail> {
     Ok(Packet::of(bytes)?)
 }
 
+/// The outputs that a packet leaves by, of so many, where it is pushed to that input of a new element.
+fn pushed(
+    alloc: Global,
+    class: Class,
+    text: &str,
+    outputs: u16,
+    input: u16,
+    packet: &mut Packet,
+) -> Result<PortRange, Fail> {
+    let mut element = element(alloc, class, text.as_bytes())?;
+    Ok(element.act(outputs, input, packet))
+}
+
+/// What a new element of one input makes of a packet that is pulled from it, where it has so many outputs.
+fn pulled(
+    alloc: Global,
+    class: Class,
+    text: &str,
+    outputs: u16,
+    packet: &mut Packet,
+) -> Result<Outcome, Fail> {
+    let mut element = element(alloc, class, text.as_bytes())?;
+    Ok(element.gives(1, outputs, 0, packet))
+}
+
+/// The inputs that a new element asks, of so many, where its output 0 is pulled.
+fn asked(alloc: Global, class: Class, text: &str, inputs: u16) -> Result<PortRange, Fail> {
+    let element = element(alloc, class, text.as_bytes())?;
+    Ok(element.tries(inputs, 0))
+}
+
 /// A good header of 20 bytes with 64 hops to live: its words sum to ffff with the checksum 66d6.
 const HEADER: [u8; 20] = [
     0x45, 0, 0, 0x14, 0, 1, 0, 0, 0x40, 0x11, 0x66, 0xd6, 10, 0, 0, 1, 10, 0, 0, 2,
@@ -62,35 +93,50 @@ fn queues_store_and_drop(rt: HostRuntime) -> Result<(), Fail> {
 
 #[test]
 fn headers_age(rt: HostRuntime) -> Result<(), Fail> {
-    let mut check = element(rt.alloc(), Class::CheckIPHeader, b"")?;
-    let mut age = element(rt.alloc(), Class::DecIPTTL, b"")?;
     let mut good = packet(&HEADER)?;
-    assert_eq!(rt; check.act(1, 0, &mut good), to(0));
-    assert_eq!(rt; age.act(1, 0, &mut good), to(0));
+    for class in [Class::CheckIPHeader, Class::DecIPTTL] {
+        assert_eq!(rt; pushed(rt.alloc(), class, "", 1, 0, &mut good)?, to(0));
+    }
     let mut aged = HEADER;
     aged[8] = 0x3f;
     aged[10] = 0x67;
     assert_eq!(rt; good.bytes(), aged.as_slice());
-    // A header with another checksum goes aside: to output 1, or nowhere; a pull of it has no answer.
+    Ok(())
+}
+
+/// A header with another checksum goes aside: to output 1, or nowhere; a pull of it has no answer.
+#[test]
+fn bad_headers_go_aside(rt: HostRuntime) -> Result<(), Fail> {
     let mut bytes = HEADER;
     bytes[11] = 0xd7;
     let mut bad = packet(&bytes)?;
-    assert_eq!(rt; check.act(1, 0, &mut bad), PortRange { first: 1, count: 0 });
-    assert_eq!(rt; check.act(2, 0, &mut bad), to(1));
-    let given = check.gives(1, 2, 0, &mut bad);
+    let check = Class::CheckIPHeader;
+    for (outputs, want) in [(1, PortRange { first: 1, count: 0 }), (2, to(1))] {
+        assert_eq!(rt; pushed(rt.alloc(), check, "", outputs, 0, &mut bad)?, want);
+    }
     assert_eq!(rt;
-        given,
+        pulled(rt.alloc(), check, "", 2, &mut bad)?,
         Outcome {
             copies: to(1),
             answers: false
         }
     );
-    // So does a packet with one hop left, and one without a header, which stay as they are.
+    Ok(())
+}
+
+/// A packet with one hop left goes aside, and so does one without a header; they stay as they are.
+#[test]
+fn last_hops_go_aside(rt: HostRuntime) -> Result<(), Fail> {
+    let mut bytes = HEADER;
     bytes[8] = 1;
-    let mut last = packet(&bytes)?;
-    assert_eq!(rt; age.act(2, 0, &mut last), to(1));
-    assert_eq!(rt; last.bytes(), bytes.as_slice());
-    assert_eq!(rt; age.act(2, 0, &mut packet(&HEADER[..19])?), to(1));
+    for size in [20, 19] {
+        let mut last = packet(&bytes[..size])?;
+        assert_eq!(rt;
+            pushed(rt.alloc(), Class::DecIPTTL, "", 2, 0, &mut last)?,
+            to(1)
+        );
+        assert_eq!(rt; last.bytes(), &bytes[..size]);
+    }
     Ok(())
 }
 
@@ -121,37 +167,51 @@ fn classifies(rt: HostRuntime) -> Result<(), Fail> {
 
 #[test]
 fn looks_up(rt: HostRuntime) -> Result<(), Fail> {
-    let table = b"0.0.0.0/0 0, 10.0.0.0/8 1, 10.1.0.0/16 10.9.9.9 2";
-    let mut lookup = element(rt.alloc(), Class::StaticIPLookup, table)?;
-    for (address, output, next) in [
-        ([10, 1, 2, 3], 2, [10, 9, 9, 9]),
-        ([10, 2, 0, 1], 1, [10, 2, 0, 1]),
-        ([255, 255, 255, 255], 0, [255, 255, 255, 255]),
+    let table = "0.0.0.0/0 0, 10.0.0.0/8 1, 10.1.0.0/16 10.9.9.9 2";
+    for (text, address, output, next) in [
+        (table, [10, 1, 2, 3], to(2), [10, 9, 9, 9]),
+        (table, [10, 2, 0, 1], to(1), [10, 2, 0, 1]),
+        (table, [255, 255, 255, 255], to(0), [255, 255, 255, 255]),
+        ("10.0.0.0/8 0", [0, 0, 0, 0], NOWHERE, [0, 0, 0, 0]),
     ] {
         let mut packet = packet(b"x")?;
         packet.set_destination(address);
-        assert_eq!(rt; lookup.act(3, 0, &mut packet), to(output));
+        let found = pushed(rt.alloc(), Class::StaticIPLookup, text, 3, 0, &mut packet)?;
+        assert_eq!(rt; found, output);
         assert_eq!(rt; packet.destination(), next);
     }
-    let mut narrow = element(rt.alloc(), Class::StaticIPLookup, b"10.0.0.0/8 0")?;
-    assert_eq!(rt; narrow.act(1, 0, &mut packet(b"x")?), NOWHERE);
     Ok(())
 }
 
+const ENCAP: &str = "0x0800, 1:1:1:1:1:1, 2:2:2:2:2:2";
+
 #[test]
 fn encapsulates(rt: HostRuntime) -> Result<(), Fail> {
-    let text = b"0x0800, 1:1:1:1:1:1, 2:2:2:2:2:2";
-    let mut encap = element(rt.alloc(), Class::EtherEncap, text)?;
     let mut short = packet(&[0xaa])?;
-    assert_eq!(rt; encap.act(1, 0, &mut short), to(0));
+    let output = pushed(rt.alloc(), Class::EtherEncap, ENCAP, 1, 0, &mut short)?;
+    assert_eq!(rt; output, to(0));
     assert_eq!(rt;
         short.bytes(),
         [2, 2, 2, 2, 2, 2, 1, 1, 1, 1, 1, 1, 8, 0, 0xaa].as_slice()
     );
+    Ok(())
+}
+
+#[test]
+fn drops_what_has_no_room_for_a_header(rt: HostRuntime) -> Result<(), Fail> {
     let bytes = [0u8; 1600];
-    assert_eq!(rt; encap.act(1, 0, &mut packet(&bytes[..1586])?), to(0));
-    assert_eq!(rt; encap.act(1, 0, &mut packet(&bytes[..1587])?), NOWHERE);
-    let given = encap.gives(1, 1, 0, &mut packet(&bytes[..1587])?);
+    for (size, want) in [(1586, to(0)), (1587, NOWHERE)] {
+        let mut long = packet(&bytes[..size])?;
+        let output = pushed(rt.alloc(), Class::EtherEncap, ENCAP, 1, 0, &mut long)?;
+        assert_eq!(rt; output, want);
+    }
+    let given = pulled(
+        rt.alloc(),
+        Class::EtherEncap,
+        ENCAP,
+        1,
+        &mut packet(&bytes[..1587])?,
+    )?;
     assert_eq!(rt;
         given,
         Outcome {
@@ -164,28 +224,20 @@ fn encapsulates(rt: HostRuntime) -> Result<(), Fail> {
 
 #[test]
 fn paints_strips_and_looks(rt: HostRuntime) -> Result<(), Fail> {
-    let alloc = rt.alloc();
     let mut p = packet(b"abcdef")?;
-    let mut paint = element(alloc, Class::Paint, b"3")?;
-    assert_eq!(rt; paint.act(1, 0, &mut p), to(0));
+    for (class, text, outputs, want) in [
+        (Class::Paint, "3", 1, to(0)),
+        (Class::PaintTee, "3", 2, PortRange { first: 0, count: 2 }),
+        (Class::PaintTee, "3", 1, to(0)),
+        (Class::Strip, "2", 1, to(0)),
+        (Class::CheckLength, "3", 2, to(1)),
+        (Class::GetIPAddress, "0", 1, to(0)),
+    ] {
+        let output = pushed(rt.alloc(), class, text, outputs, 0, &mut p)?;
+        assert_eq!(rt; output, want, "{class:?}");
+    }
     assert_eq!(rt; p.paint(), 3);
-    let mut tee = element(alloc, Class::PaintTee, b"3")?;
-    assert_eq!(rt; tee.act(2, 0, &mut p), PortRange { first: 0, count: 2 });
-    assert_eq!(rt; tee.act(1, 0, &mut p), to(0));
-    assert_eq!(rt;
-        tee.gives(1, 2, 0, &mut p),
-        Outcome {
-            copies: to(1),
-            answers: true
-        }
-    );
-    let mut strip = element(alloc, Class::Strip, b"2")?;
-    assert_eq!(rt; strip.act(1, 0, &mut p), to(0));
     assert_eq!(rt; p.bytes(), b"cdef".as_slice());
-    let mut length = element(alloc, Class::CheckLength, b"3")?;
-    assert_eq!(rt; length.act(2, 0, &mut p), to(1));
-    let mut address = element(alloc, Class::GetIPAddress, b"0")?;
-    assert_eq!(rt; address.act(1, 0, &mut p), to(0));
     assert_eq!(rt; p.destination(), *b"cdef");
     Ok(())
 }
@@ -214,21 +266,27 @@ fn counts_up_to_the_greatest_number(rt: HostRuntime) -> Result<(), Fail> {
 }
 
 #[test]
-fn switches(rt: HostRuntime) -> Result<(), Fail> {
-    let alloc = rt.alloc();
+fn a_switch_goes_round(rt: HostRuntime) -> Result<(), Fail> {
     let mut p = packet(b"a")?;
-    let mut round = element(alloc, Class::RoundRobinSwitch, b"")?;
+    let mut round = element(rt.alloc(), Class::RoundRobinSwitch, b"")?;
     for output in [0, 1, 2, 0] {
         assert_eq!(rt; round.act(3, 0, &mut p), to(output));
     }
-    let mut closed = element(alloc, Class::Switch, b"-1")?;
-    assert_eq!(rt; closed.act(2, 0, &mut p), NOWHERE);
-    let mut copies = element(alloc, Class::Tee, b"")?;
-    assert_eq!(rt; copies.act(4, 0, &mut p), PortRange { first: 0, count: 4 });
-    let mut suppressor = element(alloc, Class::Suppressor, b"")?;
-    assert_eq!(rt; suppressor.act(3, 2, &mut p), to(2));
-    let mut idle = element(alloc, Class::Idle, b"")?;
-    assert_eq!(rt; idle.act(3, 2, &mut p), NOWHERE);
+    Ok(())
+}
+
+#[test]
+fn switches(rt: HostRuntime) -> Result<(), Fail> {
+    let mut p = packet(b"a")?;
+    for (class, text, outputs, input, want) in [
+        (Class::Switch, "-1", 2, 0, NOWHERE),
+        (Class::Tee, "", 4, 0, PortRange { first: 0, count: 4 }),
+        (Class::Suppressor, "", 3, 2, to(2)),
+        (Class::Idle, "", 3, 2, NOWHERE),
+    ] {
+        let output = pushed(rt.alloc(), class, text, outputs, input, &mut p)?;
+        assert_eq!(rt; output, want, "{class:?}");
+    }
     Ok(())
 }
 
@@ -259,31 +317,32 @@ fn a_scheduler_goes_round(rt: HostRuntime) -> Result<(), Fail> {
 
 #[test]
 fn pulls_ask_inputs(rt: HostRuntime) -> Result<(), Fail> {
-    let alloc = rt.alloc();
-    let prio = element(alloc, Class::PrioSched, b"")?;
-    assert_eq!(rt; prio.tries(2, 0), PortRange { first: 0, count: 2 });
-    let switch = element(alloc, Class::PullSwitch, b"1")?;
-    assert_eq!(rt; switch.tries(2, 0), to(1));
-    let closed = element(alloc, Class::PullSwitch, b"-1")?;
-    assert_eq!(rt; closed.tries(2, 0), NOWHERE);
-    let null = element(alloc, Class::PullNull, b"")?;
-    assert_eq!(rt; null.tries(1, 0), to(0));
-    let idle = element(alloc, Class::Idle, b"")?;
-    assert_eq!(rt; idle.tries(1, 0), NOWHERE);
+    for (class, text, inputs, want) in [
+        (Class::PrioSched, "", 2, PortRange { first: 0, count: 2 }),
+        (Class::PullSwitch, "1", 2, to(1)),
+        (Class::PullSwitch, "-1", 2, NOWHERE),
+        (Class::PullNull, "", 1, to(0)),
+        (Class::PullTee, "", 1, to(0)),
+        (Class::Idle, "", 1, NOWHERE),
+    ] {
+        assert_eq!(rt; asked(rt.alloc(), class, text, inputs)?, want, "{class:?}");
+    }
     Ok(())
 }
 
 #[test]
-fn a_pull_tee_copies(rt: HostRuntime) -> Result<(), Fail> {
+fn pulls_are_copied(rt: HostRuntime) -> Result<(), Fail> {
     let mut p = packet(b"a")?;
-    let mut tee = element(rt.alloc(), Class::PullTee, b"")?;
-    assert_eq!(rt; tee.tries(1, 0), to(0));
-    assert_eq!(rt;
-        tee.gives(1, 3, 0, &mut p),
-        Outcome {
-            copies: PortRange { first: 1, count: 2 },
-            answers: true
-        }
-    );
+    p.set_paint(3);
+    for (class, text, outputs, copies) in [
+        (Class::PullTee, "", 3, PortRange { first: 1, count: 2 }),
+        (Class::PaintTee, "3", 2, to(1)),
+    ] {
+        let want = Outcome {
+            copies,
+            answers: true,
+        };
+        assert_eq!(rt; pulled(rt.alloc(), class, text, outputs, &mut p)?, want);
+    }
     Ok(())
 }

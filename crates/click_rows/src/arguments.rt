@@ -18,22 +18,24 @@ fn arguments_shown(alloc: Global, text: &[u8]) -> Result<Vec<u8>, TextFault> {
 
 #[test]
 fn places_of_arguments(rt: HostRuntime) -> Result<(), Fail> {
-    let alloc = rt.alloc();
-    let two = arguments(alloc, b"a, (b, c)".as_slice())?;
-    assert_eq!(rt;
-        two.as_slice(),
-        [Span { start: 0, end: 1 }, Span { start: 3, end: 9 }].as_slice()
-    );
-    let last = arguments(alloc, b"a,".as_slice())?;
-    assert_eq!(rt;
-        last.as_slice(),
-        [Span { start: 0, end: 1 }, Span { start: 2, end: 2 }].as_slice()
-    );
-    let empty = arguments(alloc, b",".as_slice())?;
-    assert_eq!(rt;
-        empty.as_slice(),
-        [Span { start: 0, end: 0 }, Span { start: 1, end: 1 }].as_slice()
-    );
+    for (text, first, second) in [
+        ("a, (b, c)", (0, 1), (3, 9)),
+        ("a,", (0, 1), (2, 2)),
+        (",", (0, 0), (1, 1)),
+    ] {
+        let spans = arguments(rt.alloc(), text.as_bytes())?;
+        let want = [
+            Span {
+                start: first.0,
+                end: first.1,
+            },
+            Span {
+                start: second.0,
+                end: second.1,
+            },
+        ];
+        assert_eq!(rt; spans.as_slice(), want.as_slice(), "{text}");
+    }
     Ok(())
 }
 

@@ -156,6 +156,11 @@ fn answers_commands(rt: HostRuntime) -> Result<(), Fail> {
         assert_eq!(rt; ended, Ok(Ended::EndOfInput));
         assert_eq!(rt; replies(&written), want);
     }
+    Ok(())
+}
+
+#[test]
+fn quits(rt: HostRuntime) -> Result<(), Fail> {
     let (ended, written) = session(
         rt.alloc(),
         reader_of(b"quit now\nREAD c.none\n", 4096, 0),

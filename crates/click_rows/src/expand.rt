@@ -1,7 +1,7 @@
 //! Texts with their flat form or their first fault, worked out by hand.
 
 use crate::rows::FaultRow;
-use click_expand::{Connection, ExpandFault, FaultKind, Flat, FlatElement, flat_text, flatten};
+use click_expand::{Connection, ExpandFault, FaultKind, Flat, flat_text, flatten};
 use click_text::parse;
 use click_text::sequence::Sequence;
 use click_text::syntax::Span;
@@ -48,6 +48,11 @@ fn flat_forms(rt: HostRuntime) -> Result<(), AllocError> {
         (
             "Idle[7] -> [9]Discard;",
             "Idle@1 :: Idle;\nDiscard@2 :: Discard;\nIdle@1 [7] -> [9] Discard@2;\n",
+        ),
+        // A port of 0 is not written.
+        (
+            "a :: Tee(3); b :: Paint(1); a [0] -> [0] b; a [2] -> [1] b; a [255] -> [10] b;",
+            "a :: Tee(3);\nb :: Paint(1);\na -> b;\na [2] -> [1] b;\na [255] -> [10] b;\n",
         ),
         // A chain that goes round reaches nothing.
         (
@@ -249,36 +254,6 @@ fn value_passed_on(rt: HostRuntime) -> Result<(), Fail> {
 
 fn sequence(alloc: Global, text: &str) -> Result<Sequence<u8>, AllocError> {
     Ok(Sequence::of(Vec::from_slice(alloc, text.as_bytes())?))
-}
-
-/// A port of 0 is not written, and a port has up to three digits.
-#[test]
-fn ports_as_written(rt: HostRuntime) -> Result<(), Fail> {
-    let alloc = rt.alloc();
-    let mut flat = Flat {
-        elements: Sequence::new(alloc),
-        connections: Sequence::new(alloc),
-    };
-    for (name, class, text) in [("a", "Tee", "3"), ("b", "Paint", "1")] {
-        flat.elements.push(FlatElement {
-            name: sequence(alloc, name)?,
-            class: sequence(alloc, class)?,
-            text: sequence(alloc, text)?,
-        })?;
-    }
-    for (out_port, in_port) in [(0, 0), (2, 1), (255, 10)] {
-        flat.connections.push(Connection {
-            from: 0,
-            out_port,
-            to: 1,
-            in_port,
-        })?;
-    }
-    assert_eq!(rt;
-        flat_text(alloc, &flat)?.as_slice(),
-        b"a :: Tee(3);\nb :: Paint(1);\na -> b;\na [2] -> [1] b;\na [255] -> [10] b;\n".as_slice()
-    );
-    Ok(())
 }
 
 #[test]

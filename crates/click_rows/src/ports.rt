@@ -112,6 +112,11 @@ fn answer(
     Ok(resolve(alloc, &flat, states.as_slice()))
 }
 
+/// The net of elements, one a line, and connections.
+fn net_of(alloc: Global, lines: &str, joins: &[(usize, u8, usize, u8)]) -> Result<Net, Fail> {
+    Ok(answer(alloc, lines, joins)?.ok().ok_or("a net")?)
+}
+
 /// The rules are broken first there.
 fn expect_fault(
     rt: &impl Abort,
@@ -144,7 +149,7 @@ fn expect_kinds(
     joins: &[(usize, u8, usize, u8)],
     kinds: &[(usize, Side, u16, Option<bool>)],
 ) -> Result<(), Fail> {
-    let net = answer(alloc, lines, joins)?.ok().ok_or("a net")?;
+    let net = net_of(alloc, lines, joins)?;
     for (element, side, port, pull) in kinds {
         let answer = net.pulls(*element, *side, *port);
         assert_eq!(rt; answer, *pull, "{element} {port} of {lines}");
@@ -609,13 +614,11 @@ fn second_outputs(rt: HostRuntime) -> Result<(), Fail> {
 fn what_a_net_says(rt: HostRuntime) -> Result<(), Fail> {
     let alloc = rt.alloc();
     // A connection to an element that is not there joins nothing.
-    let net = answer(
+    let net = net_of(
         alloc,
         "f FromDevice a\nlast/one Discard",
         [(0, 0, 1, 0), (0, 0, 2, 0), (7, 3, 1, 5)].as_slice(),
-    )?
-    .ok()
-    .ok_or("a net")?;
+    )?;
     let shapes = net.shapes();
     let connections = net.connections();
     assert_eq!(rt; shapes.len(), 2);
