@@ -1,5 +1,5 @@
 use Rattle.click_ports.specs.Net.{AreStatesOf}
-use Rattle.click_ports.proofs.tests.answer.Given as goal
+use Rattle.click_rows.proofs.ports.answer.Given as goal
 
 abbrev pub invariant-loop-line : goal.invariant-loop-line
 invariant-loop-line l = record {

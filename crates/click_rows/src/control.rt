@@ -1,6 +1,6 @@
 //! Sessions with a port, a reader and a writer in memory.
 
-use crate::{
+use click_control::{
     Answer, AskFault, Command, Ended, Failed, Port, Reading, ServeFault, Writing, reply_text, serve,
 };
 use click_router::{Call, Refusal, Reply};
@@ -156,6 +156,11 @@ fn answers_commands(rt: HostRuntime) -> Result<(), Fail> {
         assert_eq!(rt; ended, Ok(Ended::EndOfInput));
         assert_eq!(rt; replies(&written), want);
     }
+    Ok(())
+}
+
+#[test]
+fn quits(rt: HostRuntime) -> Result<(), Fail> {
     let (ended, written) = session(
         rt.alloc(),
         reader_of(b"quit now\nREAD c.none\n", 4096, 0),

@@ -1,29 +1,40 @@
-use crate::call::{Call, Refusal, Reply};
-use crate::opening::prepare;
-use crate::router::Router;
+//! Texts that open or have a fault, and reads of what is open, worked out by hand.
+
+use click_router::{Call, Refusal, Reply, Router, prepare};
 use click_text::sequence::Sequence;
 use std::alloc::{AllocError, Global};
 use std::process::Abort;
 use std::test::Fail;
 
+/// The line of a text's fault, or that it opens.
+fn line_of(alloc: Global, text: &str) -> Result<Vec<u8>, AllocError> {
+    match prepare(alloc, text.as_bytes()) {
+        Ok(_) => Vec::from_slice(alloc, b"opens"),
+        Err(fault) => fault.text(alloc),
+    }
+}
+
+/// What the fault prints.
+fn printed(alloc: Global, text: &str) -> Result<String, AllocError> {
+    match prepare(alloc, text.as_bytes()) {
+        Ok(_) => "opens".to_string(alloc),
+        Err(fault) => fault.to_string(alloc),
+    }
+}
+
 /// Each text opens, or has the fault of that line; what the fault prints is its line.
 fn check_lines(rt: &impl Abort, alloc: Global, rows: &[(&str, &str)]) -> Result<(), AllocError> {
     for (text, want) in rows {
-        match prepare(alloc, text.as_bytes()) {
-            Ok(_) => assert_eq!(rt; "opens", *want, "at {text}"),
-            Err(fault) => {
-                let line = fault.text(alloc)?;
-                assert_eq!(rt; line.as_slice(), want.as_bytes(), "at {text}");
-                let printed = fault.to_string(alloc)?;
-                assert_eq!(rt; printed.as_str(), *want, "at {text}");
-            }
-        }
+        let line = line_of(alloc, *text)?;
+        assert_eq!(rt; line.as_slice(), want.as_bytes(), "at {text}");
+        let printed = printed(alloc, *text)?;
+        assert_eq!(rt; printed.as_str(), *want, "at {text}");
     }
     Ok(())
 }
 
 #[test]
-fn opens(rt: HostRuntime) -> Result<(), Fail> {
+fn opens(rt: HostRuntime) -> Result<(), AllocError> {
     check_lines(
         &rt,
         rt.alloc(),
@@ -51,12 +62,11 @@ fn opens(rt: HostRuntime) -> Result<(), Fail> {
                 "opens",
             ),
         ],
-    )?;
-    Ok(())
+    )
 }
 
 #[test]
-fn refuses_with_faults_of_texts(rt: HostRuntime) -> Result<(), Fail> {
+fn refuses_with_faults_of_texts(rt: HostRuntime) -> Result<(), AllocError> {
     check_lines(
         &rt,
         rt.alloc(),
@@ -94,12 +104,11 @@ fn refuses_with_faults_of_texts(rt: HostRuntime) -> Result<(), Fail> {
                 "17 BrokenText in P@2/Strip@1",
             ),
         ],
-    )?;
-    Ok(())
+    )
 }
 
 #[test]
-fn refuses_with_faults_of_elements(rt: HostRuntime) -> Result<(), Fail> {
+fn refuses_with_faults_of_elements(rt: HostRuntime) -> Result<(), AllocError> {
     check_lines(
         &rt,
         rt.alloc(),
@@ -134,30 +143,27 @@ fn refuses_with_faults_of_elements(rt: HostRuntime) -> Result<(), Fail> {
                 "34 Mixed at FromDevice@1 output 0",
             ),
         ],
-    )?;
-    Ok(())
+    )
 }
 
-/// What one read of the router of a text answers, as a line.
-fn read(alloc: Global, text: &str, name: &str) -> Result<Vec<u8>, AllocError> {
-    let Ok(prepared) = prepare(alloc, text.as_bytes()) else {
-        return Vec::from_slice(alloc, b"not opened");
-    };
-    let mut router = Router::open(prepared);
+/// What one read of the router answers, as a line.
+fn read(alloc: Global, router: &mut Router, name: &str) -> Result<Vec<u8>, Fail> {
     let call = Call::Read {
         name: Sequence::of(Vec::from_slice(alloc, name.as_bytes())?),
         text: Sequence::new(alloc),
     };
-    match router.step(alloc, &call) {
-        Ok(Reply::Value(value)) => Vec::from_slice(alloc, value.as_slice()),
-        Ok(Reply::Refused(Refusal::NoElement)) => Vec::from_slice(alloc, b"no element"),
-        Ok(Reply::Refused(Refusal::NoHandler)) => Vec::from_slice(alloc, b"no handler"),
-        Err(_) => Err(AllocError),
-    }
+    let line = match router.step(alloc, &call).ok().ok_or("a reply")? {
+        Reply::Value(value) => Vec::from_slice(alloc, value.as_slice())?,
+        Reply::Refused(Refusal::NoElement) => Vec::from_slice(alloc, b"no element")?,
+        Reply::Refused(Refusal::NoHandler) => Vec::from_slice(alloc, b"no handler")?,
+    };
+    Ok(line)
 }
 
 #[test]
 fn reads_handlers(rt: HostRuntime) -> Result<(), Fail> {
+    let text = b"Idle -> c :: Counter -> Discard;";
+    let mut router = Router::open(prepare(rt.alloc(), text).ok().ok_or("a router")?);
     for (name, want) in [
         ("c.count", "0"),
         ("c.byte_count", "0"),
@@ -169,7 +175,7 @@ fn reads_handlers(rt: HostRuntime) -> Result<(), Fail> {
         (".count", "no element"),
         ("c..count", "no element"),
     ] {
-        let reply = read(rt.alloc(), "Idle -> c :: Counter -> Discard;", name)?;
+        let reply = read(rt.alloc(), &mut router, name)?;
         assert_eq!(rt; reply.as_slice(), want.as_bytes(), "at {name}");
     }
     Ok(())

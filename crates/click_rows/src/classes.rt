@@ -1,19 +1,9 @@
 //! Tests of the arguments of each class.
 
-use crate::arguments::Arguments;
-use crate::class::{CLASSES, Class, class_of};
-use crate::classes::classifier::patterns;
-use crate::classes::header::refused;
-use crate::codes::{code, passes};
-use crate::fault::ArgFault;
-use crate::making::{first_state, make};
-use crate::port_counts::counts;
-use crate::ports::{Code, Side};
-use crate::state::State;
-use crate::values::entry::read_table;
-use click_text::sequence::Sequence;
-use click_text::syntax::Span;
-use std::alloc::{AllocError, Global};
+use click_classes::{
+    ArgFault, CLASSES, Class, Code, Side, State, class_of, code, counts, make, passes,
+};
+use std::alloc::Global;
 use std::process::Abort;
 use std::test::Fail;
 
@@ -405,112 +395,12 @@ fn read_row(line: &str) -> Option<Row<'_>> {
     })
 }
 
-/// The bytes between two places, without a space at the front.
-fn piece(text: &[u8], start: usize, end: usize) -> Span {
-    let skips = start < end && end <= text.len() && text[start] == b' ';
-    Span {
-        start: start + usize::from(skips),
-        end,
-    }
-}
-
-/// The spans between commas.
-fn pieces(alloc: Global, text: &[u8]) -> Result<Vec<Span>, AllocError> {
-    let mut spans = Vec::new(alloc);
-    if text.is_empty() {
-        return Ok(spans);
-    }
-    let mut start = 0;
-    for (at, byte) in text.iter().enumerate() {
-        if *byte == b',' {
-            spans.push(piece(text, start, at))?;
-            start = at + 1;
-        }
-    }
-    spans.push(piece(text, start, text.len()))?;
-    Ok(spans)
-}
-
-/// The bytes between spaces.
-fn words(alloc: Global, text: &[u8]) -> Result<Sequence<Sequence<u8>>, AllocError> {
-    let mut all = Sequence::new(alloc);
-    let mut word = Sequence::new(alloc);
-    for byte in text {
-        if *byte == b' ' {
-            all.push(word)?;
-            word = Sequence::new(alloc);
-        } else {
-            word.push(*byte)?;
-        }
-    }
-    if word.len() > 0 {
-        all.push(word)?;
-    }
-    Ok(all)
-}
-
-/// The words of each argument.
-fn words_of_each(
-    alloc: Global,
-    text: &[u8],
-) -> Result<Sequence<Sequence<Sequence<u8>>>, AllocError> {
-    let mut all = Sequence::new(alloc);
-    let spans = pieces(alloc, text)?;
-    for span in spans.as_slice() {
-        all.push(words(alloc, span.of(text))?)?;
-    }
-    Ok(all)
-}
-
 /// The number of a fault, or 0.
-fn number<T: Drop>(answer: Result<T, ArgFault>) -> u8 {
+fn number(answer: Result<State, ArgFault>) -> u8 {
     match answer {
         Ok(_) => 0,
         Err(fault) => fault as u8,
     }
-}
-
-/// The fault of these words, or 0.
-fn number_of_words(alloc: Global, class: Class, text: &[u8]) -> Result<u8, AllocError> {
-    let all = words_of_each(alloc, text)?;
-    let (least, most) = match class {
-        Class::Classifier => (1, 256),
-        Class::StaticIPLookup => (0, 1_024),
-        _ => (0, 1),
-    };
-    if all.len() < least || all.len() > most {
-        return Ok(ArgFault::ArgumentCount as u8);
-    }
-    Ok(match class {
-        Class::Classifier => number(patterns(alloc, all.as_slice())),
-        Class::StaticIPLookup => number(read_table(alloc, all.as_slice())),
-        _ => number(refused(alloc, all.as_slice())),
-    })
-}
-
-#[test]
-fn plain_arguments(rt: HostRuntime) -> Result<(), Fail> {
-    for line in PLAIN_ROWS.lines() {
-        let row = read_row(line).ok_or("a row")?;
-        let spans = pieces(rt.alloc(), row.text)?;
-        let answer = first_state(
-            rt.alloc(),
-            row.class,
-            &Arguments::of(row.text, spans.as_slice()),
-        );
-        assert_eq!(rt; number(answer), row.fault, "{line}");
-    }
-    Ok(())
-}
-
-#[test]
-fn words_of_arguments(rt: HostRuntime) -> Result<(), Fail> {
-    for line in WORD_ROWS.lines() {
-        let row = read_row(line).ok_or("a row")?;
-        let number = number_of_words(rt.alloc(), row.class, row.text)?;
-        assert_eq!(rt; number, row.fault, "{line}");
-    }
-    Ok(())
 }
 
 /// Each row of a table over `make`.

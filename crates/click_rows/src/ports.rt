@@ -5,11 +5,9 @@ ghost use Rattle.click_classes.specs.Classes.{class_of};
 ghost use Rattle.click_classes.specs.State.{class};
 ghost use Rattle.click_ports.specs.Net.{AreStatesOf};
 
-use crate::fault::{FaultKind, PortFault};
-use crate::net::Net;
-use crate::resolving::resolve;
 use click_classes::{Class, Side, State, class_of, make};
 use click_expand::{Connection, Flat, FlatElement};
+use click_ports::{FaultKind, Net, PortFault, resolve};
 use click_text::sequence::Sequence;
 use std::alloc::{AllocError, Global};
 use std::process::Abort;
@@ -114,6 +112,11 @@ fn answer(
     Ok(resolve(alloc, &flat, states.as_slice()))
 }
 
+/// The net of elements, one a line, and connections.
+fn net_of(alloc: Global, lines: &str, joins: &[(usize, u8, usize, u8)]) -> Result<Net, Fail> {
+    Ok(answer(alloc, lines, joins)?.ok().ok_or("a net")?)
+}
+
 /// The rules are broken first there.
 fn expect_fault(
     rt: &impl Abort,
@@ -146,7 +149,7 @@ fn expect_kinds(
     joins: &[(usize, u8, usize, u8)],
     kinds: &[(usize, Side, u16, Option<bool>)],
 ) -> Result<(), Fail> {
-    let net = answer(alloc, lines, joins)?.ok().ok_or("a net")?;
+    let net = net_of(alloc, lines, joins)?;
     for (element, side, port, pull) in kinds {
         let answer = net.pulls(*element, *side, *port);
         assert_eq!(rt; answer, *pull, "{element} {port} of {lines}");
@@ -529,7 +532,7 @@ fn kinds_of_two_connections(rt: HostRuntime) -> Result<(), Fail> {
     )
 }
 
-/// A class with an agnostic input and first output, in a push and in a pull chain, with and without its second output, which is push.
+/// A class with an agnostic input and first output, in a push and in a pull chain, has a second output that is push.
 fn second_output(rt: &impl Abort, alloc: Global, class: &str) -> Result<(), Fail> {
     let push = format!(in alloc; "f FromDevice a\np {class}\nd Discard\ne Discard")?;
     expect_kinds(
@@ -557,7 +560,11 @@ fn second_output(rt: &impl Abort, alloc: Global, class: &str) -> Result<(), Fail
             (4, INPUT, 0, PUSH),
         ]
         .as_slice(),
-    )?;
+    )
+}
+
+/// The same in a pull chain without its second output.
+fn one_output(rt: &impl Abort, alloc: Global, class: &str) -> Result<(), Fail> {
     let one = format!(in alloc; "f FromDevice a\nq Queue\np {class}\nt ToDevice b")?;
     expect_kinds(
         rt,
@@ -576,8 +583,10 @@ fn second_output(rt: &impl Abort, alloc: Global, class: &str) -> Result<(), Fail
 #[test]
 fn second_outputs(rt: HostRuntime) -> Result<(), Fail> {
     let alloc = rt.alloc();
-    second_output(&rt, alloc, "PaintTee 1")?;
-    second_output(&rt, alloc, "CheckIPHeader")?;
+    for class in ["PaintTee 1", "CheckIPHeader"] {
+        second_output(&rt, alloc, class)?;
+        one_output(&rt, alloc, class)?;
+    }
     // A PullTee has the same kinds after a Queue.
     expect_kinds(
         &rt,
@@ -605,13 +614,11 @@ fn second_outputs(rt: HostRuntime) -> Result<(), Fail> {
 fn what_a_net_says(rt: HostRuntime) -> Result<(), Fail> {
     let alloc = rt.alloc();
     // A connection to an element that is not there joins nothing.
-    let net = answer(
+    let net = net_of(
         alloc,
         "f FromDevice a\nlast/one Discard",
         [(0, 0, 1, 0), (0, 0, 2, 0), (7, 3, 1, 5)].as_slice(),
-    )?
-    .ok()
-    .ok_or("a net")?;
+    )?;
     let shapes = net.shapes();
     let connections = net.connections();
     assert_eq!(rt; shapes.len(), 2);
@@ -626,43 +633,21 @@ fn what_a_net_says(rt: HostRuntime) -> Result<(), Fail> {
 /// A fault's text is its kind's number and name, with the place unless memory ran out.
 #[test]
 fn fault_texts(rt: HostRuntime) -> Result<(), Fail> {
-    let rows = [
-        (FaultKind::NoMemory, Side::Input, "7 NoMemory"),
-        (
-            FaultKind::Count,
-            Side::Input,
-            "31 Count at element 3, inputs 1",
-        ),
-        (
-            FaultKind::Count,
-            Side::Output,
-            "31 Count at element 3, outputs 1",
-        ),
-        (
-            FaultKind::Unused,
-            Side::Input,
-            "32 Unused at element 3, input 1",
-        ),
-        (
-            FaultKind::Twice,
-            Side::Output,
-            "33 Twice at element 3, output 1",
-        ),
-        (
-            FaultKind::Mixed,
-            Side::Input,
-            "34 Mixed at element 3, input 1",
-        ),
-    ];
-    for (kind, side, text) in rows {
+    for (kind, side, text) in [
+        (FaultKind::NoMemory, INPUT, "7 NoMemory"),
+        (FaultKind::Count, INPUT, "31 Count at element 3, inputs 1"),
+        (FaultKind::Count, OUTPUT, "31 Count at element 3, outputs 1"),
+        (FaultKind::Unused, INPUT, "32 Unused at element 3, input 1"),
+        (FaultKind::Twice, OUTPUT, "33 Twice at element 3, output 1"),
+        (FaultKind::Mixed, INPUT, "34 Mixed at element 3, input 1"),
+    ] {
         let fault = PortFault {
             kind,
             element: 3,
             side,
             number: 1,
         };
-        let shown = format!(in rt.alloc(); "{fault}")?;
-        assert_eq!(rt; shown.as_str(), text);
+        assert_eq!(rt; fault.to_string(rt.alloc())?.as_str(), text);
     }
     Ok(())
 }

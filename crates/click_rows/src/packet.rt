@@ -1,4 +1,6 @@
-use super::*;
+//! Packets and their headers, worked out by hand.
+
+use click_packet::{Packet, TooLong};
 use std::test::Fail;
 
 /// 10.0.0.1 sends a header alone to 10.0.0.2 with time to live 64.
@@ -36,6 +38,22 @@ fn new_ttl(rt: HostRuntime) -> Result<(), Fail> {
     ];
     assert_eq!(rt; packet.bytes(), aged.as_slice());
     assert!(rt; packet.header_good(&[]));
+    Ok(())
+}
+
+/// A header of a UDP packet from 192.168.0.1 to 192.168.0.199, captured with the checksum b861; a new time to live writes another.
+#[test]
+fn captured_header(rt: HostRuntime) -> Result<(), Fail> {
+    let captured = [
+        0x45, 0x00, 0x00, 0x73, 0x00, 0x00, 0x40, 0x00, 0x40, 0x11, 0xb8, 0x61, 0xc0, 0xa8, 0x00,
+        0x01, 0xc0, 0xa8, 0x00, 0xc7,
+    ];
+    let mut bytes = captured;
+    bytes[10] = 0x12;
+    bytes[11] = 0x34;
+    let mut packet = Packet::of(&bytes)?;
+    assert!(rt; packet.set_ttl(0x40));
+    assert_eq!(rt; packet.bytes(), captured.as_slice());
     Ok(())
 }
 
