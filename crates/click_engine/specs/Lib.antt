@@ -1,4 +1,5 @@
 pub mod Frames
+pub mod Keeps
 pub mod Plant
 pub mod Rounds
 pub mod Run
