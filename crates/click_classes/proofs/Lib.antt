@@ -16,3 +16,6 @@ pub mod SixBytes
 pub mod LongestRoute
 pub mod Queueing
 pub mod Aging
+pub mod Settings
+pub mod Sound
+pub mod Full

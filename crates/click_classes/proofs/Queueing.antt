@@ -1,9 +1,9 @@
 -- A queue counts each packet.
-use Rattle.std.proofs.Common.{◌≡◌, ℕ, ◌+◌, ◌-◌, ◌^◌, ◌<◌, ◌≤◌, ◌==◌, List, [], ◌∷◌, ◌++◌, length, true, false, Option, Some, None, min, max, refl, sym, ap, ◌∙◌, subst, arith, inl, inr, length-append}
+use Rattle.std.proofs.Common.{◌≡◌, ℕ, ◌+◌, ◌-◌, ◌^◌, ◌<◌, ◌≤◌, ◌==◌, List, [], ◌∷◌, ◌++◌, length, false, Some, max, refl, ap, subst, arith, inl, inr, length-append}
 use Rattle.std.proofs.lemmas.Bool.{cases_Bool, eqb-false}
 use Rattle.click_packet.specs.Packet.{Packet}
 use Rattle.click_classes.specs.PacketList.{PacketList}
-use Rattle.click_classes.specs.Acts.{act, pass, pushed, queued, front_queued, front_dropped, up_by}
+use Rattle.click_classes.specs.Acts.{act, queued, front_queued, front_dropped, up_by}
 use Rattle.click_classes.specs.Queues.{Queued, queue_of}
 use Rattle.click_classes.specs.declared.state.State.{State}
 use Rattle.click_classes.specs.declared.state.State.TheVariants as state
@@ -19,7 +19,7 @@ Keeps old s = (new : Queued) × (queue_of s ≡ Some new)
     × (length old.list.packets ≤ old.list.capacity → length new.list.packets ≤ new.list.capacity)
     × (length old.list.packets ≤ old.highest → length new.list.packets ≤ new.highest)
 
-counted : (drops : ℕ) → drops < 2 ^ 64 - 1 → up_by drops 1 ≡ drops + 1
+pub counted : (drops : ℕ) → drops < 2 ^ 64 - 1 → up_by drops 1 ≡ drops + 1
 counted drops h = omega arith
 
 -- it is stored last

@@ -10,6 +10,7 @@ pub mod PacketList
 pub mod Patterns
 pub mod Queues
 pub mod Routes
+pub mod Settings
 pub mod State
 pub mod Steps
 pub mod Uses

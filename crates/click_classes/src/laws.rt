@@ -1,6 +1,6 @@
 //! What holds of the definitions.
 
-ghost use Rattle.std.specs.Prelude.{◌≡◌, ◌↔◌, ℕ, ◌+◌, ◌-◌, ◌^◌, ◌<◌, ◌≤◌, [], ◌∷◌, List, length, Ok, Option, Some, None, codes, slice_get, true};
+ghost use Rattle.std.specs.Prelude.{◌≡◌, ◌↔◌, ℕ, ◌+◌, ◌-◌, ◌^◌, ◌<◌, ◌≤◌, [], ◌∷◌, ◌++◌, List, length, max, Ok, Option, Some, None, codes, slice_get, true};
 ghost use Rattle.click_classes.specs.declared.class.Class.{Class};
 ghost use Rattle.click_classes.specs.declared.state.State.{State};
 ghost use Rattle.click_classes.specs.declared.values.entry.Entry.{Entry};
@@ -9,8 +9,10 @@ ghost use Rattle.click_classes.specs.declared.values.prefix.Prefix.{Prefix};
 ghost use Rattle.click_classes.specs.declared.class.TheConstants.{CLASSES};
 ghost use Rattle.click_packet.specs.Header.{IsGoodHeader};
 ghost use Rattle.click_packet.specs.Packet.{Packet};
-ghost use Rattle.click_classes.specs.Acts.{pass, act};
-ghost use Rattle.click_classes.specs.Queues.{Queued, queue_of};
+ghost use Rattle.click_classes.specs.Acts.{pass, act, gives, stored, emission, Stored};
+ghost use Rattle.click_classes.specs.PacketList.{PacketList};
+ghost use Rattle.click_classes.specs.Queues.{Queued, queue_of, IsSound};
+ghost use Rattle.click_classes.specs.Settings.{settings};
 ghost use Rattle.click_classes.specs.declared.acting.Fate.{Fate};
 ghost use Rattle.click_classes.specs.Classes.{classes, name, class_of};
 ghost use Rattle.click_classes.specs.Counts.{counts};
@@ -72,6 +74,43 @@ pub fn queue_counts_each()
         × (new.list.capacity ≡ old.list.capacity)
         × (length old.list.packets ≤ old.list.capacity → length new.list.packets ≤ new.list.capacity)
         × (length old.list.packets ≤ old.highest → length new.list.packets ≤ new.highest) }
+{}
+
+/// Which packet a queue drops. While there is room it stores each last; when it is full a Queue drops the one that comes, and a FrontDropQueue
+/// its first for it; and each drop is counted. What is pulled is the first.
+pub fn queue_loses_nothing()
+    ensures room { (outputs input : ℕ) (s : State) (p : Packet) (old : Queued) → queue_of s ≡ Some old
+        → length old.list.packets < old.list.capacity
+        → queue_of (act outputs s input p).state ≡ Some (record old {
+          list = record old.list { packets = old.list.packets ++ p ∷ [] };
+          highest = max (length old.list.packets + 1) old.highest;
+        }) }
+    ensures full { (outputs input : ℕ) (list : PacketList) (drops highest : ℕ) (p : Packet) → length list.packets ≡ list.capacity
+        → drops < 2 ^ 64 - 1 → (act outputs (State.Queue list drops highest) input p).state ≡ State.Queue list (drops + 1) highest }
+    ensures full_front { (outputs input : ℕ) (list : PacketList) (drops highest : ℕ) (p first : Packet) (rest : List Packet)
+        → length list.packets ≡ list.capacity → list.packets ≡ first ∷ rest → drops < 2 ^ 64 - 1
+        → (act outputs (State.FrontDropQueue list drops highest) input p).state
+        ≡ State.FrontDropQueue (record list { packets = rest ++ p ∷ [] }) (drops + 1) highest }
+    ensures pulled { (s : State) (old : Queued) (first : Packet) (rest : List Packet) → queue_of s ≡ Some old → old.list.packets ≡ first ∷ rest
+        → (e : Stored) × (stored s ≡ Some e) × (e.packet ≡ first)
+        × (queue_of e.state ≡ Some (record old { list = record old.list { packets = rest } })) }
+{}
+
+/// A queue never holds more packets than it has room for, and its high-water mark is at least their number, whatever packets come and go.
+pub fn queues_stay_sound()
+    ensures pushed { (outputs input : ℕ) (s : State) (p : Packet) → IsSound s → IsSound (act outputs s input p).state }
+    ensures pulled { (inputs outputs input : ℕ) (s : State) (p : Packet) → IsSound s → IsSound (gives inputs outputs s input p).state }
+    ensures stored { (s : State) (e : Stored) → stored s ≡ Some e → IsSound s → IsSound e.state }
+    ensures emitted { (s : State) (e : Stored) → emission s ≡ Some e → IsSound s → IsSound e.state }
+{}
+
+/// Packets change no element's class and nothing that its arguments or its handlers set.
+pub fn packets_keep_settings()
+    ensures pushed { (outputs input : ℕ) (s : State) (p : Packet) → settings (act outputs s input p).state ≡ settings s }
+    ensures pulled { (inputs outputs input : ℕ) (s : State) (p : Packet) → settings (gives inputs outputs s input p).state ≡ settings s }
+    ensures stored { (s : State) (e : Stored) → stored s ≡ Some e → settings e.state ≡ settings s }
+    ensures emitted { (s : State) (e : Stored) → emission s ≡ Some e → settings e.state ≡ settings s }
+    ensures class { (s : State) → class (settings s) ≡ class s }
 {}
 
 /// A packet whose header is good and that DecIPTTL lets pass has a good header again.

@@ -38,7 +38,7 @@ unqueued_some v at w u None e h some = absurd (false≢true some)
 unqueued_some v at w u (Some p) e h some = ap (λ x. end v x) h ∙ sym (ap (λ (r : Pulled). (worked_by v at r).plant) e)
 
 -- a burst of m packets after the next one
-abbrev burst_by : ℕ → ℕ → Plant → Option Stored → Worked
+abbrev pub burst_by : ℕ → ℕ → Plant → Option Stored → Worked
 burst_by m at v o = elim o [
   | None ↦ idle v
   | Some e ↦ record { plant = (bursts m at (sourced v at e)).plant; packets = 1 + (bursts m at (sourced v at e)).packets }
@@ -47,7 +47,7 @@ burst_by m at v o = elim o [
 abbrev Emitted : ℕ → Plant → Plant → Bool → Option Stored → Type 0
 Emitted at v u b o = MatchOption o ((b ≡ false) × (u ≡ v)) (λ e. (b ≡ true) × (u ≡ sourced v at e))
 
-burst-next : (n m at : ℕ) (v : Plant) → n ≡ suc m → bursts n at v ≡ burst_by m at v (emission (state_at v at))
+pub burst-next : (n m at : ℕ) (v : Plant) → n ≡ suc m → bursts n at v ≡ burst_by m at v (emission (state_at v at))
 unfolding bursts
 burst-next n m at v h = rw h refl
 

@@ -1,5 +1,6 @@
 pub mod Devices
 pub mod Frames
+pub mod Keeps
 pub mod Plant
 pub mod Rounds
 pub mod Run

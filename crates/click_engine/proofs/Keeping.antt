@@ -1,0 +1,118 @@
+-- What runs keep, of what each element keeps.
+use Rattle.std.proofs.Common.{◌≡◌, ℕ, zero, suc, ◌<◌, refl, ap, ◌∙◌, subst, List, [], ◌∷◌, length, map, get_or, slice_get, Some, IsTrue, arith}
+use Rattle.std.proofs.lemmas.List.{get_or_default}
+use Rattle.click_packet.specs.Packet.{Packet}
+use Rattle.click_classes.specs.Queues.{IsSound}
+use Rattle.click_classes.specs.Settings.{settings}
+use Rattle.click_classes.specs.declared.state.State.{State}
+use Rattle.click_classes.proofs.Settings.{act-settings, gives-settings, stored-settings, emission-settings}
+use Rattle.click_classes.proofs.Sound.{act-sound, gives-sound, stored-sound, emission-sound}
+use Rattle.click_ports.specs.declared.shape.Shape.{Shape}
+use Rattle.click_engine.specs.declared.world.Element.{Element}
+use Rattle.click_engine.specs.Keeps.{IsClosed, KeepsSettings, KeepsOutside, AreSound, fixed, has_task}
+use Rattle.click_engine.specs.Plant.{Plant, wiring}
+use Rattle.click_engine.specs.Rounds.{arrive, transmit, round, source_of, sink_of}
+use Rattle.click_engine.specs.World.{Wiring, blank}
+use Rattle.click_engine.proofs.Reached.{Relates, in_state}
+use Rattle.click_engine.proofs.Round_keeps.{PlantKept, arrive-kept, transmit-kept, round-kept}
+
+abbrev Anywhere : ℕ → Type 0
+Anywhere at = Unit {0}
+
+whole : (net : Wiring) → IsClosed net Anywhere
+whole net = record { target = λ at output far h e. tt; source = λ at input far h e. tt }
+
+-- ---- settings
+
+abbrev SameFixed : ℕ → Element → Element → Type 0
+SameFixed at e f = fixed f ≡ fixed e
+
+same_fixed : (e : Element) (s : State) → settings s ≡ settings e.state → fixed (in_state e s) ≡ fixed e
+same_fixed e s h = ap (in_state e) h
+
+fixed-relates : Relates Anywhere SameFixed
+fixed-relates = record {
+  same = λ at e. refl;
+  on = λ at e f g h k. k ∙ h;
+  pushed = λ at input e p h. same_fixed e _ (act-settings e.outputs input e.state p);
+  pulled = λ at input e p h. same_fixed e _ (gives-settings e.inputs e.outputs input e.state p);
+  held = λ at e s h is. same_fixed e s.state (stored-settings e.state s is);
+  emitted = λ at e s h is. same_fixed e s.state (emission-settings e.state s is);
+}
+
+all_fixed : (es fs : List Element) → length fs ≡ length es → ((at : ℕ) → fixed (get_or fs at blank) ≡ fixed (get_or es at blank)) → map fixed fs ≡ map fixed es
+all_fixed [] [] n h = refl
+all_fixed [] (f ∷ fs) n h = absurd (omega (arith, n))
+all_fixed (e ∷ es) [] n h = absurd (omega (arith, n))
+all_fixed (e ∷ es) (f ∷ fs) n h =
+    ap (λ x. x ∷ map fixed fs) (h zero) ∙ ap (λ xs. fixed e ∷ xs) (all_fixed es fs (omega (arith, n)) (λ at. h (suc at)))
+
+settings_of : (v w : Plant) → PlantKept SameFixed v w → KeepsSettings v w
+settings_of v w h = record { net = h.net; elements = all_fixed v.elements w.elements h.elements.count h.elements.each }
+
+pub arrive-settings : (v : Plant) (device : List ℕ) (p : Packet) → KeepsSettings v (arrive v device p)
+arrive-settings v device p = settings_of v _ (arrive-kept Anywhere SameFixed fixed-relates v (whole (wiring v)) device p (λ at e. tt))
+
+pub transmit-settings : (v : Plant) (device : List ℕ) → KeepsSettings v (transmit v device)
+transmit-settings v device = settings_of v _ (transmit-kept Anywhere SameFixed fixed-relates v (whole (wiring v)) device (λ at e. tt))
+
+pub round-settings : (v : Plant) → KeepsSettings v (round v).plant
+round-settings v = settings_of v _ (round-kept Anywhere SameFixed fixed-relates v (whole (wiring v)) (λ at shape e t. tt))
+
+-- ---- queues
+
+abbrev SoundAfter : ℕ → Element → Element → Type 0
+SoundAfter at e f = IsSound e.state → IsSound f.state
+
+sound-relates : Relates Anywhere SoundAfter
+sound-relates = record {
+  same = λ at e k. k;
+  on = λ at e f g h k s. k (h s);
+  pushed = λ at input e p h. act-sound e.outputs input e.state p;
+  pulled = λ at input e p h. gives-sound e.inputs e.outputs input e.state p;
+  held = λ at e s h is. stored-sound e.state s is;
+  emitted = λ at e s h is. emission-sound e.state s is;
+}
+
+sound_of : (v w : Plant) → PlantKept SoundAfter v w → AreSound v → AreSound w
+sound_of v w h s k d inside =
+    let there : k < length v.elements = omega (arith, h.elements.count, inside) in
+    let after_it = h.elements.each k (s k blank there) in
+    subst (λ (e : Element). IsSound e.state) (get_or_default w.elements k blank d inside) after_it
+
+pub arrive-sound : (v : Plant) (device : List ℕ) (p : Packet) → AreSound v → AreSound (arrive v device p)
+arrive-sound v device p = sound_of v _ (arrive-kept Anywhere SoundAfter sound-relates v (whole (wiring v)) device p (λ at e. tt))
+
+pub transmit-sound : (v : Plant) (device : List ℕ) → AreSound v → AreSound (transmit v device)
+transmit-sound v device = sound_of v _ (transmit-kept Anywhere SoundAfter sound-relates v (whole (wiring v)) device (λ at e. tt))
+
+pub round-sound : (v : Plant) → AreSound v → AreSound (round v).plant
+round-sound v = sound_of v _ (round-kept Anywhere SoundAfter sound-relates v (whole (wiring v)) (λ at shape e t. tt))
+
+-- ---- reach
+
+abbrev UnlessReached : (ℕ → Type 0) → ℕ → Element → Element → Type 0
+UnlessReached P at e f = (P at → ⊥) → f ≡ e
+
+reach-relates : (P : ℕ → Type 0) → Relates P (UnlessReached P)
+reach-relates P = record {
+  same = λ at e n. refl;
+  on = λ at e f g h k n. k n ∙ h n;
+  pushed = λ at input e p h n. absurd (n h);
+  pulled = λ at input e p h n. absurd (n h);
+  held = λ at e s h is n. absurd (n h);
+  emitted = λ at e s h is n. absurd (n h);
+}
+
+outside_of : (P : ℕ → Type 0) (v w : Plant) → PlantKept (UnlessReached P) v w → KeepsOutside P v w
+outside_of P v w h = record { net = h.net; count = h.elements.count; others = h.elements.each }
+
+module _ (P : ℕ → Type 0) (v : Plant) (closed : IsClosed (wiring v) P) where
+  pub arrive-outside : (device : List ℕ) (p : Packet) → ((at : ℕ) → source_of v device ≡ Some at → P at) → KeepsOutside P v (arrive v device p)
+  arrive-outside device p h = outside_of P v _ (arrive-kept P (UnlessReached P) (reach-relates P) v closed device p h)
+
+  pub transmit-outside : (device : List ℕ) → ((at : ℕ) → sink_of v device ≡ Some at → P at) → KeepsOutside P v (transmit v device)
+  transmit-outside device h = outside_of P v _ (transmit-kept P (UnlessReached P) (reach-relates P) v closed device h)
+
+  pub round-outside : ((at : ℕ) (shape : Shape) → slice_get v.net.shapes at ≡ Some shape → IsTrue (has_task shape.class) → P at) → KeepsOutside P v (round v).plant
+  round-outside h = outside_of P v _ (round-kept P (UnlessReached P) (reach-relates P) v closed h)

@@ -1,0 +1,134 @@
+-- The same over runs, tasks and rounds.
+use Rattle.std.proofs.Common.{◌≡◌, ℕ, zero, suc, ◌+◌, refl, sym, ◌∙◌, subst, List, length, slice_get, Option, Some, None, IsTrue}
+use Rattle.click_packet.specs.Packet.{Packet}
+use Rattle.click_classes.specs.Acts.{Stored, burst_of, emission}
+use Rattle.click_classes.specs.declared.class.Class.{Class}
+use Rattle.click_classes.specs.declared.class.Class.TheVariants as class
+use Rattle.click_ports.specs.Net.{Net}
+use Rattle.click_ports.specs.declared.shape.Shape.{Shape}
+use Rattle.click_engine.specs.declared.world.Element.{Element}
+use Rattle.click_engine.specs.declared.world.Port.{Port}
+use Rattle.click_engine.specs.Keeps.{IsClosed, has_task}
+use Rattle.click_engine.specs.Plant.{Plant, most_crossings, wiring, begin, end}
+use Rattle.click_engine.specs.Rounds.{source_of, sink_of, state_at, emitted, asks, arrive, transmit, Worked, idle, unqueued, discarded, sourced, bursts, task_of, task, tasks, round}
+use Rattle.click_engine.specs.Run.{push}
+use Rattle.click_engine.specs.Wires.{wiring_of}
+use Rattle.click_engine.specs.World.{World, element_at, with_state}
+use Rattle.click_engine.proofs.Reached.{Relates, Kept, kept-same, kept-on, kept-set, push-kept, pull-kept}
+use Rattle.click_engine.proofs.Rounds.{bursts-zero, burst-next, burst_by, tasks-zero, tasks-suc}
+
+-- the same net, and as many elements, each related to what it was
+pub record PlantKept (R : ℕ → Element → Element → Type 0) (old new : Plant) : Type 0 where
+  pub net : new.net ≡ old.net
+  pub elements : Kept R old.elements new.elements
+
+-- what a task makes of what its pull left
+abbrev unqueued_by : Plant → ℕ → World → Option Packet → Worked
+unqueued_by v at w o = elim o [
+  | None ↦ record { plant = end v w; packets = 0 }
+  | Some p ↦ record { plant = end v (push (wiring v) most_crossings w at 0 p); packets = 1 }
+]
+
+abbrev discarded_by : Plant → ℕ → Option Port → World → Option Packet → Worked
+discarded_by v at far w o = elim far [
+  | None ↦ idle v
+  | Some port ↦ elim o [ None ↦ record { plant = end v w; packets = 0 } | Some p ↦ record { plant = end v w; packets = 1 } ]
+]
+
+abbrev task_by : Plant → ℕ → Option Shape → Worked
+task_by v at o = elim o [ None ↦ idle v | Some shape ↦ task_of shape.class v at ]
+
+module _ (P : ℕ → Type 0) (R : ℕ → Element → Element → Type 0) (r : Relates P R) where
+  plant-same : (v : Plant) → PlantKept R v v
+  plant-same v = record { net = refl; elements = kept-same P R r v.elements }
+
+  plant-on : (u v w : Plant) → PlantKept R u v → PlantKept R v w → PlantKept R u w
+  plant-on u v w h k = record { net = k.net ∙ h.net; elements = kept-on P R r u.elements v.elements w.elements h.elements k.elements }
+
+  module _ (v : Plant) (closed : IsClosed (wiring v) P) where
+    ended : (w : World) → Kept R v.elements w.elements → PlantKept R v (end v w)
+    ended w h = record { net = refl; elements = h }
+
+    emitted-kept : (at : ℕ) (p : Packet) → P at → PlantKept R v (emitted v at p)
+    emitted-kept at p h =
+        ended (push (wiring v) most_crossings (begin most_crossings v) at 0 p) (push-kept P R r (wiring v) closed most_crossings (begin most_crossings v) at 0 p h)
+
+    asks-kept : (at : ℕ) → P at → Kept R v.elements (asks v at).world.elements
+    asks-kept at h = pull-kept P R r (wiring v) closed most_crossings (begin most_crossings v) at 0 h
+
+    pub arrive-kept : (device : List ℕ) (p : Packet) → ((at : ℕ) → source_of v device ≡ Some at → P at) → PlantKept R v (arrive v device p)
+    arrive-kept device p h = go (source_of v device) refl
+      where
+        go : (o : Option ℕ) → source_of v device ≡ o → PlantKept R v (elim o [ None ↦ v | Some at ↦ emitted v at p ])
+        go None e = plant-same v
+        go (Some at) e = emitted-kept at p (h at e)
+
+    pub transmit-kept : (device : List ℕ) → ((at : ℕ) → sink_of v device ≡ Some at → P at) → PlantKept R v (transmit v device)
+    transmit-kept device h = go (sink_of v device) refl
+      where
+        go : (o : Option ℕ) → sink_of v device ≡ o → PlantKept R v (elim o [ None ↦ v | Some at ↦ end v (asks v at).world ])
+        go None e = plant-same v
+        go (Some at) e = ended (asks v at).world (asks-kept at (h at e))
+
+    unqueued-kept : (at : ℕ) → P at → PlantKept R v (unqueued v at).plant
+    unqueued-kept at h = go (asks v at).packet
+      where
+        go : (o : Option Packet) → PlantKept R v (unqueued_by v at (asks v at).world o).plant
+        go None = ended (asks v at).world (asks-kept at h)
+        go (Some p) =
+            let pushed = push (wiring v) most_crossings (asks v at).world at 0 p in
+            let after_it = push-kept P R r (wiring v) closed most_crossings (asks v at).world at 0 p h in
+            ended pushed (kept-on P R r v.elements (asks v at).world.elements pushed.elements (asks-kept at h) after_it)
+
+    discarded-kept : (at : ℕ) → P at → PlantKept R v (discarded v at).plant
+    discarded-kept at h = go ((wiring v).source at 0) (asks v at).packet
+      where
+        go : (far : Option Port) (o : Option Packet) → PlantKept R v (discarded_by v at far (asks v at).world o).plant
+        go None o = plant-same v
+        go (Some far) None = ended (asks v at).world (asks-kept at h)
+        go (Some far) (Some p) = ended (asks v at).world (asks-kept at h)
+
+    sourced-kept : (at : ℕ) (e : Stored) → P at → emission (state_at v at) ≡ Some e → PlantKept R v (sourced v at e)
+    sourced-kept at e h is =
+        let here = kept-set P R r v.elements at e.state (r.emitted at (element_at (begin most_crossings v) at) e h is) in
+        let counted = with_state (begin most_crossings v) at e.state in
+        let pushed = push (wiring v) most_crossings counted at 0 e.packet in
+        ended pushed (kept-on P R r v.elements counted.elements pushed.elements here (push-kept P R r (wiring v) closed most_crossings counted at 0 e.packet h))
+
+  module _ (net : Net) (closed : IsClosed (wiring_of net) P) where
+    closed_in : (v : Plant) → v.net ≡ net → IsClosed (wiring v) P
+    closed_in v e = subst (λ n. IsClosed (wiring_of n) P) (sym e) closed
+
+    bursts-kept : (count at : ℕ) (v : Plant) → v.net ≡ net → P at → PlantKept R v (bursts count at v).plant
+    bursts-kept zero at v e h = rw (bursts-zero zero at v refl) (plant-same v)
+    bursts-kept (suc m) at v e h = rw (burst-next (suc m) m at v refl) (go (λ u f. bursts-kept m at u f h) (emission (state_at v at)) refl)
+      where
+        go : ((u : Plant) → u.net ≡ net → PlantKept R u (bursts m at u).plant) → (o : Option Stored) → emission (state_at v at) ≡ o
+            → PlantKept R v (burst_by m at v o).plant
+        go ih None f = plant-same v
+        go ih (Some s) f = plant-on v (sourced v at s) _ (sourced-kept v (closed_in v e) at s h f) (ih (sourced v at s) e)
+
+    task_of-kept : (c : Class) (v : Plant) (at : ℕ) → v.net ≡ net → (IsTrue (has_task c) → P at) → PlantKept R v (task_of c v at).plant
+    task_of-kept class.InfiniteSource v at e h = bursts-kept (burst_of (state_at v at)) at v e (h refl)
+    task_of-kept class.Unqueue v at e h = unqueued-kept v (closed_in v e) at (h refl)
+    task_of-kept class.Discard v at e h = discarded-kept v (closed_in v e) at (h refl)
+    task_of-kept _ v at e h = plant-same v
+
+    module _ (holds : (at : ℕ) (shape : Shape) → slice_get net.shapes at ≡ Some shape → IsTrue (has_task shape.class) → P at) where
+      task-kept : (v : Plant) (at : ℕ) → v.net ≡ net → PlantKept R v (task v at).plant
+      task-kept v at e = go (slice_get v.net.shapes at) refl
+        where
+          go : (o : Option Shape) → slice_get v.net.shapes at ≡ o → PlantKept R v (task_by v at o).plant
+          go None f = plant-same v
+          go (Some shape) f = task_of-kept shape.class v at e (holds at shape (subst (λ (n : Net). slice_get n.shapes at ≡ Some shape) e f))
+
+      tasks-kept : (count at : ℕ) (v : Plant) → v.net ≡ net → PlantKept R v (tasks count at v).plant
+      tasks-kept zero at v e = rw (tasks-zero zero at v refl) (plant-same v)
+      tasks-kept (suc m) at v e =
+          let done = task-kept v at e in
+          let rest = tasks-kept m (at + 1) (task v at).plant (done.net ∙ e) in
+          rw (tasks-suc (suc m) m at v refl) (plant-on v (task v at).plant _ done rest)
+
+  pub round-kept : (v : Plant) → IsClosed (wiring v) P
+      → ((at : ℕ) (shape : Shape) → slice_get v.net.shapes at ≡ Some shape → IsTrue (has_task shape.class) → P at) → PlantKept R v (round v).plant
+  round-kept v closed holds = tasks-kept v.net closed holds (length v.net.shapes) 0 v refl

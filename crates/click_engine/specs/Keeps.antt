@@ -1,0 +1,46 @@
+-- What runs keep.
+use Rattle.std.specs.Prelude.{◌≡◌, ℕ, Bool, true, false, Some, length, map, slice_index_or, IsTrue}
+use Rattle.std.specs.List.{All}
+use Rattle.click_classes.specs.Queues.{IsSound}
+use Rattle.click_classes.specs.Settings.{settings}
+use Rattle.click_classes.specs.declared.class.Class.{Class}
+use Rattle.click_classes.specs.declared.class.Class.TheVariants as class
+use Rattle.click_engine.specs.declared.world.Element.{Element}
+use Rattle.click_engine.specs.declared.world.Port.{Port}
+use Rattle.click_engine.specs.Plant.{Plant}
+use Rattle.click_engine.specs.World.{Wiring, blank}
+
+-- an element without what packets change of its state
+abbrev pub fixed : Element → Element
+fixed e = record e { state = settings e.state }
+
+-- no element has changed but in what packets change of its state
+pub record KeepsSettings (old new : Plant) : Type 0 where
+  pub net : new.net ≡ old.net
+  pub elements : map fixed new.elements ≡ map fixed old.elements
+
+-- no queue holds more than it has room for
+abbrev pub AreSound : Plant → Type 0
+AreSound v = All (λ (e : Element). IsSound e.state) v.elements
+
+-- the places that a test tells
+abbrev pub Among : (ℕ → Bool) → ℕ → Type 0
+Among places at = IsTrue (places at)
+
+-- places that no connection leads out of, whichever way it is followed
+pub record IsClosed (net : Wiring) (P : ℕ → Type 0) : Type 0 where
+  pub target : (at output : ℕ) (far : Port) → P at → net.target at output ≡ Some far → P far.element
+  pub source : (at input : ℕ) (far : Port) → P at → net.source at input ≡ Some far → P far.element
+
+-- each element outside those places is as it was
+pub record KeepsOutside (P : ℕ → Type 0) (old new : Plant) : Type 0 where
+  pub net : new.net ≡ old.net
+  pub count : length new.elements ≡ length old.elements
+  pub others : (at : ℕ) → (P at → ⊥) → slice_index_or new.elements at blank ≡ slice_index_or old.elements at blank
+
+-- the classes whose elements a round gives a turn
+abbrev pub has_task : Class → Bool
+has_task class.InfiniteSource = true
+has_task class.Unqueue = true
+has_task class.Discard = true
+has_task c = false
