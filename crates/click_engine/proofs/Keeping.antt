@@ -1,5 +1,5 @@
 -- What runs keep, of what each element keeps.
-use Rattle.std.proofs.Common.{◌≡◌, ℕ, zero, suc, ◌<◌, refl, ap, ◌∙◌, subst, List, [], ◌∷◌, length, map, get_or, slice_get, Some, IsTrue, arith}
+use Rattle.std.proofs.Common.{◌≡◌, ℕ, zero, suc, ◌<◌, refl, ap, ◌∙◌, subst, List, [], ◌∷◌, length, map, get_or, Some, arith}
 use Rattle.std.proofs.lemmas.List.{get_or_default}
 use Rattle.click_packet.specs.Packet.{Packet}
 use Rattle.click_classes.specs.Queues.{IsSound}
@@ -7,9 +7,8 @@ use Rattle.click_classes.specs.Settings.{settings}
 use Rattle.click_classes.specs.declared.state.State.{State}
 use Rattle.click_classes.proofs.Settings.{act-settings, gives-settings, stored-settings, emission-settings}
 use Rattle.click_classes.proofs.Sound.{act-sound, gives-sound, stored-sound, emission-sound}
-use Rattle.click_ports.specs.declared.shape.Shape.{Shape}
 use Rattle.click_engine.specs.declared.world.Element.{Element}
-use Rattle.click_engine.specs.Keeps.{IsClosed, KeepsSettings, KeepsOutside, AreSound, fixed, has_task}
+use Rattle.click_engine.specs.Keeps.{AllAre, IsClosed, KeepsSettings, KeepsOutside, AreSound, fixed}
 use Rattle.click_engine.specs.Plant.{Plant, wiring}
 use Rattle.click_engine.specs.Rounds.{arrive, transmit, round, source_of, sink_of}
 use Rattle.click_engine.specs.World.{Wiring, blank}
@@ -18,6 +17,10 @@ use Rattle.click_engine.proofs.Round_keeps.{PlantKept, arrive-kept, transmit-kep
 
 abbrev Anywhere : ℕ → Type 0
 Anywhere at = Unit {0}
+
+anywhere : (places : List ℕ) → AllAre Anywhere places
+anywhere [] = tt
+anywhere (at ∷ places) = (tt, anywhere places)
 
 whole : (net : Wiring) → IsClosed net Anywhere
 whole net = record { target = λ at output far h e. tt; source = λ at input far h e. tt }
@@ -57,7 +60,7 @@ pub transmit-settings : (v : Plant) (device : List ℕ) → KeepsSettings v (tra
 transmit-settings v device = settings_of v _ (transmit-kept Anywhere SameFixed fixed-relates v (whole (wiring v)) device (λ at e. tt))
 
 pub round-settings : (v : Plant) → KeepsSettings v (round v).plant
-round-settings v = settings_of v _ (round-kept Anywhere SameFixed fixed-relates v (whole (wiring v)) (λ at shape e t. tt))
+round-settings v = settings_of v _ (round-kept Anywhere SameFixed fixed-relates v (whole (wiring v)) (anywhere v.tasks))
 
 -- ---- queues
 
@@ -87,7 +90,7 @@ pub transmit-sound : (v : Plant) (device : List ℕ) → AreSound v → AreSound
 transmit-sound v device = sound_of v _ (transmit-kept Anywhere SoundAfter sound-relates v (whole (wiring v)) device (λ at e. tt))
 
 pub round-sound : (v : Plant) → AreSound v → AreSound (round v).plant
-round-sound v = sound_of v _ (round-kept Anywhere SoundAfter sound-relates v (whole (wiring v)) (λ at shape e t. tt))
+round-sound v = sound_of v _ (round-kept Anywhere SoundAfter sound-relates v (whole (wiring v)) (anywhere v.tasks))
 
 -- ---- reach
 
@@ -114,5 +117,5 @@ module _ (P : ℕ → Type 0) (v : Plant) (closed : IsClosed (wiring v) P) where
   pub transmit-outside : (device : List ℕ) → ((at : ℕ) → sink_of v device ≡ Some at → P at) → KeepsOutside P v (transmit v device)
   transmit-outside device h = outside_of P v _ (transmit-kept P (UnlessReached P) (reach-relates P) v closed device h)
 
-  pub round-outside : ((at : ℕ) (shape : Shape) → slice_get v.net.shapes at ≡ Some shape → IsTrue (has_task shape.class) → P at) → KeepsOutside P v (round v).plant
+  pub round-outside : AllAre P v.tasks → KeepsOutside P v (round v).plant
   round-outside h = outside_of P v _ (round-kept P (UnlessReached P) (reach-relates P) v closed h)

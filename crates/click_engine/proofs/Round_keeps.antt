@@ -1,5 +1,5 @@
 -- The same over runs, tasks and rounds.
-use Rattle.std.proofs.Common.{◌≡◌, ℕ, zero, suc, ◌+◌, refl, sym, ◌∙◌, subst, List, length, slice_get, Option, Some, None, IsTrue}
+use Rattle.std.proofs.Common.{◌≡◌, ℕ, zero, suc, ◌+◌, refl, sym, ◌∙◌, subst, List, [], ◌∷◌, slice_get, Option, Some, None}
 use Rattle.click_packet.specs.Packet.{Packet}
 use Rattle.click_classes.specs.Acts.{Stored, burst_of, emission}
 use Rattle.click_classes.specs.declared.class.Class.{Class}
@@ -7,15 +7,14 @@ use Rattle.click_classes.specs.declared.class.Class.TheVariants as class
 use Rattle.click_ports.specs.Net.{Net}
 use Rattle.click_ports.specs.declared.shape.Shape.{Shape}
 use Rattle.click_engine.specs.declared.world.Element.{Element}
-use Rattle.click_engine.specs.declared.world.Port.{Port}
-use Rattle.click_engine.specs.Keeps.{IsClosed, has_task}
+use Rattle.click_engine.specs.Keeps.{AllAre, IsClosed}
 use Rattle.click_engine.specs.Plant.{Plant, most_crossings, wiring, begin, end}
 use Rattle.click_engine.specs.Rounds.{source_of, sink_of, state_at, emitted, asks, arrive, transmit, Worked, idle, unqueued, discarded, sourced, bursts, task_of, task, tasks, round}
 use Rattle.click_engine.specs.Run.{push}
 use Rattle.click_engine.specs.Wires.{wiring_of}
 use Rattle.click_engine.specs.World.{World, element_at, with_state}
 use Rattle.click_engine.proofs.Reached.{Relates, Kept, kept-same, kept-on, kept-set, push-kept, pull-kept}
-use Rattle.click_engine.proofs.Rounds.{bursts-zero, burst-next, burst_by, tasks-zero, tasks-suc}
+use Rattle.click_engine.proofs.Rounds.{bursts-zero, burst-next, burst_by, tasks-none, tasks-next}
 
 -- the same net, and as many elements, each related to what it was
 pub record PlantKept (R : ℕ → Element → Element → Type 0) (old new : Plant) : Type 0 where
@@ -29,11 +28,8 @@ unqueued_by v at w o = elim o [
   | Some p ↦ record { plant = end v (push (wiring v) most_crossings w at 0 p); packets = 1 }
 ]
 
-abbrev discarded_by : Plant → ℕ → Option Port → World → Option Packet → Worked
-discarded_by v at far w o = elim far [
-  | None ↦ idle v
-  | Some port ↦ elim o [ None ↦ record { plant = end v w; packets = 0 } | Some p ↦ record { plant = end v w; packets = 1 } ]
-]
+abbrev discarded_by : Plant → World → Option Packet → Worked
+discarded_by v w o = elim o [ None ↦ record { plant = end v w; packets = 0 } | Some p ↦ record { plant = end v w; packets = 1 } ]
 
 abbrev task_by : Plant → ℕ → Option Shape → Worked
 task_by v at o = elim o [ None ↦ idle v | Some shape ↦ task_of shape.class v at ]
@@ -81,12 +77,11 @@ module _ (P : ℕ → Type 0) (R : ℕ → Element → Element → Type 0) (r : 
             ended pushed (kept-on P R r v.elements (asks v at).world.elements pushed.elements (asks-kept at h) after_it)
 
     discarded-kept : (at : ℕ) → P at → PlantKept R v (discarded v at).plant
-    discarded-kept at h = go ((wiring v).source at 0) (asks v at).packet
+    discarded-kept at h = go (asks v at).packet
       where
-        go : (far : Option Port) (o : Option Packet) → PlantKept R v (discarded_by v at far (asks v at).world o).plant
-        go None o = plant-same v
-        go (Some far) None = ended (asks v at).world (asks-kept at h)
-        go (Some far) (Some p) = ended (asks v at).world (asks-kept at h)
+        go : (o : Option Packet) → PlantKept R v (discarded_by v (asks v at).world o).plant
+        go None = ended (asks v at).world (asks-kept at h)
+        go (Some p) = ended (asks v at).world (asks-kept at h)
 
     sourced-kept : (at : ℕ) (e : Stored) → P at → emission (state_at v at) ≡ Some e → PlantKept R v (sourced v at e)
     sourced-kept at e h is =
@@ -108,27 +103,25 @@ module _ (P : ℕ → Type 0) (R : ℕ → Element → Element → Type 0) (r : 
         go ih None f = plant-same v
         go ih (Some s) f = plant-on v (sourced v at s) _ (sourced-kept v (closed_in v e) at s h f) (ih (sourced v at s) e)
 
-    task_of-kept : (c : Class) (v : Plant) (at : ℕ) → v.net ≡ net → (IsTrue (has_task c) → P at) → PlantKept R v (task_of c v at).plant
-    task_of-kept class.InfiniteSource v at e h = bursts-kept (burst_of (state_at v at)) at v e (h refl)
-    task_of-kept class.Unqueue v at e h = unqueued-kept v (closed_in v e) at (h refl)
-    task_of-kept class.Discard v at e h = discarded-kept v (closed_in v e) at (h refl)
+    task_of-kept : (c : Class) (v : Plant) (at : ℕ) → v.net ≡ net → P at → PlantKept R v (task_of c v at).plant
+    task_of-kept class.InfiniteSource v at e h = bursts-kept (burst_of (state_at v at)) at v e h
+    task_of-kept class.Unqueue v at e h = unqueued-kept v (closed_in v e) at h
+    task_of-kept class.Discard v at e h = discarded-kept v (closed_in v e) at h
     task_of-kept _ v at e h = plant-same v
 
-    module _ (holds : (at : ℕ) (shape : Shape) → slice_get net.shapes at ≡ Some shape → IsTrue (has_task shape.class) → P at) where
-      task-kept : (v : Plant) (at : ℕ) → v.net ≡ net → PlantKept R v (task v at).plant
-      task-kept v at e = go (slice_get v.net.shapes at) refl
-        where
-          go : (o : Option Shape) → slice_get v.net.shapes at ≡ o → PlantKept R v (task_by v at o).plant
-          go None f = plant-same v
-          go (Some shape) f = task_of-kept shape.class v at e (holds at shape (subst (λ (n : Net). slice_get n.shapes at ≡ Some shape) e f))
+    task-kept : (v : Plant) (at : ℕ) → v.net ≡ net → P at → PlantKept R v (task v at).plant
+    task-kept v at e h = go (slice_get v.net.shapes at)
+      where
+        go : (o : Option Shape) → PlantKept R v (task_by v at o).plant
+        go None = plant-same v
+        go (Some shape) = task_of-kept shape.class v at e h
 
-      tasks-kept : (count at : ℕ) (v : Plant) → v.net ≡ net → PlantKept R v (tasks count at v).plant
-      tasks-kept zero at v e = rw (tasks-zero zero at v refl) (plant-same v)
-      tasks-kept (suc m) at v e =
-          let done = task-kept v at e in
-          let rest = tasks-kept m (at + 1) (task v at).plant (done.net ∙ e) in
-          rw (tasks-suc (suc m) m at v refl) (plant-on v (task v at).plant _ done rest)
+    tasks-kept : (places : List ℕ) (v : Plant) → v.net ≡ net → AllAre P places → PlantKept R v (tasks places v).plant
+    tasks-kept [] v e h = rw (tasks-none [] v refl) (plant-same v)
+    tasks-kept (at ∷ places) v e h =
+        let done = task-kept v at e h.0 in
+        let rest = tasks-kept places (task v at).plant (done.net ∙ e) h.1 in
+        rw (tasks-next (at ∷ places) places at v refl) (plant-on v (task v at).plant _ done rest)
 
-  pub round-kept : (v : Plant) → IsClosed (wiring v) P
-      → ((at : ℕ) (shape : Shape) → slice_get v.net.shapes at ≡ Some shape → IsTrue (has_task shape.class) → P at) → PlantKept R v (round v).plant
-  round-kept v closed holds = tasks-kept v.net closed holds (length v.net.shapes) 0 v refl
+  pub round-kept : (v : Plant) → IsClosed (wiring v) P → AllAre P v.tasks → PlantKept R v (round v).plant
+  round-kept v closed h = tasks-kept v.net closed v.tasks v refl h

@@ -1,10 +1,8 @@
 -- What runs keep.
-use Rattle.std.specs.Prelude.{◌≡◌, ℕ, Bool, true, false, Some, length, map, slice_index_or, IsTrue}
+use Rattle.std.specs.Prelude.{◌≡◌, ℕ, List, [], ◌∷◌, Bool, Some, length, map, slice_index_or, IsTrue}
 use Rattle.std.specs.List.{All}
 use Rattle.click_classes.specs.Queues.{IsSound}
 use Rattle.click_classes.specs.Settings.{settings}
-use Rattle.click_classes.specs.declared.class.Class.{Class}
-use Rattle.click_classes.specs.declared.class.Class.TheVariants as class
 use Rattle.click_engine.specs.declared.world.Element.{Element}
 use Rattle.click_engine.specs.declared.world.Port.{Port}
 use Rattle.click_engine.specs.Plant.{Plant}
@@ -38,9 +36,7 @@ pub record KeepsOutside (P : ℕ → Type 0) (old new : Plant) : Type 0 where
   pub count : length new.elements ≡ length old.elements
   pub others : (at : ℕ) → (P at → ⊥) → slice_index_or new.elements at blank ≡ slice_index_or old.elements at blank
 
--- the classes whose elements a round gives a turn
-abbrev pub has_task : Class → Bool
-has_task class.InfiniteSource = true
-has_task class.Unqueue = true
-has_task class.Discard = true
-has_task c = false
+-- each of these places is among them
+abbrev pub AllAre : (ℕ → Type 0) → List ℕ → Type 0
+AllAre P [] = Unit {0}
+AllAre P (at ∷ places) = P at × AllAre P places
