@@ -19,3 +19,4 @@ pub mod Aging
 pub mod Settings
 pub mod Sound
 pub mod Full
+pub mod Beginning

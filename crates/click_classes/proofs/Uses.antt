@@ -28,7 +28,7 @@ pub both_ok : {A B : Type 0} (r : Result A ArgFault) (f : A → Result B ArgFaul
 both_ok (Ok a) f b e = (a, refl, e)
 both_ok (Err g) f b e = cc
 
-taken : {A : Type 0} (fits : Bool) (r : Result A ArgFault) (a : A) → Ok a ≡ (if fits then r else Err fault.ArgumentCount) → Ok a ≡ r
+pub taken : {A : Type 0} (fits : Bool) (r : Result A ArgFault) (a : A) → Ok a ≡ (if fits then r else Err fault.ArgumentCount) → Ok a ≡ r
 taken true r a e = e
 taken false r a e = cc
 
@@ -40,13 +40,13 @@ cut : (fits : Bool) (first : List (List (List ℕ)) → Result State ArgFault) (
 cut true first args s p = p
 cut false first args s e = cc
 
-by_words : (least most : ℕ) (first : List (List (List ℕ)) → Result State ArgFault) (args : List (List ℕ)) (s : State) → ByWords least most first args (Ok s) → AtWords first args s
+pub by_words : (least most : ℕ) (first : List (List (List ℕ)) → Result State ArgFault) (args : List (List ℕ)) (s : State) → ByWords least most first args (Ok s) → AtWords first args s
 by_words least most first args s h = cut (nat_le least (length args) && nat_le (length args) most) first args s h
 
 abbrev AtFirst : Option (List ℕ) → (Option (Option (List ℕ)) → Result State ArgFault) → State → Type 0
 AtFirst argument state_of s = (first : Option (Option (List ℕ))) × FirstStandsFor argument first × (Ok s ≡ state_of first)
 
-given : (fits : Bool) (argument : Option (List ℕ)) (state_of : Option (Option (List ℕ)) → Result State ArgFault) (s : State) → MatchBool fits (AtFirst argument state_of s) (Ok s ≡ Err fault.ArgumentCount) → AtFirst argument state_of s
+pub given : (fits : Bool) (argument : Option (List ℕ)) (state_of : Option (Option (List ℕ)) → Result State ArgFault) (s : State) → MatchBool fits (AtFirst argument state_of s) (Ok s ≡ Err fault.ArgumentCount) → AtFirst argument state_of s
 given true argument state_of s p = p
 given false argument state_of s e = cc
 

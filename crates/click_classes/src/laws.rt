@@ -96,6 +96,12 @@ pub fn queue_loses_nothing()
         × (queue_of e.state ≡ Some (record old { list = record old.list { packets = rest } })) }
 {}
 
+/// A first state is what its arguments say and no more: a queue is empty, and nothing is counted. So its queue is sound.
+pub fn made_states_are_settings()
+    ensures settings { (c : Class) (text : List ℕ) (s : State) → IsMade c text (Ok s) → settings s ≡ s }
+    ensures sound { (c : Class) (text : List ℕ) (s : State) → IsMade c text (Ok s) → IsSound s }
+{}
+
 /// A queue never holds more packets than it has room for, and its high-water mark is at least their number, whatever packets come and go.
 pub fn queues_stay_sound()
     ensures pushed { (outputs input : ℕ) (s : State) (p : Packet) → IsSound s → IsSound (act outputs s input p).state }

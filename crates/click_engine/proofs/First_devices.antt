@@ -14,10 +14,7 @@ use Rattle.click_engine.specs.Devices.{Device, device_of, without, first_with, d
 use Rattle.click_engine.specs.kept.Tables.{devices}
 use Rattle.click_engine.proofs.Elements.{joined_on}
 
-Tells : List ℕ → List ℕ → Type 0
-Tells n m = ((bytes_eq n m ≡ true) × (n ≡ m)) ⊎ ((bytes_eq n m ≡ false) × (n ≢ m))
-
-bytes_tell : (n m : List ℕ) → ((bytes_eq n m ≡ true) × (n ≡ m)) ⊎ ((bytes_eq n m ≡ false) × (n ≢ m))
+pub bytes_tell : (n m : List ℕ) → ((bytes_eq n m ≡ true) × (n ≡ m)) ⊎ ((bytes_eq n m ≡ false) × (n ≢ m))
 bytes_tell n m = go (bytes_eq n m) refl
   where
     go : (b : Bool) → bytes_eq n m ≡ b → ((bytes_eq n m ≡ true) × (n ≡ m)) ⊎ ((bytes_eq n m ≡ false) × (n ≢ m))

@@ -1,15 +1,18 @@
 -- What runs keep, of what each element keeps.
-use Rattle.std.proofs.Common.{◌≡◌, ℕ, zero, suc, ◌<◌, refl, ap, ◌∙◌, subst, List, [], ◌∷◌, length, map, get_or, Some, arith}
+use Rattle.std.proofs.Common.{◌≡◌, ℕ, zero, suc, ◌+◌, ◌<◌, refl, ap, sym, ◌∙◌, subst, List, [], ◌∷◌, length, map, get_or, Some, arith}
 use Rattle.std.proofs.lemmas.List.{get_or_default}
+use Rattle.std.proofs.lemmas.List.Elements.{All-nil, All-cons}
+use Rattle.std.specs.List.{All}
 use Rattle.click_packet.specs.Packet.{Packet}
 use Rattle.click_classes.specs.Queues.{IsSound}
 use Rattle.click_classes.specs.Settings.{settings}
 use Rattle.click_classes.specs.declared.state.State.{State}
 use Rattle.click_classes.proofs.Settings.{act-settings, gives-settings, stored-settings, emission-settings}
 use Rattle.click_classes.proofs.Sound.{act-sound, gives-sound, stored-sound, emission-sound}
+use Rattle.click_ports.specs.Net.{Net}
 use Rattle.click_engine.specs.declared.world.Element.{Element}
 use Rattle.click_engine.specs.Keeps.{AllAre, IsClosed, KeepsSettings, KeepsOutside, AreSound, fixed}
-use Rattle.click_engine.specs.Plant.{Plant, wiring}
+use Rattle.click_engine.specs.Plant.{Plant, IsStarted, wiring, element_of, elements_from}
 use Rattle.click_engine.specs.Rounds.{arrive, transmit, round, source_of, sink_of}
 use Rattle.click_engine.specs.World.{Wiring, blank}
 use Rattle.click_engine.proofs.Reached.{Relates, in_state}
@@ -91,6 +94,15 @@ transmit-sound v device = sound_of v _ (transmit-kept Anywhere SoundAfter sound-
 
 pub round-sound : (v : Plant) → AreSound v → AreSound (round v).plant
 round-sound v = sound_of v _ (round-kept Anywhere SoundAfter sound-relates v (whole (wiring v)) (anywhere v.tasks))
+
+pub started-sound : (net : Net) (at : ℕ) (states : List State) → All IsSound states → All (λ (e : Element). IsSound e.state) (elements_from net at states)
+started-sound net at [] h = All-nil (λ (e : Element). IsSound e.state)
+started-sound net at (s ∷ ss) h =
+    All-cons (λ (e : Element). IsSound e.state) (element_of net at s) (elements_from net (at + 1) ss) (h zero s (omega arith))
+    (started-sound net (at + 1) ss (λ k d inside. h (suc k) d (omega (arith, inside))))
+
+pub begins-sound : (net : Net) (states : List State) (v : Plant) → IsStarted net states v → All IsSound states → AreSound v
+begins-sound net states v is h = subst (λ es. All (λ (e : Element). IsSound e.state) es) (sym is.elements_are) (started-sound net 0 states h)
 
 -- ---- reach
 

@@ -1,0 +1,6 @@
+use Rattle.click_engine.specs.declared.devices.Way.TheVariants as way
+use Rattle.click_engine.proofs.Beginnings.{enters_first, leaves_first}
+use Rattle.click_engine.proofs.laws.devices_are_first.Goals as goal
+
+pub returns : goal.returns
+returns c = record { source = enters_first; sink = leaves_first }
