@@ -114,20 +114,24 @@ module _ (P : ℕ → Type 0) (R : ℕ → Element → Element → Type 0) (r : 
     task_of-kept class.Discard v at e h = discarded-kept v (closed_in v e) at (h refl)
     task_of-kept _ v at e h = plant-same v
 
-    module _ (holds : (at : ℕ) (shape : Shape) → slice_get net.shapes at ≡ Some shape → IsTrue (has_task shape.class) → P at) where
-      task-kept : (v : Plant) (at : ℕ) → v.net ≡ net → PlantKept R v (task v at).plant
-      task-kept v at e = go (slice_get v.net.shapes at) refl
-        where
-          go : (o : Option Shape) → slice_get v.net.shapes at ≡ o → PlantKept R v (task_by v at o).plant
-          go None f = plant-same v
-          go (Some shape) f = task_of-kept shape.class v at e (holds at shape (subst (λ (n : Net). slice_get n.shapes at ≡ Some shape) e f))
+    in_its_class : (v : Plant) (at : ℕ) → v.net ≡ net → ((shape : Shape) → slice_get net.shapes at ≡ Some shape → IsTrue (has_task shape.class) → P at)
+        → PlantKept R v (task v at).plant
+    in_its_class v at e holds = go (slice_get v.net.shapes at) refl
+      where
+        go : (o : Option Shape) → slice_get v.net.shapes at ≡ o → PlantKept R v (task_by v at o).plant
+        go None f = plant-same v
+        go (Some shape) f = task_of-kept shape.class v at e (holds shape (subst (λ (n : Net). slice_get n.shapes at ≡ Some shape) e f))
 
-      tasks-kept : (count at : ℕ) (v : Plant) → v.net ≡ net → PlantKept R v (tasks count at v).plant
-      tasks-kept zero at v e = rw (tasks-zero zero at v refl) (plant-same v)
-      tasks-kept (suc m) at v e =
-          let done = task-kept v at e in
-          let rest = tasks-kept m (at + 1) (task v at).plant (done.net ∙ e) in
-          rw (tasks-suc (suc m) m at v refl) (plant-on v (task v at).plant _ done rest)
+    tasks-kept : ((at : ℕ) (shape : Shape) → slice_get net.shapes at ≡ Some shape → IsTrue (has_task shape.class) → P at)
+        → (count at : ℕ) (v : Plant) → v.net ≡ net → PlantKept R v (tasks count at v).plant
+    tasks-kept holds zero at v e = rw (tasks-zero zero at v refl) (plant-same v)
+    tasks-kept holds (suc m) at v e =
+        let done = in_its_class v at e (holds at) in
+        let rest = tasks-kept holds m (at + 1) (task v at).plant (done.net ∙ e) in
+        rw (tasks-suc (suc m) m at v refl) (plant-on v (task v at).plant _ done rest)
+
+  pub task-kept : (v : Plant) → IsClosed (wiring v) P → (at : ℕ) → P at → PlantKept R v (task v at).plant
+  task-kept v closed at h = in_its_class v.net closed v at refl (λ shape e t. h)
 
   pub round-kept : (v : Plant) → IsClosed (wiring v) P
       → ((at : ℕ) (shape : Shape) → slice_get v.net.shapes at ≡ Some shape → IsTrue (has_task shape.class) → P at) → PlantKept R v (round v).plant
