@@ -13,10 +13,10 @@ use Rattle.click_ports.specs.Net.{Net}
 use Rattle.click_engine.specs.declared.world.Element.{Element}
 use Rattle.click_engine.specs.Keeps.{AllAre, IsClosed, KeepsSettings, KeepsOutside, AreSound, fixed}
 use Rattle.click_engine.specs.Plant.{Plant, IsStarted, wiring, element_of, elements_from}
-use Rattle.click_engine.specs.Rounds.{arrive, transmit, round, source_of, sink_of}
+use Rattle.click_engine.specs.Rounds.{arrive, transmit, task, round, source_of, sink_of}
 use Rattle.click_engine.specs.World.{Wiring, blank}
 use Rattle.click_engine.proofs.Reached.{Relates, in_state}
-use Rattle.click_engine.proofs.Round_keeps.{PlantKept, arrive-kept, transmit-kept, round-kept}
+use Rattle.click_engine.proofs.Round_keeps.{PlantKept, arrive-kept, transmit-kept, task-within, round-kept}
 
 abbrev Anywhere : ℕ → Type 0
 Anywhere at = Unit {0}
@@ -128,6 +128,9 @@ module _ (P : ℕ → Type 0) (v : Plant) (closed : IsClosed (wiring v) P) where
 
   pub transmit-outside : (device : List ℕ) → ((at : ℕ) → sink_of v device ≡ Some at → P at) → KeepsOutside P v (transmit v device)
   transmit-outside device h = outside_of P v _ (transmit-kept P (UnlessReached P) (reach-relates P) v closed device h)
+
+  pub task-outside : (at : ℕ) → P at → KeepsOutside P v (task v at).plant
+  task-outside at h = outside_of P v _ (task-within P (UnlessReached P) (reach-relates P) v closed at h)
 
   pub round-outside : AllAre P v.tasks → KeepsOutside P v (round v).plant
   round-outside h = outside_of P v _ (round-kept P (UnlessReached P) (reach-relates P) v closed h)

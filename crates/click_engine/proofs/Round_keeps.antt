@@ -123,5 +123,8 @@ module _ (P : ℕ → Type 0) (R : ℕ → Element → Element → Type 0) (r : 
         let rest = tasks-kept places (task v at).plant (done.net ∙ e) h.1 in
         rw (tasks-next (at ∷ places) places at v refl) (plant-on v (task v at).plant _ done rest)
 
+  pub task-within : (v : Plant) → IsClosed (wiring v) P → (at : ℕ) → P at → PlantKept R v (task v at).plant
+  task-within v closed at h = task-kept v.net closed v at refl h
+
   pub round-kept : (v : Plant) → IsClosed (wiring v) P → AllAre P v.tasks → PlantKept R v (round v).plant
   round-kept v closed h = tasks-kept v.net closed v.tasks v refl h
