@@ -152,6 +152,7 @@ fn read(alloc: Global, text: &str, name: &str) -> Result<Vec<u8>, AllocError> {
         Ok(Reply::Value(value)) => Vec::from_slice(alloc, value.as_slice()),
         Ok(Reply::Refused(Refusal::NoElement)) => Vec::from_slice(alloc, b"no element"),
         Ok(Reply::Refused(Refusal::NoHandler)) => Vec::from_slice(alloc, b"no handler"),
+        Ok(_) => Vec::from_slice(alloc, b"another reply"),
         Err(_) => Err(AllocError),
     }
 }
