@@ -1,6 +1,7 @@
 -- The first frame of a run, and what the whole run made.
-use Rattle.std.proofs.Common.{◌≡◌, ℕ, ◌<◌, ◌≤◌, refl, sym, ap, ◌∙◌, Bool, false, Option, Some, None, IfSome, List, [], ◌∷◌, ◌++◌, length, take, set, get_or, arith}
+use Rattle.std.proofs.Common.{◌≡◌, ℕ, ◌<◌, ◌≤◌, refl, sym, ap, ◌∙◌, Bool, true, false, if◌then◌else◌, Option, MatchOption, Some, None, IfSome, List, [], ◌∷◌, ◌++◌, length, take, set, get_or, arith}
 use Rattle.click_packet.specs.Packet.{Packet}
+use Rattle.click_classes.specs.Acts.{Stored}
 use Rattle.click_engine.specs.World.{Wiring, World}
 use Rattle.click_engine.specs.Run.{push, pull, Pulled}
 use Rattle.click_engine.specs.Frames.{Sends, Pulls, Machine, complete}
@@ -11,6 +12,10 @@ use Rattle.click_engine.specs.declared.machine.Ask.TheVariants.{Pull}
 use Rattle.click_engine.proofs.Turns.{machine, left_with}
 use Rattle.click_engine.proofs.Slack.{push-slack}
 use Rattle.click_engine.proofs.Slot_lists.{no_asks, no_senders, one_send, some_packet, last-none}
+
+last_set : (xs : List Sender) (s : Sender) (b : Bool) → 0 < length xs → last_of b (set xs 0 s) ≡ (if b then Some s.packet else None)
+last_set [] s b l = absurd (omega (arith, l))
+last_set (x ∷ xs) s b l = refl
 
 module _ (old : Machine) (d : ℕ) (xs : List Sender) (ys : List Ask) (got : Bool) (r : ℕ)
     (view : machine (frames_of (take d xs) ys) (last_of got xs) r ≡ old) (done : old.frames ≡ []) where
@@ -42,6 +47,21 @@ module _ (old : Machine) (d : ℕ) (xs : List Sender) (ys : List Ask) (got : Boo
       let zero = no_senders d xs ys inside empty in
       let frames : frames_of (take d xs) zs ≡ Pulls at 0 ∷ [] = rw (e, none, zero) refl in
       rw (frames, last-none xs, same_room) refl
+
+  -- the first slot holds the answer, where there is one
+  pub held : d ≤ length xs → 0 < length xs → (s : Sender) (b : Bool)
+      → machine (frames_of (take d (set xs 0 s)) ys) (last_of b (set xs 0 s)) r ≡ machine [] (if b then Some s.packet else None) old.room
+  held inside first s b =
+      let none = no_asks (take d xs) ys empty in
+      let zero = no_senders d xs ys inside empty in
+      rw (zero, none, same_room, last_set xs s b first) refl
+
+-- what a source gave is the answer
+pub taken : (b : Bool) (q : Packet) (m : Machine) (room : ℕ) → m ≡ machine [] (if b then Some q else None) room → (w v : World) (X : Stored → Type 0) (o : Option Stored)
+    → MatchOption o ((b ≡ false) × (v ≡ w)) (λ s. (b ≡ true) × (s.packet ≡ q) × X s)
+    → MatchOption o ((b ≡ false) × (v ≡ w) × (m ≡ machine [] None room)) (λ s. (b ≡ true) × X s × (m ≡ machine [] (Some s.packet) room))
+taken b q m room h w v X None f = (f.0, f.1, h ∙ rw f.0 refl)
+taken b q m room h w v X (Some s) f = (f.0, f.2, h ∙ rw (f.0, f.1) refl)
 
 module _ (net : Wiring) (w v : World) (m : Machine) (a : Option Packet) (r at : ℕ) where
   pub ran_push : (p : Packet) → m ≡ machine (Sends at 0 1 p ∷ []) None r → complete net w m ≡ left_with v a → v ≡ push net w.left w at 0 p

@@ -1,0 +1,44 @@
+use Rattle.std.proofs.Common.{◌≡◌, ◌+◌, ◌-◌, ◌∙◌, ap, sym, arith}
+use Rattle.click_classes.specs.Acts.{burst_of}
+use Rattle.click_engine.specs.Plant.{Plant}
+use Rattle.click_engine.specs.Rounds.{bursts, state_at, Worked}
+use Rattle.click_engine.proofs.Rounds.{burst_more, burst_over, bursts-zero}
+use Rattle.click_engine.proofs.plant.Plant.give_burst.Goals as goal
+
+pub returns-then-not-emit-clause-plant : goal.returns-then-not-emit-clause-plant
+returns-then-not-emit-clause-plant c =
+    let n = c.burst-packet-end.result in let i = c.loop-packet._packet in let at = c.args.at in
+    let same = c.burst-packet-end.ensures ∙ ap (λ (v : Plant). burst_of (state_at v at)) c.self.view_is in
+    let e = burst_over (n - i) (n - (i + 1)) at c.loop-packet.self c.emit.new.self c.emit.result (omega arith) c.emit.ensures c.if-not-emit.true in
+    sym (ap (λ (w : Worked). w.plant) e) ∙ c.loop-packet.invariant.plant ∙ ap (λ m. (bursts m at c.args.self.now).plant) same
+
+pub returns-then-not-emit-clause-packets : goal.returns-then-not-emit-clause-packets
+returns-then-not-emit-clause-packets c =
+    let n = c.burst-packet-end.result in let i = c.loop-packet._packet in let at = c.args.at in
+    let same = c.burst-packet-end.ensures ∙ ap (λ (v : Plant). burst_of (state_at v at)) c.self.view_is in
+    let e = burst_over (n - i) (n - (i + 1)) at c.loop-packet.self c.emit.new.self c.emit.result (omega arith) c.emit.ensures c.if-not-emit.true in
+    omega (arith, ap (λ (w : Worked). w.packets) e, c.loop-packet.invariant.packets, ap (λ m. (bursts m at c.args.self.now).packets) same)
+
+pub loop-packet-preserved : goal.loop-packet-preserved
+loop-packet-preserved c =
+    let n = c.burst-packet-end.result in let i = c.loop-packet._packet in
+    let e = burst_more (n - i) (n - (i + 1)) c.args.at c.loop-packet.self c.emit.new.self c.emit.result (omega arith) c.emit.ensures c.if-not-emit.false in
+    record {
+      plant = sym (ap (λ (w : Worked). w.plant) e) ∙ c.loop-packet.invariant.plant;
+      packets = omega (arith, ap (λ (w : Worked). w.packets) e, c.loop-packet.invariant.packets);
+      few = omega (arith, c.loop-packet.invariant.few);
+    }
+
+pub returns-clause-plant : goal.returns-clause-plant
+returns-clause-plant c =
+    let n = c.burst-packet-end.result in let i = c.loop-packet._packet in let at = c.args.at in
+    let same = c.burst-packet-end.ensures ∙ ap (λ (v : Plant). burst_of (state_at v at)) c.self.view_is in
+    let e = bursts-zero (n - i) at c.loop-packet.self (omega arith) in
+    sym (ap (λ (w : Worked). w.plant) e) ∙ c.loop-packet.invariant.plant ∙ ap (λ m. (bursts m at c.args.self.now).plant) same
+
+pub returns-clause-packets : goal.returns-clause-packets
+returns-clause-packets c =
+    let n = c.burst-packet-end.result in let i = c.loop-packet._packet in let at = c.args.at in
+    let same = c.burst-packet-end.ensures ∙ ap (λ (v : Plant). burst_of (state_at v at)) c.self.view_is in
+    let e = bursts-zero (n - i) at c.loop-packet.self (omega arith) in
+    omega (arith, ap (λ (w : Worked). w.packets) e, c.loop-packet.invariant.packets, ap (λ m. (bursts m at c.args.self.now).packets) same)
