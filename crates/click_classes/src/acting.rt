@@ -424,6 +424,3 @@ impl State {
         }
     }
 }
-
-#[cfg(test)]
-mod tests;

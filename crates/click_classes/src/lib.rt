@@ -27,6 +27,3 @@ pub use state::State;
 pub use values::entry::Entry;
 pub use values::pattern::{Clause, Pattern};
 pub use values::prefix::Prefix;
-
-#[cfg(test)]
-mod tests;

@@ -11,8 +11,6 @@ mod port;
 mod reply;
 mod serving;
 mod session;
-#[cfg(test)]
-mod tests;
 
 pub use command::{Answer, Command};
 pub use device::{InputDevice, OutputDevice, Reading, Writing};

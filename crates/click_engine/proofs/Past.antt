@@ -2,7 +2,7 @@
 use Rattle.std.proofs.Common.{◌≡◌, ℕ, zero, suc, List, [], ◌∷◌, set, ◌≤◌, length, refl, sym, ap, false, None}
 use Rattle.std.proofs.lemmas.List.{get_or_past, set_past}
 use Rattle.click_packet.specs.Packet.{Packet}
-use Rattle.click_classes.specs.Acts.{pass, act, tries, stored, emission, gives, to_none, answered, Acted, Gives}
+use Rattle.click_classes.specs.Acts.{pass, act, tries, stored, emission, gives, to_none, Acted, Gives}
 use Rattle.click_classes.specs.declared.state.State.{State}
 use Rattle.click_classes.specs.declared.state.State.TheVariants.{Idle}
 use Rattle.click_classes.specs.declared.acting.PortRange.{PortRange}

@@ -1,5 +1,6 @@
 -- One task of a round.
-use Rattle.std.proofs.Common.{◌≡◌, ℕ, suc, ◌+◌, ◌≤◌, min, refl, ap, sym, ◌∙◌, Bool, true, false, Option, None, Some, IfSome, IsSome, MatchOption, arith}
+use Rattle.std.proofs.Common.{◌≡◌, ℕ, zero, suc, List, [], ◌∷◌, length, drop, get_or, ◌<◌, ◌+◌, ◌≤◌, min, refl, ap, sym, ◌∙◌, Bool, true, false, Option, None, Some, IfSome, IsSome, MatchOption, arith}
+use Rattle.std.proofs.Math.Seq.{drop-cons}
 use Rattle.std.proofs.lemmas.Bool.{false≢true}
 use Rattle.std.proofs.lemmas.Bool.Decides.{nat_tests}
 use Rattle.click_packet.specs.Packet.{Packet}
@@ -7,19 +8,23 @@ use Rattle.click_engine.specs.World.{World}
 use Rattle.click_engine.specs.Run.{push, pull, Pulled}
 use Rattle.click_engine.specs.Plant.{most_crossings}
 use Rattle.click_engine.specs.Plant.{Plant, wiring, begin, end}
-use Rattle.click_classes.specs.Acts.{Stored, emission}
-use Rattle.click_engine.specs.Rounds.{tasks, task, idle, unqueued, bursts, sourced, state_at, Worked}
+use Rattle.std.specs.List.{slice_get}
+use Rattle.click_classes.specs.Acts.{Stored, burst_of, emission}
+use Rattle.click_classes.specs.declared.class.Class.{Class}
+use Rattle.click_classes.specs.declared.class.Class.TheVariants as class
+use Rattle.click_ports.specs.declared.shape.Shape.{Shape}
+use Rattle.click_engine.specs.Rounds.{tasks, task, task_of, idle, unqueued, asks, bursts, sourced, state_at, Worked}
 
-pub tasks-zero : (n at : ℕ) (v : Plant) → n ≡ 0 → tasks n at v ≡ idle v
+pub tasks-none : (places : List ℕ) (v : Plant) → places ≡ [] → tasks places v ≡ idle v
 unfolding tasks
-tasks-zero n at v e = rw e refl
+tasks-none places v e = rw e refl
 
-pub tasks-suc : (n m at : ℕ) (v : Plant) → n ≡ suc m → tasks n at v ≡ record {
-  plant = (tasks m (at + 1) (task v at).plant).plant;
-  packets = (task v at).packets + (tasks m (at + 1) (task v at).plant).packets;
+pub tasks-next : (places more : List ℕ) (at : ℕ) (v : Plant) → places ≡ at ∷ more → tasks places v ≡ record {
+  plant = (tasks more (task v at).plant).plant;
+  packets = (task v at).packets + (tasks more (task v at).plant).packets;
 }
 unfolding tasks
-tasks-suc n m at v e = rw e refl
+tasks-next places more at v e = rw e refl
 
 abbrev worked_by : Plant → ℕ → Pulled → Worked
 worked_by v at r = elim r.packet [
@@ -73,3 +78,41 @@ topped a b top = grind (arith, nat_tests)
 
 pub topped_all : (a b top : ℕ) → a ≤ top → {n : ℕ} → b ≡ 0 → min (a + b) top ≡ n → a ≡ n
 topped_all a b top l e h = grind (arith, nat_tests)
+
+-- a task leaves the list of tasks as it was
+burst-keeps : (n at : ℕ) (v : Plant) → (bursts n at v).plant.tasks ≡ v.tasks
+unfolding bursts
+burst-keeps zero at v = refl
+burst-keeps (suc n) at v = go (burst-keeps n at) (emission (state_at v at))
+  where
+    go : ((u : Plant) → (bursts n at u).plant.tasks ≡ u.tasks) → (o : Option Stored) → (burst_by n at v o).plant.tasks ≡ v.tasks
+    go h None = refl
+    go h (Some e) = h (sourced v at e)
+
+unqueued-keeps : (v : Plant) (at : ℕ) (r : Pulled) → (worked_by v at r).plant.tasks ≡ v.tasks
+unqueued-keeps v at r = elim (r.packet) as (λ (o : Option Packet). (worked_by v at (record { world = r.world; packet = o })).plant.tasks ≡ v.tasks) [ None ↦ refl | Some p ↦ refl ]
+
+abbrev gone_by : Plant → Pulled → Worked
+gone_by v r = elim r.packet [ None ↦ record { plant = end v r.world; packets = 0 } | Some p ↦ record { plant = end v r.world; packets = 1 } ]
+
+discarded-keeps : (v : Plant) (r : Pulled) → (gone_by v r).plant.tasks ≡ v.tasks
+discarded-keeps v r = elim (r.packet) as (λ (o : Option Packet). (gone_by v (record { world = r.world; packet = o })).plant.tasks ≡ v.tasks) [ None ↦ refl | Some p ↦ refl ]
+
+abbrev by_shape : Plant → ℕ → Option Shape → Worked
+by_shape v at o = elim o [ None ↦ idle v | Some shape ↦ task_of shape.class v at ]
+
+class-keeps : (c : Class) (v : Plant) (at : ℕ) → (task_of c v at).plant.tasks ≡ v.tasks
+class-keeps class.InfiniteSource v at = burst-keeps (burst_of (state_at v at)) at v
+class-keeps class.Unqueue v at = unqueued-keeps v at (asks v at)
+class-keeps class.Discard v at = discarded-keeps v (asks v at)
+class-keeps c v at = refl
+
+pub task-keeps : (v : Plant) (at : ℕ) → (task v at).plant.tasks ≡ v.tasks
+task-keeps v at = go (slice_get v.net.shapes at)
+  where
+    go : (o : Option Shape) → (by_shape v at o).plant.tasks ≡ v.tasks
+    go None = refl
+    go (Some s) = class-keeps s.class v at
+
+pub drop_next : (xs : List ℕ) (i d : ℕ) → i < length xs → drop i xs ≡ get_or xs i d ∷ drop (i + 1) xs
+drop_next xs i d h = let e : suc i ≡ i + 1 = omega arith in drop-cons xs i d h ∙ ap (λ j. get_or xs i d ∷ drop j xs) e

@@ -1,5 +1,5 @@
 -- Rows that connections are noted in.
-use Rattle.std.proofs.Common.{◌≡◌, ◌≢◌, ◌⊎◌, inl, inr, ℕ, zero, suc, ◌+◌, ◌<◌, refl, sym, ap, subst, ◌∙◌, arith, All, List, [], ◌∷◌, ◌++◌, set, get_or, length, map, replicate, Bool, true, false, Option, Some, None}
+use Rattle.std.proofs.Common.{◌≡◌, ◌≢◌, ◌⊎◌, inl, inr, ℕ, zero, suc, ◌<◌, refl, sym, ap, subst, ◌∙◌, arith, All, List, [], ◌∷◌, ◌++◌, set, get_or, length, replicate, Bool, true, false, Option, Some, None}
 use Rattle.std.specs.Prelude.{nat_eq, ◌&&◌, if◌then◌else◌}
 use Rattle.std.proofs.lemmas.Bool.Decides.{eqb_tells}
 use Rattle.std.specs.declared.vec.Vec.{Vec}
@@ -10,7 +10,7 @@ use Rattle.click_classes.specs.declared.ports.Side.{Side}
 use Rattle.click_classes.specs.declared.ports.Side.TheVariants.{Input, Output}
 use Rattle.click_expand.specs.declared.flat.Connection.{Connection}
 use Rattle.click_engine.specs.Wires.{end_of, is_port, first_joined}
-use Rattle.click_engine.specs.kept.Tables.{entry, first_of, rows_of, IsNoted, IsTable}
+use Rattle.click_engine.specs.kept.Tables.{entry, first_of, rows_of, IsNoted}
 use Rattle.click_engine.specs.declared.world.Port.{Port}
 
 pub padded : (xs : List (Option Port)) (n : ℕ) → get_or (xs ++ None ∷ []) n None ≡ get_or xs n None

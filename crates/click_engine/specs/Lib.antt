@@ -1,7 +1,9 @@
+pub mod Devices
 pub mod Frames
 pub mod Plant
 pub mod Rounds
 pub mod Run
+pub mod Tasks
 pub mod Wires
 pub mod World
 pub mod kept

@@ -1,11 +1,14 @@
--- What a contract sees of a plant: a net, what its elements hold, and the overruns.
-use Rattle.std.specs.Prelude.{ℕ, ◌+◌, List, [], ◌∷◌}
+-- What a contract sees of a plant: a net, its tasks and devices, what its elements hold, and the overruns.
+use Rattle.std.specs.Prelude.{◌≡◌, ℕ, ◌+◌, List, [], ◌∷◌}
 use Rattle.click_classes.specs.State.{class}
 use Rattle.click_classes.specs.declared.ports.Side.TheVariants as side
 use Rattle.click_classes.specs.declared.state.State.{State}
 use Rattle.click_ports.specs.Net.{Net}
 use Rattle.click_ports.specs.Ports.{used}
 use Rattle.click_engine.specs.declared.world.Element.{Element}
+use Rattle.click_engine.specs.Devices.{Device, devices_from}
+use Rattle.click_engine.specs.Tasks.{AreTasks}
+use Rattle.click_engine.specs.declared.devices.Way.TheVariants as way
 use Rattle.click_engine.specs.Wires.{wiring_of}
 use Rattle.click_engine.specs.World.{Wiring, World}
 
@@ -13,9 +16,13 @@ use Rattle.click_engine.specs.World.{Wiring, World}
 abbrev pub most_crossings : ℕ
 most_crossings = 256
 
--- the elements stand in flat order
+-- The places of the elements with a task, those where packets of a device enter and leave, and the elements in flat order. Runs change only elements and
+-- overruns.
 pub record Plant : Type 0 where
   pub net : Net
+  pub tasks : List ℕ
+  pub sources : List Device
+  pub sinks : List Device
   pub elements : List Element
   pub overruns : ℕ
 
@@ -32,9 +39,14 @@ abbrev pub elements_from : Net → ℕ → List State → List Element
 elements_from net at [] = []
 elements_from net at (s ∷ ss) = element_of net at s ∷ elements_from net (at + 1) ss
 
--- the plant that begins with these states
-abbrev pub started : Net → List State → Plant
-started net states = record { net = net; elements = elements_from net 0 states; overruns = 0 }
+-- the plant begins with these states
+pub record IsStarted (net : Net) (states : List State) (v : Plant) : Type 0 where
+  pub net_is : v.net ≡ net
+  pub tasks_are : AreTasks net 0 net.shapes v.tasks
+  pub sources_are : v.sources ≡ devices_from way.In 0 states
+  pub sinks_are : v.sinks ≡ devices_from way.Out 0 states
+  pub elements_are : v.elements ≡ elements_from net 0 states
+  pub none_overrun : v.overruns ≡ 0
 
 abbrev pub wiring : Plant → Wiring
 wiring v = wiring_of v.net

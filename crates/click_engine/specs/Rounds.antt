@@ -1,21 +1,21 @@
 -- Runs and rounds.
-use Rattle.std.specs.Prelude.{ℕ, zero, suc, ◌+◌, List, Option, Some, None, length, position, slice_get, slice_index_or}
+use Rattle.std.specs.Prelude.{ℕ, zero, suc, ◌+◌, List, [], ◌∷◌, Option, Some, None, slice_get, slice_index_or}
 use Rattle.click_packet.specs.Packet.{Packet}
-use Rattle.click_classes.specs.Acts.{Stored, burst_of, emission, is_source, is_sink}
+use Rattle.click_classes.specs.Acts.{Stored, burst_of, emission}
 use Rattle.click_classes.specs.declared.class.Class.{Class}
 use Rattle.click_classes.specs.declared.class.Class.TheVariants as class
 use Rattle.click_classes.specs.declared.state.State.{State}
-use Rattle.click_engine.specs.declared.world.Element.{Element}
+use Rattle.click_engine.specs.Devices.{element_with}
 use Rattle.click_engine.specs.World.{blank, with_state}
 use Rattle.click_engine.specs.Run.{push, pull, Pulled}
 use Rattle.click_engine.specs.Plant.{Plant, most_crossings, wiring, begin, end}
 
--- the first source, or the first sink, of a device in flat order
+-- the element where packets of a device enter, and the one where they leave
 abbrev pub source_of : Plant → List ℕ → Option ℕ
-source_of v device = position (λ (e : Element). is_source device e.state) v.elements
+source_of v device = element_with v.sources device
 
 abbrev pub sink_of : Plant → List ℕ → Option ℕ
-sink_of v device = position (λ (e : Element). is_sink device e.state) v.elements
+sink_of v device = element_with v.sinks device
 
 abbrev pub state_at : Plant → ℕ → State
 state_at v at = (slice_index_or v.elements at blank).state
@@ -56,14 +56,11 @@ unqueued v at =
       | Some p ↦ record { plant = end v (push (wiring v) most_crossings r.world at 0 p); packets = 1 }
     ]
 
--- a Discard with a pull input asks
+-- a Discard asks
 abbrev pub discarded : Plant → ℕ → Worked
-discarded v at = elim ((wiring v).source at 0) [
-  | None ↦ idle v
-  | Some far ↦
-      let r = asks v at in
-      elim r.packet [ None ↦ record { plant = end v r.world; packets = 0 } | Some p ↦ record { plant = end v r.world; packets = 1 } ]
-]
+discarded v at =
+    let r = asks v at in
+    elim r.packet [ None ↦ record { plant = end v r.world; packets = 0 } | Some p ↦ record { plant = end v r.world; packets = 1 } ]
 
 -- one run: a source's packet is counted, and leaves by output 0
 abbrev pub sourced : Plant → ℕ → Stored → Plant
@@ -89,14 +86,14 @@ task_of c v at = idle v
 abbrev pub task : Plant → ℕ → Worked
 task v at = elim (slice_get v.net.shapes at) [ None ↦ idle v | Some shape ↦ task_of shape.class v at ]
 
--- the tasks of `count` elements from `at` on, in flat order
-unfoldable pub tasks : ℕ → ℕ → Plant → Worked
-tasks zero at v = idle v
-tasks (suc count) at v =
+-- the tasks of these elements, one after another
+unfoldable pub tasks : List ℕ → Plant → Worked
+tasks [] v = idle v
+tasks (at ∷ places) v =
     let done = task v at in
-    let rest = tasks count (at + 1) done.plant in
+    let rest = tasks places done.plant in
     record { plant = rest.plant; packets = done.packets + rest.packets }
 
--- one round: each task once
+-- one round: each task once, in flat order
 abbrev pub round : Plant → Worked
-round v = tasks (length v.net.shapes) 0 v
+round v = tasks v.tasks v

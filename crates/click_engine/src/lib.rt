@@ -1,12 +1,14 @@
 //! The push and pull engine: packets go from element to element over a reserved stack (TOCS 2000, "Packet transfer").
 #![tactic(auto)]
 
+mod devices;
 mod hops;
 pub mod laws;
 mod machine;
 mod plant;
 mod runs;
 mod slots;
+mod tasks;
 mod wires;
 mod world;
 

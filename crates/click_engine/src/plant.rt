@@ -1,10 +1,11 @@
 //! A plant: the elements of a net, and the runs of packets through them.
 ghost use Rattle.std.specs.Prelude.{◌≡◌, ℕ, ◌<◌, ◌≤◌, ◌+◌, IfOk, vec_len, length};
 ghost use Rattle.click_engine.specs.Plant.{elements_from};
-ghost use Rattle.click_classes.specs.Acts.{is_source, is_sink};
 
+use crate::devices::{Devices, Way};
 use crate::machine::Machine;
 use crate::runs::{pull_packet, push_answer, push_packet};
+use crate::tasks::tasks_of;
 use crate::wires::Wires;
 use crate::world::{Element, Work};
 use click_classes::{Class, Side, State};
@@ -21,6 +22,9 @@ pub const CROSSINGS: usize = 256;
 #[derive(Drop)]
 pub struct Plant {
     wires: Wires,
+    tasks: Vec<usize>,
+    sources: Devices,
+    sinks: Devices,
     work: Work,
     machine: Machine,
 }
@@ -32,29 +36,16 @@ impl Model for Plant {
 
     ghost Value = { Seen };
 
-    ghost view = { λ p. record { net = p.wires; elements = p.work.elements.items; overruns = p.work.overruns } };
+    ghost view = { λ p. record {
+      net = p.wires;
+      tasks = p.tasks.items;
+      sources = p.sources;
+      sinks = p.sinks;
+      elements = p.work.elements.items;
+      overruns = p.work.overruns;
+    } };
 
     ghost invariant = { λ p. (p.machine.frames ≡ []) × (p.machine.room ≡ CROSSINGS + 1) };
-}
-
-/// The element is where packets of the device enter.
-fn is_source(state: &State, device: &[u8]) -> bool
-    ensures { result ≡ is_source device.now state.now }
-{
-    match state {
-        State::FromDevice { device: name } => name.as_slice() == device,
-        _ => false,
-    }
-}
-
-/// The element is where the device takes packets.
-fn is_sink(state: &State, device: &[u8]) -> bool
-    ensures { result ≡ is_sink device.now state.now }
-{
-    match state {
-        State::ToDevice { device: name } => name.as_slice() == device,
-        _ => false,
-    }
 }
 
 /// Elements of the net with these states.
@@ -76,9 +67,9 @@ fn elements_of(alloc: Global, net: &Net, states: Vec<State>) -> Result<Vec<Eleme
 }
 
 impl Plant {
-    ghost use Rattle.std.specs.Prelude.{◌≡◌, ℕ, ◌<◌, ◌≤◌, ◌+◌, IsTrue, ◌↔◌, IsSome, slice_index_or, slice_set, length, position, IfOk, MatchOption, min, ◌-◌, ◌^◌, true, false, vec_len};
+    ghost use Rattle.std.specs.Prelude.{◌≡◌, ℕ, ◌<◌, ◌≤◌, ◌+◌, IsTrue, ◌↔◌, IsSome, slice_index_or, slice_set, length, IfOk, MatchOption, min, ◌-◌, ◌^◌, true, false, vec_len};
     ghost use Rattle.click_classes.specs.Acts.{burst_of, emission};
-    ghost use Rattle.click_engine.specs.Plant.{Plant as Seen, started};
+    ghost use Rattle.click_engine.specs.Plant.{Plant as Seen, IsStarted};
     ghost use Rattle.click_engine.specs.Rounds.{arrive, transmit, transmitted, source_of, sink_of, round, task, bursts, sourced, state_at, unqueued, discarded, Worked};
     ghost use Rattle.click_engine.specs.declared.world.Element.{Element};
     ghost use Rattle.click_engine.specs.World.{blank};
@@ -86,9 +77,12 @@ impl Plant {
     /// The plant of a net whose elements begin with these states, one for each, in flat order. It takes all the memory that a run will need.
     pub fn new(alloc: Global, net: Net, states: Vec<State>) -> Result<Plant, AllocError>
         requires { vec_len states ≡ length net.shapes }
-        ensures { IfOk result (λ p. p ≡ started net states.items) }
+        ensures { IfOk result (λ p. IsStarted net states.items p) }
     {
         let machine = Machine::with_room(alloc, CROSSINGS + 1)?;
+        let tasks = tasks_of(alloc, &net)?;
+        let sources = Devices::of(alloc, Way::In, states.as_slice())?;
+        let sinks = Devices::of(alloc, Way::Out, states.as_slice())?;
         let elements = elements_of(alloc, &net, states)?;
         let wires = Wires::new(alloc, net)?;
         let work = Work {
@@ -98,6 +92,9 @@ impl Plant {
         };
         Ok(Plant {
             wires,
+            tasks,
+            sources,
+            sinks,
             work,
             machine,
         })
@@ -132,36 +129,18 @@ impl Plant {
         &self.work.elements[at]
     }
 
-    fn source(&self, device: &[u8]) -> Option<usize>
-        ensures { result ≡ source_of self.now device.now }
-    {
-        self.work
-            .elements
-            .iter()
-            .position(|e| is_source(&e.state, device))
-    }
-
-    fn sink(&self, device: &[u8]) -> Option<usize>
-        ensures { result ≡ sink_of self.now device.now }
-    {
-        self.work
-            .elements
-            .iter()
-            .position(|e| is_sink(&e.state, device))
-    }
-
     /// Whether a FromDevice names the device.
     pub fn has_source(&self, device: &[u8]) -> bool
         ensures { IsTrue result ↔ IsSome (source_of self.now device.now) }
     {
-        self.source(device).is_some()
+        self.sources.element(device).is_some()
     }
 
     /// Whether a ToDevice names the device.
     pub fn has_sink(&self, device: &[u8]) -> bool
         ensures { IsTrue result ↔ IsSome (sink_of self.now device.now) }
     {
-        self.sink(device).is_some()
+        self.sinks.element(device).is_some()
     }
 
     /// A packet enters from a device. `false`: nothing takes it.
@@ -169,7 +148,7 @@ impl Plant {
         ensures plant { self.new ≡ arrive self.old device.now packet.now }
         ensures entered { IsTrue result ↔ IsSome (source_of self.old device.now) }
     {
-        let Some(at) = self.source(device) else {
+        let Some(at) = self.sources.element(device) else {
             return false;
         };
         self.work.left = CROSSINGS;
@@ -182,7 +161,7 @@ impl Plant {
         ensures plant { self.new ≡ transmit self.old device.now }
         ensures packet { result ≡ transmitted self.old device.now }
     {
-        let at = self.sink(device)?;
+        let at = self.sinks.element(device)?;
         self.work.left = CROSSINGS;
         pull_packet(&self.wires, &mut self.work, &mut self.machine, at);
         self.machine.answer()
@@ -194,7 +173,8 @@ impl Plant {
         ensures packets { result ≡ min (round self.old).packets (2 ^ 64 - 1) }
     {
         let mut packets: u64 = 0;
-        for at in 0..self.wires.net().shapes().len() {
+        for place in 0..self.tasks.len() {
+            let at = self.tasks[place];
             packets = packets.saturating_add(self.task(at));
         }
         packets
@@ -262,9 +242,6 @@ impl Plant {
         ensures packets { result ≡ (discarded self.old at).packets }
         ensures few { result ≤ 1 }
     {
-        if self.wires.source(at, 0).is_none() {
-            return 0;
-        }
         self.work.left = CROSSINGS;
         pull_packet(&self.wires, &mut self.work, &mut self.machine, at);
         u64::from(self.machine.is_answered())

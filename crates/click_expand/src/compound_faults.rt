@@ -233,6 +233,3 @@ pub fn first_compound_fault(
     );
     Ok(first_of(inside, around))
 }
-
-#[cfg(test)]
-mod tests;

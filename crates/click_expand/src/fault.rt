@@ -63,6 +63,3 @@ fn write_fault<W: fmt::Write>(
     }
     Ok(())
 }
-
-#[cfg(test)]
-mod tests;

@@ -269,6 +269,3 @@ pub fn flatten(alloc: Global, config: &Config) -> Result<Flat, ExpandFault>
         Err(refused) => Err(fault_of(alloc, refused)),
     }
 }
-
-#[cfg(test)]
-mod tests;

@@ -128,6 +128,3 @@ pub fn first_name_fault(
     let originals = in_entries(scopes.entries.as_slice());
     Ok(first_of(first_of(whole, bodies), originals))
 }
-
-#[cfg(test)]
-mod tests;

@@ -219,6 +219,3 @@ pub fn connections_of(
         Ok(Some(all))
     }
 }
-
-#[cfg(test)]
-mod tests;

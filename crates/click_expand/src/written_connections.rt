@@ -307,6 +307,3 @@ pub fn all_joints(
     }
     Ok(all)
 }
-
-#[cfg(test)]
-mod tests;

@@ -47,38 +47,3 @@ pub fn checksum(header: &[u8]) -> u16
     let field = u32::from(header[10]) * 256 + u32::from(header[11]);
     u16::MAX - fold(sum_of_words(header) - field)
 }
-
-#[cfg(test)]
-mod tests {
-    use super::*;
-
-    /// The numerical example of RFC 1071, section 3.
-    #[test]
-    fn four_words(rt: HostRuntime) {
-        assert_eq!(rt;
-            sum(&[0x00, 0x01, 0xf2, 0x03, 0xf4, 0xf5, 0xf6, 0xf7]),
-            0xddf2
-        );
-    }
-
-    /// A header of a UDP packet from 192.168.0.1 to 192.168.0.199, with another word in its checksum field.
-    #[test]
-    fn captured_header(rt: HostRuntime) {
-        let mut header = [
-            0x45, 0x00, 0x00, 0x73, 0x00, 0x00, 0x40, 0x00, 0x40, 0x11, 0xb8, 0x61, 0xc0, 0xa8,
-            0x00, 0x01, 0xc0, 0xa8, 0x00, 0xc7,
-        ];
-        assert_eq!(rt; sum(&header), 0xffff);
-        header[10] = 0x12;
-        header[11] = 0x34;
-        assert_eq!(rt; checksum(&header), 0xb861);
-    }
-
-    /// Words that are all 0 sum to 0, others never.
-    #[test]
-    fn two_zeros(rt: HostRuntime) {
-        assert_eq!(rt; sum(&[0; 20]), 0);
-        assert_eq!(rt; sum(&[0xff, 0xff, 0xff, 0xff]), 0xffff);
-        assert_eq!(rt; checksum(&[0; 20]), 0xffff);
-    }
-}

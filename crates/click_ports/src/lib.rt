@@ -22,6 +22,3 @@ pub use net::Net;
 pub use port::Port;
 pub use resolving::resolve;
 pub use shape::Shape;
-
-#[cfg(test)]
-mod tests;

@@ -10,7 +10,7 @@ use Rattle.click_expand.specs.declared.flat.Flat.{Flat}
 use Rattle.click_expand.specs.Flat.{IsFlat}
 use Rattle.click_expand.proofs.Nesting.{spelled-nested}
 use Rattle.click_expand.proofs.FlatOnce.{flat-once, flat-no-fault}
-use Rattle.click_engine.specs.Plant.{Plant, started}
+use Rattle.click_engine.specs.Plant.{Plant, IsStarted}
 use Rattle.click_ports.specs.Net.{net_of}
 use Rattle.click_ports.proofs.Lawfulness.{lawful-none}
 use Rattle.click_router.specs.declared.fault.ConfigFault.{ConfigFault}
@@ -18,6 +18,7 @@ use Rattle.click_router.specs.State.{RouterState}
 use Rattle.click_router.specs.Opened.{AreFresh, IsLawful, Begins, OpensAs, IsOpened, of_expand, IsFirstFault, not_flat, unfit, unlawful, IsMemoryOr, IsGiven}
 use Rattle.click_router.specs.kept.Refused.{IsConfigFault}
 use Rattle.click_router.proofs.Begun.{same_states, refused_state}
+use Rattle.click_router.proofs.Started.{started_once}
 
 router : List ℕ → Flat → Plant → RouterState
 router text flat plant = record { text = text; flat = flat; plant = plant }
@@ -27,7 +28,8 @@ begins_same : (f g : Flat) (p q : Plant) → f ≡ g → Begins f p → Begins g
 begins_same f g p q same h k =
     let fresh = subst (λ (x : Flat). AreFresh x.elements h.states) same h.fresh in
     let states = same_states g.elements h.states k.states fresh k.fresh in
-    h.is ∙ ap (λ x. started (net_of x h.states) h.states) same ∙ ap (λ x. started (net_of g x) x) states ∙ sym k.is
+    let started = subst (λ x. IsStarted (net_of x h.states) h.states p) same h.started in
+    started_once (net_of g k.states) k.states p q (subst (λ x. IsStarted (net_of g x) x p) states started) k.started
 
 module _ (text : List ℕ) (config : Config) (spells : Spells text config) where
   pub same_flat : (f g : Flat) → IsFlat config f → IsFlat config g → f ≡ g

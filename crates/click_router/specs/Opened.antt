@@ -16,7 +16,7 @@ use Rattle.click_classes.specs.declared.class.Class.{Class}
 use Rattle.click_classes.specs.declared.fault.ArgFault.{ArgFault}
 use Rattle.click_classes.specs.declared.fault.ArgFault.TheVariants as arg_kind
 use Rattle.click_classes.specs.declared.state.State.{State}
-use Rattle.click_engine.specs.Plant.{Plant, started}
+use Rattle.click_engine.specs.Plant.{Plant, IsStarted}
 use Rattle.click_ports.specs.Breaches.{IsFirstBreach}
 use Rattle.click_ports.specs.Lawful.{Lawful}
 use Rattle.click_ports.specs.Net.{Net, net_of}
@@ -59,7 +59,7 @@ pub record Begins (flat : Flat) (plant : Plant) : Type 0 where
   pub states : List State
   pub fresh : AreFresh flat.elements states
   pub lawful : IsLawful flat states
-  pub is : plant ≡ started (net_of flat states) states
+  pub started : IsStarted (net_of flat states) states plant
 
 -- the elements and connections are those of the configuration, and the plant of them begins
 pub record OpensAs (config : Config) (flat : Flat) (plant : Plant) : Type 0 where

@@ -11,6 +11,3 @@ pub use call::{Call, Refusal, Reply, StepFault};
 pub use fault::{ConfigFault, FaultKind, FaultPlace, Side};
 pub use opening::{Prepared, prepare};
 pub use router::Router;
-
-#[cfg(test)]
-mod tests;

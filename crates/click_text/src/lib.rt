@@ -17,8 +17,6 @@ mod parser;
 pub mod sequence;
 mod strings;
 pub mod syntax;
-#[cfg(test)]
-mod tests;
 mod tokens;
 
 pub use argument_bytes::unquote;

@@ -1,7 +1,8 @@
 -- The tables of connections.
-use Rattle.std.specs.Prelude.{◌≡◌, ℕ, List, [], map, slice_index_or, Option, Some, None, Bool, if◌then◌else◌}
+use Rattle.std.specs.Prelude.{◌≡◌, ℕ, List, [], ◌∷◌, map, slice_index_or, Option, Some, None, Bool, if◌then◌else◌}
 use Rattle.std.specs.declared.vec.Vec.{Vec}
 use Rattle.std.specs.declared.alloc.Global.{Global}
+use Rattle.click_engine.specs.Devices.{Device}
 use Rattle.click_engine.specs.Wires.{is_port}
 use Rattle.click_engine.specs.declared.world.Port.{Port}
 
@@ -22,3 +23,9 @@ first_of (Some noted) here far = Some noted
 -- the far port was noted at the near one, unless something was
 abbrev pub IsNoted : List (List (Option Port)) → List (List (Option Port)) → Port → Port → Type 0
 IsNoted old new near far = (at number : ℕ) → entry new at number ≡ first_of (entry old at number) (is_port near at number) far
+
+-- names and places, side by side
+abbrev pub devices : List (List ℕ) → List ℕ → List Device
+devices [] places = []
+devices (name ∷ names) [] = []
+devices (name ∷ names) (at ∷ places) = record { name = name; element = at } ∷ devices names places

@@ -1,8 +1,7 @@
-use Rattle.std.proofs.Common.{◌≡◌, ◌∙◌, [], ap, sym, subst, take, get_or, length, arith}
+use Rattle.std.proofs.Common.{◌∙◌, [], ap, sym, take, get_or, length, arith}
 use Rattle.std.proofs.lemmas.List.{take_more, take_all, length-map, length-replicate}
 use Rattle.click_expand.specs.declared.flat.Connection.{Connection}
-use Rattle.click_engine.specs.Wires.{first_joined, end_of, is_port}
-use Rattle.click_engine.specs.kept.Tables.{first_of}
+use Rattle.click_engine.specs.Wires.{first_joined}
 use Rattle.click_engine.proofs.Tables.{joined_more, empty_entry, end_within}
 use Rattle.click_engine.proofs.wires.joined.Goals as goal
 

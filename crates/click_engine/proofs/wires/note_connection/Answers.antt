@@ -1,9 +1,5 @@
-use Rattle.std.proofs.Common.{◌≡◌, ℕ, ap, sym, ◌∙◌, subst, refl, arith, [], None, Option, get_or, set, length}
-use Rattle.std.specs.declared.vec.Vec.{Vec}
-use Rattle.std.specs.declared.alloc.Global.{Global}
+use Rattle.std.proofs.Common.{◌∙◌, refl, arith}
 use Rattle.std.proofs.lemmas.Result.{on_ok_weaker}
-use Rattle.click_engine.specs.declared.world.Port.{Port}
-use Rattle.click_engine.specs.kept.Tables.{rows_of, first_of, IsNoted}
 use Rattle.click_engine.proofs.Tables.{noted_rows}
 use Rattle.click_engine.proofs.wires.note_connection.Goals as goal
 

@@ -8,6 +8,6 @@ use Rattle.click_engine.proofs.plant.Plant.unqueue.Goals as goal
 pub returns-clause-plant : goal.returns-clause-plant
 returns-clause-plant c =
     let p = c.self.inside in
-    let v : Plant = record { net = p.wires; elements = p.work.elements.items; overruns = p.work.overruns } in
+    let v : Plant = record { net = p.wires; tasks = p.tasks.items; sources = p.sources; sinks = p.sinks; elements = p.work.elements.items; overruns = p.work.overruns } in
     rw (← c.self.view_is) (unqueued_some v c.args.at (world_of c.pull_packet.new.work) (world_of c.push_answer.new.work) c.pull_packet.new.machine.last c.pull_packet.ensures.made
     (c.push_answer.ensures.made most_crossings (omega (arith, c.pull_packet.ensures.fewer))) (c.is_answered.ensures.0 c.if-not-is_answered.false))

@@ -1,0 +1,37 @@
+-- Where packets of a device enter and leave (Click manual, "FromDevice", "ToDevice").
+use Rattle.std.specs.Prelude.{ℕ, ◌+◌, List, [], ◌∷◌, Option, Some, None, if◌then◌else◌}
+use Rattle.std.specs.Str.{bytes_eq}
+use Rattle.click_classes.specs.declared.state.State.{State}
+use Rattle.click_classes.specs.declared.state.State.TheVariants as state
+use Rattle.click_engine.specs.declared.devices.Way.{Way}
+use Rattle.click_engine.specs.declared.devices.Way.TheVariants as way
+
+-- a device, and the place of its element in flat order
+pub record Device : Type 0 where
+  pub name : List ℕ
+  pub element : ℕ
+
+-- the device whose packets enter, or leave, at an element
+abbrev pub device_of : Way → State → Option (List ℕ)
+device_of way.In (state.FromDevice device) = Some device
+device_of way.In s = None
+device_of way.Out (state.ToDevice device) = Some device
+device_of way.Out s = None
+
+abbrev pub without : List ℕ → List Device → List Device
+without name [] = []
+without name (d ∷ ds) = if bytes_eq name d.name then without name ds else d ∷ without name ds
+
+abbrev pub first_with : Option (List ℕ) → ℕ → List Device → List Device
+first_with None at ds = ds
+first_with (Some name) at ds = record { name = name; element = at } ∷ without name ds
+
+-- the devices of the elements from a place on, each with the first element that names it
+abbrev pub devices_from : Way → ℕ → List State → List Device
+devices_from w at [] = []
+devices_from w at (s ∷ ss) = first_with (device_of w s) at (devices_from w (at + 1) ss)
+
+-- the element of a device
+abbrev pub element_with : List Device → List ℕ → Option ℕ
+element_with [] name = None
+element_with (d ∷ ds) name = if bytes_eq name d.name then Some d.element else element_with ds name

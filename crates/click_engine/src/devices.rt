@@ -1,0 +1,84 @@
+//! Where packets of a device enter and leave.
+ghost use Rattle.std.specs.Prelude.{◌≡◌, option_map};
+ghost use Rattle.click_engine.specs.Devices.{device_of};
+
+use click_classes::State;
+use click_expand::Names;
+use std::alloc::{AllocError, Global};
+use std::marker::Model;
+
+/// Which way packets pass at a device.
+#[derive(Clone, Copy, Debug, PartialEq, Eq)]
+pub enum Way {
+    /// They enter, at a FromDevice.
+    In,
+    /// They leave, at a ToDevice.
+    Out,
+}
+
+/// Devices, each once, with the places of their elements.
+#[derive(Drop)]
+pub struct Devices {
+    names: Names,
+    places: Vec<usize>,
+}
+
+impl Model for Devices {
+    ghost use Rattle.std.specs.Prelude.{◌≡◌, List, length};
+    ghost use Rattle.click_engine.specs.Devices.{Device};
+    ghost use Rattle.click_engine.specs.kept.Tables.{devices};
+
+    ghost Value = { List Device };
+
+    ghost view = { λ d. devices d.names d.places.items };
+
+    ghost invariant = { λ d. length d.names ≡ length d.places.items };
+}
+
+/// The device whose packets pass at the element that way.
+fn device_of(way: Way, state: &State) -> Option<&[u8]>
+    ensures { option_map (λ name. name.now) result ≡ device_of way state.now }
+{
+    match way {
+        Way::In => match state {
+            State::FromDevice { device } => Some(device.as_slice()),
+            _ => None,
+        },
+        Way::Out => match state {
+            State::ToDevice { device } => Some(device.as_slice()),
+            _ => None,
+        },
+    }
+}
+
+impl Devices {
+    ghost use Rattle.std.specs.Prelude.{◌≡◌, IfOk};
+    ghost use Rattle.click_engine.specs.Devices.{devices_from, element_with};
+
+    /// The devices of elements with these states, each with the first element in flat order that names it.
+    pub(crate) fn of(alloc: Global, way: Way, states: &[State]) -> Result<Devices, AllocError>
+        ensures { IfOk result (λ ds. ds ≡ devices_from way 0 states.now) }
+    {
+        let mut names = Names::new(alloc);
+        let mut places = Vec::new(alloc);
+        for at in 0..states.len() {
+            let Some(name) = device_of(way, &states[at]) else {
+                continue;
+            };
+            if names.has(name) {
+                continue;
+            }
+            places.push(at)?;
+            names.add(alloc, name)?;
+        }
+        Ok(Devices { names, places })
+    }
+
+    /// The place of the device's element.
+    pub(crate) fn element(&self, device: &[u8]) -> Option<usize>
+        ensures { result ≡ element_with self.now device.now }
+    {
+        let at = self.names.place(device)?;
+        Some(self.places[at])
+    }
+}

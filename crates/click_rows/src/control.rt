@@ -1,0 +1,411 @@
+//! Sessions with a port, a reader and a writer in memory.
+
+use click_control::{
+    Answer, AskFault, Command, Ended, Failed, Port, Reading, ServeFault, Writing, reply_text, serve,
+};
+use click_router::{Call, Refusal, Reply};
+use click_text::sequence::Sequence;
+use std::alloc::{AllocError, Global};
+use std::cell::Cell;
+use std::io::{self, ErrorKind, Read, Write};
+use std::test::Fail;
+
+/// How many bytes the largest value has.
+const LARGE: usize = 70_000;
+
+/// A port with one counter `c` that has seen nothing, and a value of many bytes.
+#[derive(Drop)]
+struct OneCounter;
+
+impl Port for OneCounter {
+    ghost asks = { λ _ _ _ _. Unit {0} };
+
+    fn ask(&mut self, alloc: Global, call: Call) -> Result<Reply, AskFault> {
+        let Call::Read { name, text: _ } = call else {
+            return Ok(Reply::NoDevice);
+        };
+        let name = name.as_slice();
+        if name == b"c.count".as_slice() {
+            match Vec::from_slice(alloc, b"0") {
+                Ok(value) => Ok(Reply::Value(Sequence::of(value))),
+                Err(_) => Err(AskFault::NoMemory),
+            }
+        } else if name == b"c.none".as_slice() {
+            Ok(Reply::Refused(Refusal::NoHandler))
+        } else if name == b"c.late".as_slice() {
+            Err(AskFault::HistoryFull)
+        } else if name == b"c.large".as_slice() {
+            match vec![in alloc; b'x'; LARGE] {
+                Ok(value) => Ok(Reply::Value(Sequence::of(value))),
+                Err(_) => Err(AskFault::NoMemory),
+            }
+        } else {
+            Ok(Reply::Refused(Refusal::NoElement))
+        }
+    }
+}
+
+/// A reader that gives a few bytes at a time, and fails at one of its calls.
+#[derive(Drop)]
+struct Trickle<'a> {
+    bytes: &'a [u8],
+    size: usize,
+    calls: usize,
+    fails_at: usize,
+}
+
+impl Read for Trickle<'_> {
+    fn read(&mut self, buf: &mut [u8]) -> io::Result<usize> {
+        self.calls = self.calls.saturating_add(1);
+        if self.calls == self.fails_at {
+            return Err(io::Error::from(ErrorKind::Interrupted));
+        }
+        let n = self.size.min(self.bytes.len()).min(buf.len());
+        buf[..n].copy_from_slice(&self.bytes[..n]);
+        self.bytes = &self.bytes[n..];
+        Ok(n)
+    }
+}
+
+/// A writer that takes a few bytes at a time, and fails at one of its calls.
+#[derive(Drop)]
+struct Narrow {
+    taken: Vec<u8>,
+    size: usize,
+    calls: usize,
+    fails_at: usize,
+}
+
+impl Write for Narrow {
+    fn write(&mut self, buf: &[u8]) -> io::Result<usize> {
+        self.calls = self.calls.saturating_add(1);
+        if self.calls == self.fails_at {
+            return Err(io::Error::from(ErrorKind::Interrupted));
+        }
+        let n = self.size.min(buf.len());
+        self.taken.extend_from_slice(&buf[..n])?;
+        Ok(n)
+    }
+
+    fn flush(&mut self) -> io::Result<()> {
+        Ok(())
+    }
+}
+
+fn reader_of(bytes: &[u8], size: usize, fails_at: usize) -> Trickle<'_> {
+    Trickle {
+        bytes,
+        size,
+        calls: 0,
+        fails_at,
+    }
+}
+
+fn writer_of(alloc: Global, size: usize, fails_at: usize) -> Narrow {
+    Narrow {
+        taken: Vec::new(alloc),
+        size,
+        calls: 0,
+        fails_at,
+    }
+}
+
+/// How a session of this reader and this writer ends, and what it writes.
+fn session(
+    alloc: Global,
+    reader: Trickle<'_>,
+    writer: Narrow,
+) -> (Result<Ended, ServeFault>, Vec<u8>) {
+    let mut reader = Reading::new(reader);
+    let mut writer = Writing::new(writer);
+    let ended = serve(alloc, &mut reader, &mut writer, &mut OneCounter, false);
+    (ended, writer.into_inner().taken)
+}
+
+const GREETING: &[u8] = b"Click::ControlSocket/1.3\r\n";
+
+/// The bytes after the greeting.
+fn replies(written: &[u8]) -> &[u8] {
+    match written.strip_prefix(GREETING) {
+        Some(replies) => replies,
+        None => b"no greeting",
+    }
+}
+
+#[test]
+fn answers_commands(rt: HostRuntime) -> Result<(), Fail> {
+    let cases: [(&[u8], &[u8]); 10] = [
+        (b"READ x.count\r\n", b"510 No element named 'x'\r\n"),
+        (b"READ nodot\n", b"510 No element named ''\r\n"),
+        (b"READ c.none\n", b"511 No handler named 'c.none'\r\n"),
+        (b"READ c.late\n", b"520 History full\r\n"),
+        (
+            b"  read\tc.count  and text \n",
+            b"200 Read handler 'c.count' OK\r\nDATA 1\r\n0",
+        ),
+        (b"FOO bar\n", b"501 Unimplemented command 'FOO'\r\n"),
+        (b"READ \n", b"500 Syntax error\r\n"),
+        (b"\n \t\r\n\r\r\n", b""),
+        (b"READ c.none", b""),
+        (b"", b""),
+    ];
+    for (input, want) in cases {
+        let (ended, written) = session(
+            rt.alloc(),
+            reader_of(input, 4096, 0),
+            writer_of(rt.alloc(), 4096, 0),
+        );
+        assert_eq!(rt; ended, Ok(Ended::EndOfInput));
+        assert_eq!(rt; replies(&written), want);
+    }
+    Ok(())
+}
+
+#[test]
+fn quits(rt: HostRuntime) -> Result<(), Fail> {
+    let (ended, written) = session(
+        rt.alloc(),
+        reader_of(b"quit now\nREAD c.none\n", 4096, 0),
+        writer_of(rt.alloc(), 4096, 0),
+    );
+    assert_eq!(rt; ended, Ok(Ended::Quit));
+    assert_eq!(rt; replies(&written), b"200 Goodbye!\r\n".as_slice());
+    Ok(())
+}
+
+#[test]
+fn takes_any_line_ends_in_any_pieces(rt: HostRuntime) -> Result<(), Fail> {
+    let inputs: [&[u8]; 4] = [
+        b"READ c.count\rFOO\rQUIT\r",
+        b"READ c.count\nFOO\nQUIT\n",
+        b"READ c.count\r\nFOO\r\nQUIT\r\n",
+        b"READ c.count\n\rFOO\r\n\nQUIT\rFOO\n",
+    ];
+    let want =
+        b"200 Read handler 'c.count' OK\r\nDATA 1\r\n0501 Unimplemented command 'FOO'\r\n200 Goodbye!\r\n";
+    for input in inputs {
+        for size in [1, 2, 3, 4096] {
+            let (ended, written) = session(
+                rt.alloc(),
+                reader_of(input, size, 0),
+                writer_of(rt.alloc(), size, 0),
+            );
+            assert_eq!(rt; ended, Ok(Ended::Quit));
+            assert_eq!(rt; replies(&written), want.as_slice());
+        }
+    }
+    Ok(())
+}
+
+/// A line of so many bytes, whose command word is `FOO`, with the next line.
+fn long_line(alloc: Global, len: usize) -> Result<Vec<u8>, AllocError> {
+    let mut line = vec![in alloc; b' '; len]?;
+    for (at, byte) in b"FOO".iter().enumerate() {
+        if at < line.len() {
+            line[at] = *byte;
+        }
+    }
+    line.extend_from_slice(b"\nQUIT\n")?;
+    Ok(line)
+}
+
+#[test]
+fn ends_at_a_line_that_is_too_long(rt: HostRuntime) -> Result<(), Fail> {
+    let longest = long_line(rt.alloc(), 65_536)?;
+    let (ended, written) = session(
+        rt.alloc(),
+        reader_of(&longest, 1000, 0),
+        writer_of(rt.alloc(), 4096, 0),
+    );
+    assert_eq!(rt; ended, Ok(Ended::Quit));
+    assert_eq!(rt;
+        replies(&written),
+        b"501 Unimplemented command 'FOO'\r\n200 Goodbye!\r\n".as_slice()
+    );
+
+    let mut longer = long_line(rt.alloc(), 65_537)?;
+    let want = b"500 Line too long\r\n".as_slice();
+    let (ended, written) = session(
+        rt.alloc(),
+        reader_of(&longer, 1000, 0),
+        writer_of(rt.alloc(), 4096, 0),
+    );
+    assert_eq!(rt; ended, Ok(Ended::TooLong));
+    assert_eq!(rt; replies(&written), want);
+    // The byte that makes it too long decides, though its end has not come.
+    longer.truncate(65_537);
+    let (ended, written) = session(
+        rt.alloc(),
+        reader_of(&longer, 1, 0),
+        writer_of(rt.alloc(), 4096, 0),
+    );
+    assert_eq!(rt; ended, Ok(Ended::TooLong));
+    assert_eq!(rt; replies(&written), want);
+    Ok(())
+}
+
+#[test]
+fn breaks_off_where_a_call_fails(rt: HostRuntime) -> Result<(), Fail> {
+    let input = b"READ c.none\nFOO\n".as_slice();
+    let whole =
+        b"Click::ControlSocket/1.3\r\n511 No handler named 'c.none'\r\n501 Unimplemented command 'FOO'\r\n".as_slice();
+    for fails_at in 1..input.len() + 2 {
+        let (ended, written) = session(
+            rt.alloc(),
+            reader_of(input, 1, fails_at),
+            writer_of(rt.alloc(), 4096, 0),
+        );
+        assert_eq!(rt; ended, Err(ServeFault::ReadFailed));
+        assert!(rt; whole.starts_with(&written));
+        assert_eq!(rt; written.len() == whole.len(), fails_at > input.len());
+    }
+    for fails_at in 1..whole.len() + 1 {
+        let (ended, written) = session(
+            rt.alloc(),
+            reader_of(input, 7, 0),
+            writer_of(rt.alloc(), 1, fails_at),
+        );
+        assert_eq!(rt; ended, Err(ServeFault::WriteFailed));
+        assert_eq!(rt; written.len() + 1, fails_at);
+        assert!(rt; whole.starts_with(&written));
+    }
+    // A write that takes none of some bytes is a failure too.
+    let (ended, written) = session(
+        rt.alloc(),
+        reader_of(input, 7, 0),
+        writer_of(rt.alloc(), 0, 0),
+    );
+    assert_eq!(rt; ended, Err(ServeFault::WriteFailed));
+    assert_eq!(rt; written.len(), 0);
+    Ok(())
+}
+
+/// A reader that gives its second line only once the reply to the first was written.
+#[derive(Drop)]
+struct Patient<'a> {
+    calls: usize,
+    written: &'a Cell<usize>,
+}
+
+impl Read for Patient<'_> {
+    fn read(&mut self, buf: &mut [u8]) -> io::Result<usize> {
+        self.calls = self.calls.saturating_add(1);
+        let (line, after): (&[u8], usize) = match self.calls {
+            1 => (b"FOO\n", 26),
+            2 => (b"QUIT\n", 26 + 33),
+            _ => (b"", 0),
+        };
+        if self.written.get() != after || buf.len() < line.len() {
+            return Err(io::Error::from(ErrorKind::Other));
+        }
+        buf[..line.len()].copy_from_slice(line);
+        Ok(line.len())
+    }
+}
+
+/// A writer that counts the bytes that it takes, one at a time.
+#[derive(Drop)]
+struct Counting<'a> {
+    written: &'a Cell<usize>,
+}
+
+impl Write for Counting<'_> {
+    fn write(&mut self, buf: &[u8]) -> io::Result<usize> {
+        let n = buf.len().min(1);
+        self.written.set(self.written.get().saturating_add(n));
+        Ok(n)
+    }
+
+    fn flush(&mut self) -> io::Result<()> {
+        Ok(())
+    }
+}
+
+#[test]
+fn replies_before_the_next_read(rt: HostRuntime) {
+    let written = Cell::new(0);
+    let mut reader = Reading::new(Patient {
+        calls: 0,
+        written: &written,
+    });
+    let mut writer = Writing::new(Counting { written: &written });
+    let ended = serve(rt.alloc(), &mut reader, &mut writer, &mut OneCounter, true);
+    assert_eq!(rt; ended, Ok(Ended::Quit));
+}
+
+#[test]
+fn has_no_text_for_an_answer_that_cannot_be(rt: HostRuntime) -> Result<(), Fail> {
+    let failed = Answer::Failed(AskFault::NoMemory);
+    assert_eq!(rt; reply_text(rt.alloc(), &Command::Quit, &failed)?.len(), 0);
+    let word = Sequence::of(Vec::from_slice(rt.alloc(), b"FOO")?);
+    assert_eq!(rt;
+        reply_text(rt.alloc(), &Command::Unknown { word }, &failed)?.len(),
+        0
+    );
+    let read = Command::Read {
+        handler: Sequence::of(Vec::from_slice(rt.alloc(), b"c.count")?),
+        text: Sequence::new(rt.alloc()),
+    };
+    assert_eq!(rt; reply_text(rt.alloc(), &read, &Answer::NoCall)?.len(), 0);
+    assert_eq!(rt;
+        reply_text(rt.alloc(), &read, &failed)?.as_slice(),
+        b"520 Out of memory\r\n".as_slice()
+    );
+    Ok(())
+}
+
+/// A reply of many bytes is written in full, however many of them a write takes.
+#[test]
+fn writes_a_large_reply(rt: HostRuntime) -> Result<(), Fail> {
+    let front = b"200 Read handler 'c.large' OK\r\nDATA 70000\r\n".as_slice();
+    for size in [1000, 4097, 100_000] {
+        let (ended, written) = session(
+            rt.alloc(),
+            reader_of(b"READ c.large\n", 4096, 0),
+            writer_of(rt.alloc(), size, 0),
+        );
+        assert_eq!(rt; ended, Ok(Ended::EndOfInput));
+        let Some(value) = replies(&written).strip_prefix(front) else {
+            panic!(rt; "another reply")
+        };
+        assert_eq!(rt; value.len(), LARGE);
+        assert!(rt; value.iter().all(|byte| *byte == b'x'));
+    }
+    Ok(())
+}
+
+/// A session goes on after 65,537 reads: here each of 70,000 gives one byte of a blank line, and one more finds the end.
+#[test]
+fn reads_many_times(rt: HostRuntime) -> Result<(), Fail> {
+    let input = vec![in rt.alloc(); b'\n'; 70_000]?;
+    let mut reader = Reading::new(reader_of(&input, 1, 0));
+    let mut writer = Writing::new(writer_of(rt.alloc(), 4096, 0));
+    let ended = serve(rt.alloc(), &mut reader, &mut writer, &mut OneCounter, false);
+    assert_eq!(rt; ended, Ok(Ended::EndOfInput));
+    assert_eq!(rt; reader.into_inner().calls, 70_001);
+    assert_eq!(rt; replies(&writer.into_inner().taken).len(), 0);
+    Ok(())
+}
+
+#[test]
+fn prints_faults(rt: HostRuntime) -> Result<(), Fail> {
+    let alloc = rt.alloc();
+    let failed = Failed.to_string(alloc)?;
+    assert_eq!(rt; failed.as_str(), "a read or a write failed");
+    for (fault, want) in [
+        (ServeFault::ReadFailed, "a read failed"),
+        (ServeFault::WriteFailed, "a write failed"),
+        (ServeFault::NoMemory, "out of memory"),
+    ] {
+        let printed = fault.to_string(alloc)?;
+        assert_eq!(rt; printed.as_str(), want);
+    }
+    for (fault, want) in [
+        (AskFault::NoMemory, "out of memory"),
+        (AskFault::HistoryFull, "history full"),
+    ] {
+        let printed = fault.to_string(alloc)?;
+        assert_eq!(rt; printed.as_str(), want);
+    }
+    Ok(())
+}

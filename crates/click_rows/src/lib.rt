@@ -1,0 +1,23 @@
+//! Tests of the public calls, crate by crate; a crate with tests of its own would be proved twice.
+#![tactic(auto)]
+
+#[cfg(test)]
+mod acting;
+#[cfg(test)]
+mod arguments;
+#[cfg(test)]
+mod classes;
+#[cfg(test)]
+mod control;
+#[cfg(test)]
+mod expand;
+#[cfg(test)]
+mod packet;
+#[cfg(test)]
+mod ports;
+#[cfg(test)]
+mod router;
+#[cfg(test)]
+mod rows;
+#[cfg(test)]
+mod text;
