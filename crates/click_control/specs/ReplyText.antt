@@ -21,11 +21,15 @@ naming front name back = front ++ codes "'" ++ name ++ codes "'" ++ back ++ code
 abbrev pub data_text : List ℕ → List ℕ
 data_text bytes = codes "DATA " ++ decimal (length bytes) ++ codes "\r\n" ++ bytes
 
--- the reply to `READ` of a handler
+-- the reply to `READ` of a handler: its value, or why it has none; no text for the replies that only other calls have
 abbrev pub read_text : List ℕ → Answer → List ℕ
 read_text handler (answer.Replied (reply.Value bytes)) = naming (codes "200 Read handler ") handler (codes " OK") ++ data_text bytes
 read_text handler (answer.Replied (reply.Refused refusal.NoElement)) = naming (codes "510 No element named ") (before_last is_dot handler) []
 read_text handler (answer.Replied (reply.Refused refusal.NoHandler)) = naming (codes "511 No handler named ") handler []
+read_text handler (answer.Replied (reply.Entered count)) = []
+read_text handler (answer.Replied (reply.Worked count)) = []
+read_text handler (answer.Replied (reply.Sent packet)) = []
+read_text handler (answer.Replied reply.NoDevice) = []
 read_text handler (answer.Failed ask.NoMemory) = codes "520 Out of memory\r\n"
 read_text handler (answer.Failed ask.HistoryFull) = codes "520 History full\r\n"
 read_text handler answer.NoCall = []

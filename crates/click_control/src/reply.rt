@@ -52,7 +52,9 @@ fn read_text(alloc: Global, handler: &[u8], answer: &Answer) -> Result<Vec<u8>, 
         }
         Answer::Failed(AskFault::NoMemory) => Vec::from_slice(alloc, b"520 Out of memory\r\n"),
         Answer::Failed(AskFault::HistoryFull) => Vec::from_slice(alloc, b"520 History full\r\n"),
-        Answer::NoCall => Ok(Vec::new(alloc)),
+        // What only calls that carry packets are answered.
+        Answer::Replied(Reply::Entered(_) | Reply::Worked(_) | Reply::Sent(_) | Reply::NoDevice)
+        | Answer::NoCall => Ok(Vec::new(alloc)),
     }
 }
 

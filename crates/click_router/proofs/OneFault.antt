@@ -112,7 +112,7 @@ opened-layer : (text : List ℕ) (s : RouterState) (f : ConfigFault) → IsOpene
 opened-layer text s f o (inl (t, a, k)) = answered-spelled text t o.config a o.within o.spells
 opened-layer text s f o (inr (config, within, spells, h)) =
     let same = spells_once text config o.config spells o.spells in
-    refused text o.config o.spells f s.flat s.states (subst (λ (c : Config). IsConfigFault c f) same h) o.opens
+    refused text o.config o.spells f s.flat s.plant (subst (λ (c : Config). IsConfigFault c f) same h) o.opens
 
 pub opened_has_no_fault : (text : List ℕ) (s : RouterState) (f : ConfigFault) → IsOpened text s → IsFirstFault text f → ⊥
 opened_has_no_fault text s f o h = opened-layer text s f o (layer text f h)

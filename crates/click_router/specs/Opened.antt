@@ -16,6 +16,7 @@ use Rattle.click_classes.specs.declared.class.Class.{Class}
 use Rattle.click_classes.specs.declared.fault.ArgFault.{ArgFault}
 use Rattle.click_classes.specs.declared.fault.ArgFault.TheVariants as arg_kind
 use Rattle.click_classes.specs.declared.state.State.{State}
+use Rattle.click_engine.specs.Plant.{Plant, IsStarted}
 use Rattle.click_ports.specs.Breaches.{IsFirstBreach}
 use Rattle.click_ports.specs.Lawful.{Lawful}
 use Rattle.click_ports.specs.Net.{Net, net_of}
@@ -53,18 +54,24 @@ AreFresh (e ∷ es) [] = ⊥
 abbrev pub IsLawful : Flat → List State → Type 0
 IsLawful flat states = Lawful (net_of flat states).shapes (net_of flat states).connections
 
--- the elements and connections are those of the configuration, each element holds its first state, and the net is lawful
-pub record OpensAs (config : Config) (flat : Flat) (states : List State) : Type 0 where
-  pub is_flat : IsFlat config flat
+-- each element begins with its first state, and the net is lawful
+pub record Begins (flat : Flat) (plant : Plant) : Type 0 where
+  pub states : List State
   pub fresh : AreFresh flat.elements states
   pub lawful : IsLawful flat states
+  pub started : IsStarted (net_of flat states) states plant
+
+-- the elements and connections are those of the configuration, and the plant of them begins
+pub record OpensAs (config : Config) (flat : Flat) (plant : Plant) : Type 0 where
+  pub is_flat : IsFlat config flat
+  pub begins : Begins flat plant
 
 -- the first state of the router of a text
 pub record IsOpened (text : List ℕ) (s : RouterState) : Type 0 where
   pub within : length text ≤ longest_text
   pub config : Config
   pub spells : Spells text config
-  pub opens : OpensAs config s.flat s.states
+  pub opens : OpensAs config s.flat s.plant
   pub copy : s.text ≡ text
 
 -- a fault at a place of the text: lines are counted by the LF bytes before it, columns by the bytes after the last of them, both from 1

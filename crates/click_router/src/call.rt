@@ -1,5 +1,6 @@
 //! What a router is asked, and what it answers.
 
+use click_packet::Packet;
 use click_text::sequence::Sequence;
 use thiserror::Error;
 
@@ -10,6 +11,22 @@ pub enum Call {
     Read {
         name: Sequence<u8>,
         text: Sequence<u8>,
+    },
+    /// A packet enters from a device.
+    Arrive {
+        device: Sequence<u8>,
+        packet: Packet,
+    },
+    /// Packets enter from a device one after another.
+    Poll {
+        device: Sequence<u8>,
+        taken: Sequence<Packet>,
+    },
+    /// Each task runs once in flat order.
+    Round,
+    /// A device takes one packet.
+    Transmit {
+        device: Sequence<u8>,
     },
 }
 
@@ -28,6 +45,14 @@ pub enum Reply {
     /// What was read.
     Value(Sequence<u8>),
     Refused(Refusal),
+    /// How many packets entered.
+    Entered(u64),
+    /// How many packets the tasks gave or pulled.
+    Worked(u64),
+    /// The packet that the device took, if there was one.
+    Sent(Option<Packet>),
+    /// No element is where the device gives or takes packets.
+    NoDevice,
 }
 
 /// Why a call was not answered. It has changed nothing.

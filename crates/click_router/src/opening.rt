@@ -5,43 +5,42 @@ ghost use Rattle.click_text.specs.Spelling.{longest_text};
 ghost use Rattle.click_router.specs.State.{RouterState};
 ghost use Rattle.click_text.specs.Spelling.{Spells};
 ghost use Rattle.click_expand.specs.Flat.{AreDistinct};
-ghost use Rattle.click_ports.specs.Net.{names_of, net_of};
+ghost use Rattle.click_ports.specs.Net.{names_of};
 ghost use Rattle.click_router.specs.Opened as spec;
-ghost use Rattle.click_router.specs.Opened.{IsBegun, IsKnown, AreKnown, AreFresh, IsLawful, OpensAs, IsOpened, IsFirstFault, IsGiven, IsMemoryOr};
+ghost use Rattle.click_router.specs.Opened.{IsBegun, IsKnown, AreKnown, AreFresh, Begins, OpensAs, IsOpened, IsFirstFault, IsGiven, IsMemoryOr};
 ghost use Rattle.click_router.specs.kept.Refused.{IsUnfit, IsUnlawful, IsConfigFault};
 
 use crate::fault::{ConfigFault, FaultKind, FaultPlace};
 use click_classes::{ArgFault, State, class_of, make};
+use click_engine::Plant;
 use click_expand::{ExpandFault, FaultKind as ExpandKind, Flat, FlatElement, Names, flatten};
-use click_ports::{FaultKind as PortKind, Net, PortFault, resolve};
+use click_ports::{FaultKind as PortKind, PortFault, resolve};
 use click_text::sequence::Sequence;
 use click_text::syntax::{Config, FaultKind as TextKind, Span, TextFault};
 use click_text::{LONGEST_TEXT, parse};
 use std::alloc::{AllocError, Global};
 use std::marker::Model;
 
-/// A lawful configuration with its elements' first states.
+/// A lawful configuration with the plant of its elements.
 #[derive(Drop)]
 pub struct Prepared {
     pub(crate) text: Sequence<u8>,
     pub(crate) flat: Flat,
-    pub(crate) states: Sequence<State>,
-    /// The net of the flat form and the states.
-    pub(crate) net: Net,
+    pub(crate) plant: Plant,
     /// The elements' names in their order, to look one up.
     pub(crate) names: Names,
 }
 
 impl Model for Prepared {
-    ghost use Rattle.std.specs.Prelude.{◌≡◌, length};
-    ghost use Rattle.click_ports.specs.Net.{names_of, net_of};
+    ghost use Rattle.std.specs.Prelude.{◌≡◌};
+    ghost use Rattle.click_ports.specs.Net.{names_of};
     ghost use Rattle.click_router.specs.State.{RouterState};
 
     ghost Value = { RouterState };
 
-    ghost view = { λ p. record { text = p.text; flat = p.flat; states = p.states } };
+    ghost view = { λ p. record { text = p.text; flat = p.flat; plant = p.plant } };
 
-    ghost invariant = { λ p. (p.names ≡ names_of p.flat.elements) × (length p.states ≡ length p.flat.elements) × (p.net ≡ net_of p.flat p.states) };
+    ghost invariant = { λ p. p.names ≡ names_of p.flat.elements };
 }
 
 /// The line of the place: one more than the LF bytes before it.
@@ -296,8 +295,7 @@ fn prepare_flat(alloc: Global, text: Sequence<u8>, flat: Flat) -> Result<Prepare
     requires known { AreKnown flat.elements }
     requires distinct { AreDistinct (names_of flat.elements) }
     ensures is { IfOk result (λ p. (p.text ≡ text) × (p.flat ≡ flat)) }
-    ensures fresh { IfOk result (λ p. AreFresh flat.elements p.states) }
-    ensures lawful { IfOk result (λ p. IsLawful flat p.states) }
+    ensures begins { IfOk result (λ p. Begins flat p.plant) }
     ensures err { IfErr result (λ f. IsMemoryOr f (IsUnfit flat.elements f ⊎ IsUnlawful flat f)) }
 {
     let states = states_of(alloc, flat.elements.as_slice())?;
@@ -305,11 +303,11 @@ fn prepare_flat(alloc: Global, text: Sequence<u8>, flat: Flat) -> Result<Prepare
         Err(fault) => Err(of_ports(alloc, flat.elements.as_slice(), fault)?),
         Ok(net) => {
             let names = names_from(alloc, flat.elements.as_slice())?;
+            let plant = Plant::new(alloc, net, states)?;
             Ok(Prepared {
                 text,
                 flat,
-                states: Sequence::of(states),
-                net,
+                plant,
                 names,
             })
         }
@@ -320,7 +318,7 @@ fn prepare_flat(alloc: Global, text: Sequence<u8>, flat: Flat) -> Result<Prepare
 fn prepare_config(alloc: Global, config: Config) -> Result<Prepared, ConfigFault>
     requires within { length config.text ≤ longest_text }
     requires spelled { Spells config.text config }
-    ensures opened { IfOk result (λ p. OpensAs config p.flat p.states × (p.text ≡ config.text)) }
+    ensures opened { IfOk result (λ p. OpensAs config p.flat p.plant × (p.text ≡ config.text)) }
     ensures err { IfErr result (λ f. IsMemoryOr f (IsConfigFault config f)) }
 {
     match flatten(alloc, &config) {

@@ -21,7 +21,9 @@ impl Port for OneCounter {
     ghost asks = { λ _ _ _ _. Unit {0} };
 
     fn ask(&mut self, alloc: Global, call: Call) -> Result<Reply, AskFault> {
-        let Call::Read { name, text: _ } = call;
+        let Call::Read { name, text: _ } = call else {
+            return Ok(Reply::NoDevice);
+        };
         let name = name.as_slice();
         if name == b"c.count".as_slice() {
             match Vec::from_slice(alloc, b"0") {

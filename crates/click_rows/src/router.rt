@@ -156,6 +156,9 @@ fn read(alloc: Global, router: &mut Router, name: &str) -> Result<Vec<u8>, Fail>
         Reply::Value(value) => Vec::from_slice(alloc, value.as_slice())?,
         Reply::Refused(Refusal::NoElement) => Vec::from_slice(alloc, b"no element")?,
         Reply::Refused(Refusal::NoHandler) => Vec::from_slice(alloc, b"no handler")?,
+        Reply::Entered(_) | Reply::Worked(_) | Reply::Sent(_) | Reply::NoDevice => {
+            Vec::from_slice(alloc, b"another reply")?
+        }
     };
     Ok(line)
 }

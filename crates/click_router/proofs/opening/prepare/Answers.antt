@@ -16,7 +16,7 @@ returns-in-Ok-clause-only c = λ s o.
     let config = c.in-Ok.config in
     let same = c.in-Ok.ensures.only o.config o.within o.spells in
     given c.args.text.now config c.in-Ok.ensures.found c.prepare_config.result s c.prepare_config.ensures.opened c.prepare_config.ensures.err
-    (subst (λ (x : Config). OpensAs x s.flat s.states) (sym same) o.opens) (o.copy ∙ sym c.in-Ok.ensures.found.copy)
+    (subst (λ (x : Config). OpensAs x s.flat s.plant) (sym same) o.opens) (o.copy ∙ sym c.in-Ok.ensures.found.copy)
 
 pub returns-in-Ok-clause-err : goal.returns-in-Ok-clause-err
 returns-in-Ok-clause-err c =
