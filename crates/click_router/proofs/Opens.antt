@@ -18,7 +18,7 @@ use Rattle.click_router.specs.State.{RouterState}
 use Rattle.click_router.specs.Opened.{AreFresh, IsLawful, Begins, OpensAs, IsOpened, of_expand, IsFirstFault, not_flat, unfit, unlawful, IsMemoryOr, IsGiven}
 use Rattle.click_router.specs.kept.Refused.{IsConfigFault}
 use Rattle.click_router.proofs.Begun.{same_states, refused_state}
-use Rattle.click_router.proofs.Started.{started_once}
+use Rattle.click_engine.proofs.Beginnings.{one_beginning}
 
 router : List ℕ → Flat → Plant → RouterState
 router text flat plant = record { text = text; flat = flat; plant = plant }
@@ -29,7 +29,7 @@ begins_same f g p q same h k =
     let fresh = subst (λ (x : Flat). AreFresh x.elements h.states) same h.fresh in
     let states = same_states g.elements h.states k.states fresh k.fresh in
     let started = subst (λ x. IsStarted (net_of x h.states) h.states p) same h.started in
-    started_once (net_of g k.states) k.states p q (subst (λ x. IsStarted (net_of g x) x p) states started) k.started
+    one_beginning (net_of g k.states) k.states p q (subst (λ x. IsStarted (net_of g x) x p) states started) k.started
 
 module _ (text : List ℕ) (config : Config) (spells : Spells text config) where
   pub same_flat : (f g : Flat) → IsFlat config f → IsFlat config g → f ≡ g
