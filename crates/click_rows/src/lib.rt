@@ -14,6 +14,8 @@ mod expand;
 #[cfg(test)]
 mod packet;
 #[cfg(test)]
+mod packets;
+#[cfg(test)]
 mod ports;
 #[cfg(test)]
 mod router;
