@@ -54,7 +54,7 @@ all_fixed (e ∷ es) (f ∷ fs) n h =
     ap (λ x. x ∷ map fixed fs) (h zero) ∙ ap (λ xs. fixed e ∷ xs) (all_fixed es fs (omega (arith, n)) (λ at. h (suc at)))
 
 settings_of : (v w : Plant) → PlantKept SameFixed v w → KeepsSettings v w
-settings_of v w h = record { net = h.net; elements = all_fixed v.elements w.elements h.elements.count h.elements.each }
+settings_of v w h = record { rest = h.rest; elements = all_fixed v.elements w.elements h.elements.count h.elements.each }
 
 pub arrive-settings : (v : Plant) (device : List ℕ) (p : Packet) → KeepsSettings v (arrive v device p)
 arrive-settings v device p = settings_of v _ (arrive-kept Anywhere SameFixed fixed-relates v (whole (wiring v)) device p (λ at e. tt))
@@ -120,7 +120,7 @@ reach-relates P = record {
 }
 
 outside_of : (P : ℕ → Type 0) (v w : Plant) → PlantKept (UnlessReached P) v w → KeepsOutside P v w
-outside_of P v w h = record { net = h.net; count = h.elements.count; others = h.elements.each }
+outside_of P v w h = record { rest = h.rest; count = h.elements.count; others = h.elements.each }
 
 module _ (P : ℕ → Type 0) (v : Plant) (closed : IsClosed (wiring v) P) where
   pub arrive-outside : (device : List ℕ) (p : Packet) → ((at : ℕ) → source_of v device ≡ Some at → P at) → KeepsOutside P v (arrive v device p)

@@ -1,5 +1,5 @@
 -- The same over runs, tasks and rounds.
-use Rattle.std.proofs.Common.{◌≡◌, ℕ, zero, suc, ◌+◌, refl, sym, ◌∙◌, subst, List, [], ◌∷◌, slice_get, Option, Some, None}
+use Rattle.std.proofs.Common.{◌≡◌, ℕ, zero, suc, ◌+◌, refl, sym, ap, ◌∙◌, subst, List, [], ◌∷◌, slice_get, Option, Some, None}
 use Rattle.click_packet.specs.Packet.{Packet}
 use Rattle.click_classes.specs.Acts.{Stored, burst_of, emission}
 use Rattle.click_classes.specs.declared.class.Class.{Class}
@@ -7,7 +7,7 @@ use Rattle.click_classes.specs.declared.class.Class.TheVariants as class
 use Rattle.click_ports.specs.Net.{Net}
 use Rattle.click_ports.specs.declared.shape.Shape.{Shape}
 use Rattle.click_engine.specs.declared.world.Element.{Element}
-use Rattle.click_engine.specs.Keeps.{AllAre, IsClosed}
+use Rattle.click_engine.specs.Keeps.{AllAre, IsClosed, KeepsRest}
 use Rattle.click_engine.specs.Plant.{Plant, most_crossings, wiring, begin, end}
 use Rattle.click_engine.specs.Rounds.{source_of, sink_of, state_at, emitted, asks, arrive, transmit, Worked, idle, unqueued, discarded, sourced, bursts, task_of, task, tasks, round}
 use Rattle.click_engine.specs.Run.{push}
@@ -16,9 +16,9 @@ use Rattle.click_engine.specs.World.{World, element_at, with_state}
 use Rattle.click_engine.proofs.Reached.{Relates, Kept, kept-same, kept-on, kept-set, push-kept, pull-kept}
 use Rattle.click_engine.proofs.Rounds.{bursts-zero, burst-next, burst_by, tasks-none, tasks-next}
 
--- the same net, and as many elements, each related to what it was
+-- nothing changed but elements and overruns, and there are as many elements, each related to what it was
 pub record PlantKept (R : ℕ → Element → Element → Type 0) (old new : Plant) : Type 0 where
-  pub net : new.net ≡ old.net
+  pub rest : KeepsRest old new
   pub elements : Kept R old.elements new.elements
 
 -- what a task makes of what its pull left
@@ -36,14 +36,17 @@ task_by v at o = elim o [ None ↦ idle v | Some shape ↦ task_of shape.class v
 
 module _ (P : ℕ → Type 0) (R : ℕ → Element → Element → Type 0) (r : Relates P R) where
   plant-same : (v : Plant) → PlantKept R v v
-  plant-same v = record { net = refl; elements = kept-same P R r v.elements }
+  plant-same v = record { rest = refl; elements = kept-same P R r v.elements }
 
   plant-on : (u v w : Plant) → PlantKept R u v → PlantKept R v w → PlantKept R u w
-  plant-on u v w h k = record { net = k.net ∙ h.net; elements = kept-on P R r u.elements v.elements w.elements h.elements k.elements }
+  plant-on u v w h k = record {
+    rest = k.rest ∙ ap (λ (x : Plant). record x { elements = w.elements; overruns = w.overruns }) h.rest;
+    elements = kept-on P R r u.elements v.elements w.elements h.elements k.elements;
+  }
 
   module _ (v : Plant) (closed : IsClosed (wiring v) P) where
     ended : (w : World) → Kept R v.elements w.elements → PlantKept R v (end v w)
-    ended w h = record { net = refl; elements = h }
+    ended w h = record { rest = refl; elements = h }
 
     emitted-kept : (at : ℕ) (p : Packet) → P at → PlantKept R v (emitted v at p)
     emitted-kept at p h =
@@ -120,7 +123,7 @@ module _ (P : ℕ → Type 0) (R : ℕ → Element → Element → Type 0) (r : 
     tasks-kept [] v e h = rw (tasks-none [] v refl) (plant-same v)
     tasks-kept (at ∷ places) v e h =
         let done = task-kept v at e h.0 in
-        let rest = tasks-kept places (task v at).plant (done.net ∙ e) h.1 in
+        let rest = tasks-kept places (task v at).plant (ap (λ (x : Plant). x.net) done.rest ∙ e) h.1 in
         rw (tasks-next (at ∷ places) places at v refl) (plant-on v (task v at).plant _ done rest)
 
   pub task-within : (v : Plant) → IsClosed (wiring v) P → (at : ℕ) → P at → PlantKept R v (task v at).plant

@@ -12,9 +12,13 @@ use Rattle.click_engine.specs.World.{Wiring, blank}
 abbrev pub fixed : Element → Element
 fixed e = record e { state = settings e.state }
 
+-- nothing has changed but elements and overruns
+abbrev pub KeepsRest : Plant → Plant → Type 0
+KeepsRest old new = new ≡ record old { elements = new.elements; overruns = new.overruns }
+
 -- no element has changed but in what packets change of its state
 pub record KeepsSettings (old new : Plant) : Type 0 where
-  pub net : new.net ≡ old.net
+  pub rest : KeepsRest old new
   pub elements : map fixed new.elements ≡ map fixed old.elements
 
 -- no queue holds more than it has room for
@@ -32,7 +36,7 @@ pub record IsClosed (net : Wiring) (P : ℕ → Type 0) : Type 0 where
 
 -- each element outside those places is as it was
 pub record KeepsOutside (P : ℕ → Type 0) (old new : Plant) : Type 0 where
-  pub net : new.net ≡ old.net
+  pub rest : KeepsRest old new
   pub count : length new.elements ≡ length old.elements
   pub others : (at : ℕ) → (P at → ⊥) → slice_index_or new.elements at blank ≡ slice_index_or old.elements at blank
 
