@@ -43,6 +43,9 @@ pub fn net_of(alloc: Global, text: &[u8]) -> Option<(Net, Vec<State>)>
     let flat = flatten(alloc, &config).ok()?;
     let states = states_of(alloc, flat.elements.as_slice()).ok()?;
     let net = resolve(alloc, &flat, states.as_slice()).ok()?;
+    if states.len() != net.shapes().len() {
+        return None;
+    }
     Some((net, states))
 }
 
