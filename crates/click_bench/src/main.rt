@@ -4,9 +4,11 @@
 //! - `KIND SIZE` parses a text of that kind and size in bytes: its kind, its size, how many statements and bodies it has;
 //! - `input` parses what stands on standard input, `flat` expands it too, and `router` prepares a router from it;
 //! - `lookup COUNT`, `classifier COUNT` make an element of that many arguments;
+//! - `engine CASE COUNT` drives a plant that many times (bench/engine);
 //! - `make CLASS` makes an element of the class with the configuration string on standard input.
 #![tactic(auto)]
 
+mod engine;
 mod expanding;
 mod making;
 mod preparing;
@@ -140,6 +142,11 @@ fn run(rt: &HostRuntime) -> io::Result<()> {
         }
         if let Ok(size) = size.parse::<usize>() {
             return sized(rt, kind.as_str(), size);
+        }
+    }
+    if let [_, word, case, count] = words.as_slice() {
+        if word.as_str() == "engine" {
+            return engine::run(rt, case.as_str(), count.parse::<usize>().unwrap_or(0));
         }
     }
     for kind in KINDS {
