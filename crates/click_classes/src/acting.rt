@@ -5,7 +5,7 @@ ghost use Rattle.click_classes.specs.Acts.{after, range, side_output, pushed_to,
 
 use crate::classes::address::take_address;
 use crate::classes::classifier::classify;
-use crate::classes::encap::{encapsulate, header_of};
+use crate::classes::encap::put_header;
 use crate::classes::header::{age, header_fate};
 use crate::classes::length::length_fate;
 use crate::classes::lookup::route;
@@ -68,6 +68,7 @@ fn side_output(outputs: u16) -> PortRange
 }
 
 /// The outputs that get a packet that was pushed.
+#[inline(always)]
 fn pushed_to(outputs: u16, fate: Fate) -> PortRange
     ensures { result ≡ pushed_to outputs fate }
 {
@@ -117,6 +118,7 @@ fn is_active(active: &[bool; 16], port: u16) -> bool
 impl State {
     /// A packet passes from one input to one output or two.
     #[tactic(auto, unfolding(crate::specs::Acts::pass))]
+    #[inline(always)]
     fn pass(&mut self, packet: &mut Packet) -> Fate
         ensures { pass self.old packet.old ≡ passed self.new packet.new result }
     {
@@ -142,7 +144,7 @@ impl State {
             }
             State::CheckIPHeader { refused } => header_fate(refused, packet),
             State::DecIPTTL => age(packet),
-            State::EtherEncap { .. } => encapsulate(&header_of(self), packet),
+            State::EtherEncap { .. } => put_header(self, packet),
             State::Queue { .. }
             | State::FrontDropQueue { .. }
             | State::Unqueue
@@ -166,6 +168,7 @@ impl State {
 
     /// A packet is pushed into an input of an element with so many outputs: the outputs that get it, in order.
     #[tactic(auto, unfolding(crate::specs::Acts::act))]
+    #[inline(always)]
     pub fn act(&mut self, outputs: u16, input: u16, packet: &mut Packet) -> PortRange
         ensures { act outputs self.old input packet.old ≡ record { state = self.new; packet = packet.new; outputs = result } }
     {

@@ -64,6 +64,7 @@ fn first_match(patterns: &[Pattern], bytes: &[u8]) -> Option<usize>
 }
 
 /// The output of the first pattern that a packet matches, of 256 at most.
+#[inline(never)]
 pub fn classify(patterns: &Sequence<Pattern>, packet: &Packet) -> Option<usize>
     ensures output { result ≡ classified patterns.now packet.now.bytes }
     ensures bound { IfSome result (λ output. output < 256) }

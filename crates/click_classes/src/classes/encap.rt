@@ -77,3 +77,11 @@ pub fn encapsulate(header: &[u8], packet: &mut Packet) -> Fate
         Err(_) => Fate::Dropped,
     }
 }
+
+/// Puts the header of an EtherEncap before a packet.
+#[inline(never)]
+pub fn put_header(encap: &State, packet: &mut Packet) -> Fate
+    ensures { (state : State) → encapsulated state (header_of encap.now) packet.old ≡ passed state packet.new result }
+{
+    encapsulate(&header_of(encap), packet)
+}

@@ -10,7 +10,7 @@ use crate::arguments::Arguments;
 use crate::fault::ArgFault;
 use crate::state::State;
 use crate::values::entry::{Entry, read_table};
-use crate::values::prefix::{Prefix, cleared};
+use crate::values::prefix::{Prefix, first_bits};
 use click_text::sequence::Sequence;
 use std::alloc::Global;
 
@@ -37,10 +37,17 @@ pub fn make_static_ip_lookup(alloc: Global, arguments: &Arguments) -> Result<Sta
 }
 
 /// The address has the prefix.
+#[tactic(auto, unfolding(crate::specs::Values::cleared))]
 fn covers(prefix: Prefix, address: [u8; 4]) -> bool
     ensures { result ≡ covers prefix address }
 {
-    cleared(prefix.len, address) == prefix.network
+    // Most entries differ in a byte that their prefixes have whole: that is tested first.
+    let len = prefix.len;
+    let network = prefix.network;
+    first_bits(len, address[0]) == network[0]
+        && first_bits(len.saturating_sub(8), address[1]) == network[1]
+        && first_bits(len.saturating_sub(16), address[2]) == network[2]
+        && first_bits(len.saturating_sub(24), address[3]) == network[3]
 }
 
 /// The entry with the longest prefix that the address has.

@@ -84,6 +84,7 @@ pub fn make_front_drop_queue(alloc: Global, arguments: &Arguments) -> Result<Sta
 }
 
 /// Stores a packet last; a full queue drops it.
+#[inline(never)]
 pub fn store(list: &mut PacketList, drops: &mut u64, highest: &mut usize, packet: &Packet)
     ensures { queued list.old drops.old highest.old packet.now
         ≡ record { state = State.Queue list.new drops.new highest.new; packet = packet.now; outputs = record { first = 0; count = 0 } } }
@@ -97,6 +98,7 @@ pub fn store(list: &mut PacketList, drops: &mut u64, highest: &mut usize, packet
 }
 
 /// Stores a packet last; a full queue drops its first packet for it.
+#[inline(never)]
 pub fn store_for_the_first(
     list: &mut PacketList,
     drops: &mut u64,
