@@ -1,7 +1,7 @@
 //! Packets and bytes in hex digits.
 
 ghost use Rattle.std.specs.Prelude.{◌≡◌, IfOk, MatchResult};
-ghost use Rattle.click_calls.specs.Digits.{IsPacketOf, IsNoPacket, hex_text};
+ghost use Rattle.click_calls.specs.Digits.{IsHex, IsPacketOf, IsNoPacket, hex_text};
 
 use click_packet::Packet;
 use hex::FromHexError;
@@ -25,7 +25,9 @@ pub enum HexFault {
 
 /// The digits of bytes, two a byte in lower case; `-` where there are none.
 pub fn hex_text(alloc: Global, bytes: &[u8]) -> Result<Vec<u8>, AllocError>
-    ensures { IfOk result (λ text. text.items ≡ hex_text bytes.now) }
+    ensures text { IfOk result (λ text. text.items ≡ hex_text bytes.now) }
+    // They are read as these bytes again.
+    ensures back { IfOk result (λ text. IsHex text.items bytes.now) }
 {
     if bytes.is_empty() {
         return Vec::from_slice(alloc, b"-");
