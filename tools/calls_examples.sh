@@ -1,6 +1,7 @@
 #!/usr/bin/env bash
-# The examples of examples/calls and of docs/CALLS.md, through the program crates/click_calls/out/click_calls, which must have been built: over the configuration of NAME.click
-# the calls of NAME.calls are answered as NAME.out says. A line of wrong_lines.txt is what is wrong and, after a tab, a line that has it.
+# The examples of examples/calls and of docs/CALLS.md, through the program crates/click_calls/out/click_calls, which must have been built: over the
+# configuration of NAME.click the calls of NAME.calls are answered as NAME.out says. A line of wrong_lines.txt is what is wrong and, after a tab, a
+# line that has it.
 #
 #   tools/calls_examples.sh [PAGE]
 set -eu
