@@ -18,5 +18,6 @@ examples/run.sh
 tools/language_examples.sh
 tools/fault_examples.sh
 tools/element_pages.sh
+tools/calls_examples.sh
 tools/refuse.sh
 tools/wrong_programs.sh

@@ -6,6 +6,7 @@ top=$(dirname "$(dirname "$(readlink -f "${BASH_SOURCE[0]}")")")
 # The programs that are checked. tools/wrong_programs.sh has the scripts check others.
 program=${PROGRAM:-$top/crates/click_prog/out/click_prog}
 bench=${BENCH:-$top/crates/click_bench/out/click_bench}
+calls=${CALLS:-$top/crates/click_calls/out/click_calls}
 work=$(mktemp -d)
 trap 'rm -rf "$work"' EXIT
 

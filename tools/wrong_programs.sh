@@ -4,7 +4,7 @@
 # so that it is the change that is refused. The programs must have been built.
 set -eu
 . "$(dirname "$(readlink -f "$0")")/checking.sh"
-is_built "$program" "$bench"
+is_built "$program" "$bench" "$calls"
 cd "$top"
 refused=0
 
@@ -127,6 +127,29 @@ wrong_bench F 'an element where memory runs out' 'sed -i "s/NoMemory/made/" "$ou
 wrong_bench F 'a good end where memory runs out' 'status=0'
 wrong_bench A 'a limit that is greater' 'sed -i "s/TooLarge/prepared/" "$out"'
 wrong_bench A 'a limit that is less' 'sed -i "s/prepared/TooLarge/" "$out"'
+
+# click_calls. A program that is run to its end before anything is written answers too late, and that is seen last of all.
+wrong_calls() {
+    wrapped "$work/wrong_calls" "$calls" "$2"
+    CALLS=$work/wrong_calls is_refused "a click_calls with $1" tools/calls_examples.sh
+    if [ "$1" != 'late replies' ] && grep -q 'no reply to' "$work/err"; then fail "a click_calls with $1 is not refused for that"; fi
+}
+wrong_calls 'late replies' ''
+wrong_calls 'no answer' ': > "$out"'
+wrong_calls 'a reply left out' 'sed -i 1d "$out"'
+wrong_calls 'a reply given twice' 'sed -i 1p "$out"'
+wrong_calls 'another value' 'sed -i "s/^value 313238/value 313237/" "$out"'
+wrong_calls 'digits in upper case' 'sed -i "/^sent/y/abcdef/ABCDEF/" "$out"'
+wrong_calls 'no paint' 'sed -i "s/ 7 / 0 /" "$out"'
+wrong_calls 'another destination' 'sed -i "s/192.168.1.10/10.1.168.192/" "$out"'
+wrong_calls 'junk on standard error' 'if [ $status = 0 ]; then echo junk >> "$err"; fi'
+wrong_calls 'a reply to a line that is no call' 'if [ $status = 2 ]; then echo nodevice >> "$out"; fi'
+wrong_calls 'another number of a line' 'sed -i "s/^error 3/error 2/" "$err"'
+wrong_calls 'nothing of what is wrong' 'sed -i "s/: .*/:/" "$err"'
+wrong_calls 'a fault with a name before it' 'sed -i "s/^31 /click_calls: 31 /" "$err"'
+for from in 0 1 2 4; do
+    wrong_calls "status 3 in place of $from" "if [ \$status = $from ]; then status=3; fi"
+done
 echo "$refused times a wrong program was refused"
 
 # changed FILE CHANGE: the file with the change, a script of sed that has to change something, as $work/page.
@@ -147,6 +170,7 @@ wrong_page() {
 PROGRAM=$program wrong_page tools/readme.sh README.md '/^    \.\/run\.sh/d' 's/^    \.\/run\.sh -e/    .\/run.sh -x/' '/^which answers/d' \
     '/^    DATA 1/d' 's/^    200 Read/    201 Read/' 's/^    0200/    200/'
 wrong_page tools/control_example.sh docs/CONTROL.md '/^An example, with/d' 's/^    > QUIT/    > STOP/' 's/^    510/    511/' '/^    DATA 1/d'
+wrong_page tools/calls_examples.sh docs/CALLS.md '/^An example, with/d' 's/^    > transmit b/    > transmit a/' 's/^    value 32/    value 33/' '/^    sent none/d'
 wrong_page tools/element_pages.sh docs/ELEMENTS.md 's/^## Tee$/## Tea/' '/^## Tee$/,/^## PullTee$/d' 's/Tee(2)/Tee(3)/' 's/Packets pass\./Packets pass on./'
 wrong_page tools/fault_examples.sh docs/FAULTS.md '/^| 23 /d' 's/^| 23 BadText/| 23 BadWord/' 's/^| 23 /| 27 /' '/^| 23 /p' 's/at 1:48/at 1:49/' \
     's/17 BrokenText in P@2/17 BrokenText in P@3/' 's/Idle => Discard/Idle -> Discard/' 's/^| /- /'

@@ -1,0 +1,29 @@
+-- Packets and bytes in hex digits.
+use Rattle.std.specs.Prelude.{◌≡◌, ◌≢◌, ◌⊎◌, ◌<◌, ℕ, List, [], ◌∷◌, length, codes, Ok, Err}
+use Rattle.hex.specs.Hex.{encode_lower, decode_of}
+use Rattle.hex.specs.declared.error.FromHexError.{FromHexError}
+use Rattle.hex.specs.declared.error.FromHexError.TheVariants.{OddLength}
+use Rattle.click_packet.specs.Packet.{Packet, longest_packet}
+use Rattle.click_calls.specs.declared.digits.HexFault.{HexFault}
+use Rattle.click_calls.specs.declared.digits.HexFault.TheVariants as fault
+
+-- two digits a byte in lower case; a hyphen for no bytes
+abbrev pub hex_text : List ℕ → List ℕ
+hex_text [] = codes "-"
+hex_text (b ∷ bs) = encode_lower (b ∷ bs)
+
+-- the text is a hyphen and the bytes are none, or it is their digits, in either case
+abbrev pub IsHex : List ℕ → List ℕ → Type 0
+IsHex text bytes = ((text ≡ codes "-") × (bytes ≡ [])) ⊎ ((text ≢ []) × (decode_of text ≡ Ok bytes))
+
+-- a packet of the bytes that the text has, as it is when it enters
+abbrev pub IsPacketOf : List ℕ → Packet → Type 0
+IsPacketOf text p = IsHex text p.bytes × (p.paint ≡ 0) × (p.destination ≡ 0 ∷ 0 ∷ 0 ∷ 0 ∷ [])
+
+-- why the text is no packet
+abbrev pub IsNoPacket : List ℕ → HexFault → Type 0
+IsNoPacket text fault.NoMemory = Unit {0}
+IsNoPacket text fault.NoDigits = text ≡ []
+IsNoPacket text fault.OddDigits = decode_of text ≡ Err OddLength
+IsNoPacket text fault.NoDigit = (e : FromHexError) × (decode_of text ≡ Err e) × (e ≢ OddLength)
+IsNoPacket text fault.TooLong = (bytes : List ℕ) × (decode_of text ≡ Ok bytes) × (longest_packet < length bytes)

@@ -1,0 +1,34 @@
+-- How the program ends.
+use Rattle.std.specs.Prelude.{ℕ}
+use Rattle.std.specs.declared.io.ErrorKind.{ErrorKind}
+use Rattle.std.specs.declared.io.ErrorKind.TheVariants as io
+use Rattle.click_router.specs.declared.fault.FaultKind.{FaultKind}
+use Rattle.click_router.specs.declared.fault.FaultKind.TheVariants as kind
+use Rattle.click_calls.specs.declared.Status.{Status}
+use Rattle.click_calls.specs.declared.Status.TheVariants as status
+use Rattle.click_calls.specs.declared.answering.Stop.{Stop}
+use Rattle.click_calls.specs.declared.answering.Stop.TheVariants as stop
+
+-- the number that the program's caller sees
+abbrev pub code : Status → ℕ
+code status.Good = 0
+code status.FaultyConfiguration = 1
+code status.Wrong = 2
+code status.NoMemory = 3
+code status.DeviceFailed = 4
+
+-- by the fault of a configuration
+abbrev pub config_status : FaultKind → Status
+config_status kind.NoMemory = status.NoMemory
+config_status _ = status.FaultyConfiguration
+
+-- where the calls broke off
+abbrev pub stop_status : Stop → Status
+stop_status (stop.Line number fault) = status.Wrong
+stop_status stop.NoMemory = status.NoMemory
+stop_status stop.DeviceFailed = status.DeviceFailed
+
+-- where the words of the command line cannot be read
+abbrev pub unread_status : ErrorKind → Status
+unread_status io.OutOfMemory = status.NoMemory
+unread_status _ = status.Wrong

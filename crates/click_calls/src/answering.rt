@@ -1,0 +1,111 @@
+//! The calls of an input, answered one after another.
+
+use crate::line::{LineFault, call_of};
+use crate::reply::reply_line;
+use click_router::{Router, StepFault};
+use std::alloc::{AllocError, Global};
+use std::io::{self, BufRead, Read, Write};
+use thiserror::Error;
+
+/// How many bytes a line has at most: enough for a poll of 32 packets of 1,600 bytes.
+const LONGEST_LINE: usize = 131_072;
+
+/// Why the calls break off. Those before were answered.
+#[derive(Clone, Copy, Debug, PartialEq, Eq, Error)]
+pub enum Stop {
+    #[error("error {number}: {fault}")]
+    Line { number: u64, fault: LineFault },
+    #[error("out of memory")]
+    NoMemory,
+    #[error("a read or a write failed")]
+    DeviceFailed,
+}
+
+impl From<AllocError> for Stop {
+    fn from(_error: AllocError) -> Stop {
+        Stop::NoMemory
+    }
+}
+
+impl From<StepFault> for Stop {
+    fn from(fault: StepFault) -> Stop {
+        match fault {
+            StepFault::NoMemory => Stop::NoMemory,
+        }
+    }
+}
+
+impl From<io::Error> for Stop {
+    fn from(error: io::Error) -> Stop {
+        match error.kind() {
+            io::ErrorKind::OutOfMemory => Stop::NoMemory,
+            _ => Stop::DeviceFailed,
+        }
+    }
+}
+
+/// What a read of a line gives.
+#[derive(Clone, Copy, Debug, PartialEq, Eq)]
+enum Next {
+    Line,
+    TooLong,
+    End,
+}
+
+/// Answers the calls of the input until it ends. Each reply is written before the next line is read.
+pub fn answer_all<R: BufRead, W: Write>(
+    alloc: Global,
+    input: &mut R,
+    output: &mut W,
+    router: &mut Router,
+) -> Result<(), Stop> {
+    let mut line = Vec::new(alloc);
+    for before in 0..u64::MAX {
+        let number = before + 1;
+        match next_line(input, &mut line)? {
+            Next::End => return Ok(()),
+            Next::TooLong => {
+                let fault = LineFault::TooLong;
+                return Err(Stop::Line { number, fault });
+            }
+            Next::Line => answer(alloc, number, &line, output, router)?,
+        }
+    }
+    // No input has that many lines.
+    Err(Stop::DeviceFailed)
+}
+
+/// Reads a line, without its end.
+fn next_line<R: BufRead>(input: &mut R, line: &mut Vec<u8>) -> io::Result<Next> {
+    line.clear();
+    let most = LONGEST_LINE as u64 + 1;
+    if input.by_ref().take(most).read_until(b'\n', line)? == 0 {
+        return Ok(Next::End);
+    }
+    if line.as_slice().ends_with(b"\n") {
+        let _end = line.pop();
+        return Ok(Next::Line);
+    }
+    if line.len() > LONGEST_LINE {
+        return Ok(Next::TooLong);
+    }
+    Ok(Next::Line)
+}
+
+/// Answers the call of a line.
+fn answer<W: Write>(
+    alloc: Global,
+    number: u64,
+    line: &[u8],
+    output: &mut W,
+    router: &mut Router,
+) -> Result<(), Stop> {
+    let call = match call_of(alloc, line) {
+        Ok(call) => call,
+        Err(LineFault::NoMemory) => return Err(Stop::NoMemory),
+        Err(fault) => return Err(Stop::Line { number, fault }),
+    };
+    let reply = router.step(alloc, &call)?;
+    output.write_all(&reply_line(alloc, &reply)?)?;
+    Ok(output.flush()?)
+}

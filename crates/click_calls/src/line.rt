@@ -1,0 +1,146 @@
+//! Lines, and the calls that they are.
+
+use crate::digits::{HexFault, packet_of};
+use click_packet::Packet;
+use click_router::Call;
+use click_text::sequence::Sequence;
+use memchr::memchr;
+use std::alloc::{AllocError, Global};
+use thiserror::Error;
+
+/// Why a line is no call.
+#[derive(Clone, Copy, Debug, PartialEq, Eq, Error)]
+pub enum LineFault {
+    #[error("out of memory")]
+    NoMemory,
+    #[error("the line has more than 131072 bytes")]
+    TooLong,
+    #[error("its first word is no call's")]
+    UnknownCall,
+    #[error("this version does not carry out that call")]
+    NotCarriedOut,
+    #[error("a field is missing")]
+    MissingField,
+    #[error("a field is empty: single spaces stand between fields")]
+    EmptyField,
+    #[error("it has more fields than its call")]
+    TooManyFields,
+    #[error("{0}")]
+    Packet(HexFault),
+}
+
+impl From<AllocError> for LineFault {
+    fn from(_error: AllocError) -> LineFault {
+        LineFault::NoMemory
+    }
+}
+
+impl From<HexFault> for LineFault {
+    fn from(fault: HexFault) -> LineFault {
+        match fault {
+            HexFault::NoMemory => LineFault::NoMemory,
+            _ => LineFault::Packet(fault),
+        }
+    }
+}
+
+/// The call of a line, which has no line end.
+pub fn call_of(alloc: Global, line: &[u8]) -> Result<Call, LineFault> {
+    let (word, rest) = cut(line);
+    match word {
+        b"arrive" => arrive_of(alloc, rest),
+        b"poll" => poll_of(alloc, rest),
+        b"round" => {
+            ended(rest)?;
+            Ok(Call::Round)
+        }
+        b"transmit" => {
+            let (device, rest) = field(rest)?;
+            ended(rest)?;
+            Ok(Call::Transmit {
+                device: kept(alloc, device)?,
+            })
+        }
+        b"read" => read_of(alloc, rest),
+        b"write" | b"checkread" | b"checkwrite" | b"swap" => Err(LineFault::NotCarriedOut),
+        _ => Err(LineFault::UnknownCall),
+    }
+}
+
+/// What stands before the first space, and what stands behind it, if there is one.
+fn cut(line: &[u8]) -> (&[u8], Option<&[u8]>) {
+    match memchr(b' ', line) {
+        None => (line, None),
+        Some(space) => (&line[..space], Some(&line[space + 1..])),
+    }
+}
+
+/// The next field, and what stands behind it.
+fn field(rest: Option<&[u8]>) -> Result<(&[u8], Option<&[u8]>), LineFault> {
+    let Some(rest) = rest else {
+        return Err(LineFault::MissingField);
+    };
+    let (field, rest) = cut(rest);
+    if field.is_empty() {
+        return Err(LineFault::EmptyField);
+    }
+    Ok((field, rest))
+}
+
+/// That no field is left.
+fn ended(rest: Option<&[u8]>) -> Result<(), LineFault> {
+    match rest {
+        None => Ok(()),
+        Some(_) => Err(LineFault::TooManyFields),
+    }
+}
+
+fn kept(alloc: Global, bytes: &[u8]) -> Result<Sequence<u8>, AllocError> {
+    Ok(Sequence::of(Vec::from_slice(alloc, bytes)?))
+}
+
+/// `arrive` with its device and its packet.
+fn arrive_of(alloc: Global, rest: Option<&[u8]>) -> Result<Call, LineFault> {
+    let (device, rest) = field(rest)?;
+    let (digits, rest) = field(rest)?;
+    ended(rest)?;
+    Ok(Call::Arrive {
+        device: kept(alloc, device)?,
+        packet: packet_of(alloc, digits)?,
+    })
+}
+
+/// `poll` with its device and its packets, which may be none.
+fn poll_of(alloc: Global, rest: Option<&[u8]>) -> Result<Call, LineFault> {
+    let (device, rest) = field(rest)?;
+    let taken = match rest {
+        None | Some([]) => Sequence::new(alloc),
+        Some(_) => {
+            let (list, rest) = field(rest)?;
+            ended(rest)?;
+            packets_of(alloc, list)?
+        }
+    };
+    Ok(Call::Poll {
+        device: kept(alloc, device)?,
+        taken,
+    })
+}
+
+/// Packets with commas between them.
+fn packets_of(alloc: Global, list: &[u8]) -> Result<Sequence<Packet>, LineFault> {
+    let mut packets = Sequence::new(alloc);
+    for digits in list.split(|byte| *byte == b',') {
+        packets.push(packet_of(alloc, digits)?)?;
+    }
+    Ok(packets)
+}
+
+/// `read` with its handler and its text, which is the rest of the line.
+fn read_of(alloc: Global, rest: Option<&[u8]>) -> Result<Call, LineFault> {
+    let (name, text) = field(rest)?;
+    Ok(Call::Read {
+        name: kept(alloc, name)?,
+        text: kept(alloc, text.unwrap_or(b""))?,
+    })
+}

@@ -1,0 +1,1 @@
+FromDevice(a) -> c :: Counter -> Discard;

@@ -1,0 +1,1 @@
+FromDevice(a) -> GetIPAddress(0) -> Queue -> ToDevice(b);

@@ -1,0 +1,1 @@
+FromDevice(a) -> t :: Null -> c :: Counter -> t;

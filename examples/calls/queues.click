@@ -1,0 +1,1 @@
+FromDevice(a) -> q :: Queue(2) -> ToDevice(b); FromDevice(c) -> f :: FrontDropQueue(2) -> ToDevice(d);

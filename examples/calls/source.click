@@ -1,0 +1,1 @@
+InfiniteSource("ab", 5, 2) -> c :: Counter -> Discard;
