@@ -13,6 +13,7 @@ fi
 write_stamp "$sources"
 tools/front_door.sh
 tools/readme.sh
+tools/tries.sh
 tools/control_example.sh
 examples/run.sh
 tools/language_examples.sh

@@ -169,6 +169,7 @@ wrong_page() {
 }
 PROGRAM=$program wrong_page tools/readme.sh README.md '/^    \.\/run\.sh/d' 's/^    \.\/run\.sh -e/    .\/run.sh -x/' '/^which answers/d' \
     '/^    DATA 1/d' 's/^    200 Read/    201 Read/' 's/^    0200/    200/'
+wrong_page tools/tries.sh README.md '/^    rt try/d' '/^    cd crates/d' 's/^    cd crates\/click_prog/    cd crates\/click_text/'
 wrong_page tools/control_example.sh docs/CONTROL.md '/^An example, with/d' 's/^    > QUIT/    > STOP/' 's/^    510/    511/' '/^    DATA 1/d'
 wrong_page tools/calls_examples.sh docs/CALLS.md '/^An example, with/d' 's/^    > transmit b/    > transmit a/' 's/^    value 32/    value 33/' '/^    sent none/d'
 wrong_page tools/element_pages.sh docs/ELEMENTS.md 's/^## Tee$/## Tea/' '/^## Tee$/,/^## PullTee$/d' 's/Tee(2)/Tee(3)/' 's/Packets pass\./Packets pass on./'
