@@ -14,8 +14,6 @@ mod expand;
 #[cfg(test)]
 mod packet;
 #[cfg(test)]
-mod packets;
-#[cfg(test)]
 mod ports;
 #[cfg(test)]
 mod router;
