@@ -45,6 +45,7 @@ pub struct Outcome {
 }
 
 const NONE: PortRange = PortRange { first: 0, count: 0 };
+const OUTPUT_0: PortRange = PortRange { first: 0, count: 1 };
 
 /// The port after this one, round.
 pub fn after(ports: u16, port: u16) -> u16
@@ -73,7 +74,7 @@ fn pushed_to(outputs: u16, fate: Fate) -> PortRange
     ensures { result ≡ pushed_to outputs fate }
 {
     match fate {
-        Fate::Onward => PortRange { first: 0, count: 1 },
+        Fate::Onward => OUTPUT_0,
         Fate::Copied => PortRange {
             first: 0,
             count: if 1 < outputs { 2 } else { 1 },
@@ -167,12 +168,22 @@ impl State {
     }
 
     /// A packet is pushed into an input of an element with so many outputs: the outputs that get it, in order.
-    #[tactic(auto, unfolding(crate::specs::Acts::act))]
+    #[tactic(auto, unfolding(crate::specs::Acts::act, crate::specs::Acts::pass))]
     #[inline(always)]
     pub fn act(&mut self, outputs: u16, input: u16, packet: &mut Packet) -> PortRange
         ensures { act outputs self.old input packet.old ≡ record { state = self.new; packet = packet.new; outputs = result } }
     {
         match self {
+            // These do so little that a second match, in `pass`, would cost as much again.
+            State::Null | State::PushNull | State::PullNull => OUTPUT_0,
+            State::Paint { colour } => {
+                packet.set_paint(*colour);
+                OUTPUT_0
+            }
+            State::Counter { count, byte_count } => {
+                count_packet(count, byte_count, packet);
+                OUTPUT_0
+            }
             State::Queue {
                 list,
                 drops,
@@ -235,17 +246,12 @@ impl State {
                 None => NONE,
             },
             State::Unqueue
-            | State::Counter { .. }
             | State::PullSwitch { .. }
             | State::RoundRobinSched { .. }
             | State::PrioSched
             | State::PullTee { .. }
             | State::Idle
             | State::Discard
-            | State::Null
-            | State::PushNull
-            | State::PullNull
-            | State::Paint { .. }
             | State::PaintTee { .. }
             | State::Strip { .. }
             | State::CheckLength { .. }

@@ -8,7 +8,6 @@ use Rattle.click_engine.specs.declared.world.Port.{Port}
 use Rattle.click_engine.specs.World.{Wiring, World, element_at, with_state, tries_at, spent, overrun, Acts}
 use Rattle.click_engine.specs.Run.{push, sent, Pulled, nothing, Answers}
 use Rattle.click_engine.specs.kept.Hops.{Pushed, Reached}
-use Rattle.click_engine.specs.declared.machine.Sender.{Sender}
 use Rattle.click_engine.specs.declared.hops.Reply.{Reply}
 use Rattle.click_engine.proofs.Steps.{push-none, push-unconnected, push-made, pull-none, pull-unconnected, pull-asks, pull-held, stored-no, spread-zero}
 
@@ -16,39 +15,38 @@ pub answers_whole : (r : Pulled) (w : World) (got : Bool) (p : Packet) → Answe
 answers_whole r w got p a = rw (a.world, ← a.answer) refl
 
 module _ (net : Wiring) (w v : World) (at o : ℕ) where
-  pub pushed_none : (p : Packet) (s : Sender) → w.left ≡ 0 → v ≡ overrun w → s.count ≡ 0 → Pushed net w v at o p s
-  pushed_none p s h e c =
+  pub pushed_none : (p q : Packet) (far first count : ℕ) → w.left ≡ 0 → v ≡ overrun w → count ≡ 0 → Pushed net w v at o p far first count q
+  pushed_none p q far first count h e c =
       let left = ap (λ (u : World). u.left) e in
       record {
-        made = spread-zero (λ u x. push net v.left u s.at x s.packet) s.count s.first v c ∙ e ∙ sym (push-none net w at o w.left p (inr h));
+        made = spread-zero (λ u x. push net v.left u far x q) count first v c ∙ e ∙ sym (push-none net w at o w.left p (inr h));
         fewer = omega arith;
         one = omega arith;
         spends = λ k. omega arith;
         few = omega arith;
       }
 
-  pub pushed_unconnected : (p : Packet) (s : Sender) → 0 < w.left → net.target at o ≡ None → v ≡ spent w → s.count ≡ 0 → Pushed net w v at o p s
-  pushed_unconnected p s h t e c =
+  pub pushed_unconnected : (p q : Packet) (far first count : ℕ) → 0 < w.left → net.target at o ≡ None → v ≡ spent w → count ≡ 0 → Pushed net w v at o p far first count q
+  pushed_unconnected p q far first count h t e c =
       let left = ap (λ (u : World). u.left) e in
       record {
-        made = spread-zero (λ u x. push net v.left u s.at x s.packet) s.count s.first v c ∙ e ∙ sym (push-unconnected net w at o w.left (w.left - 1) p (omega arith) h t);
+        made = spread-zero (λ u x. push net v.left u far x q) count first v c ∙ e ∙ sym (push-unconnected net w at o w.left (w.left - 1) p (omega arith) h t);
         fewer = omega arith;
         one = omega arith;
         spends = λ k. omega arith;
         few = omega arith;
       }
 
-  pub pushed_far : (p : Packet) (s : Sender) (far : Port) (w1 : World) (to : PortRange) → 0 < w.left → net.target at o ≡ Some far → w1 ≡ spent w
-      → Acts w1 v far.element far.port p s.packet to → s.at ≡ far.element → s.first ≡ to.first → s.count ≡ to.count → to.count < 65536 → Pushed net w v at o p s
-  pushed_far p s far w1 to h t e acts at_is first_is count_is few =
+  pub pushed_far : (p q : Packet) (far : Port) (w1 : World) (to : PortRange) → 0 < w.left → net.target at o ≡ Some far → w1 ≡ spent w
+      → Acts w1 v far.element far.port p q to → to.count < 65536 → Pushed net w v at o p far.element to.first to.count q
+  pushed_far p q far w1 to h t e acts few =
       let one_less = ap (λ (u : World). u.left) e in
       let kept = ap (λ (u : World). u.left) acts.world in
       let left : v.left ≡ w.left - 1 = omega arith in
       record {
         made =
-            rw (at_is, first_is, count_is) (
-            ap (λ d. sent net d far.element s.packet to.count to.first v) left
-            ∙ push-made net w at o w.left (w.left - 1) p s.packet far w1 v (sent net (w.left - 1) far.element s.packet to.count to.first v) to (omega arith) h t e acts refl);
+            ap (λ d. sent net d far.element q to.count to.first v) left
+            ∙ push-made net w at o w.left (w.left - 1) p q far w1 v (sent net (w.left - 1) far.element q to.count to.first v) to (omega arith) h t e acts refl;
         fewer = omega arith;
         one = omega arith;
         spends = λ k. omega arith;

@@ -35,7 +35,7 @@ module _ (net : Wiring) (w v : World) (old : Machine) (d : ℕ) (xs : List Sende
       (machine_is _ _ _ _ r (ap (λ zs. frames_of zs ys) (take-set xs (d - 1) s)) (last-kept got xs (d - 1) s (ap (λ (x : Sender). x.packet) read)))
       (λ h. sends_ended net w below (last_of got xs) r s c h) fits
 
-  module _ (t : Sender) (over : Pushed net w v s.at s.first s.packet t) (one : s.count ≡ 1) (free : (0 < d - 1) ⊎ (got ≡ false)) where
+  module _ (t : Sender) (over : Pushed net w v s.at s.first s.packet t.at t.first t.count t.packet) (one : s.count ≡ 1) (free : (0 < d - 1) ⊎ (got ≡ false)) where
     pub push_taken : 0 < t.count → IsTurn net w old v (machine (frames_of (take d (set xs (d - 1) t)) ys) (last_of got (set xs (d - 1) t)) r)
     push_taken c =
         let k = some in
@@ -51,14 +51,14 @@ module _ (net : Wiring) (w v : World) (old : Machine) (d : ℕ) (xs : List Sende
         (λ h. sends_last net w below (last_of got xs) r v s t over one c h) fits
 
   module _ (m : Sender) (at_is : m.at ≡ s.at) (first_is : m.first ≡ s.first + 1) (count_is : m.count ≡ s.count - 1) (packet_is : m.packet ≡ s.packet) (more : 0 < s.count)
-      (zs : List Sender) (copied : CopiedUp (set xs (d - 1) m) zs (d - 1)) (u : Sender) (above : u ≡ get_or zs (d - 1 + 1) u) (t : Sender) (over : Pushed net w v s.at s.first u.packet t) where
+      (zs : List Sender) (copied : CopiedUp (set xs (d - 1) m) zs (d - 1)) (u : Sender) (above : u ≡ get_or zs (d - 1 + 1) u) (t : Sender) (over : Pushed net w v s.at s.first u.packet t.at t.first t.count t.packet) where
     moved_in : m.packet ≡ (get_or (set xs (d - 1) m) (d - 1) u).packet
     moved_in = let k = some in ap (λ (x : Sender). x.packet) (sym (get_or-set_same xs (d - 1) m u (omega arith)))
 
     same_packet : u.packet ≡ s.packet
     same_packet = ap (λ (x : Sender). x.packet) above ∙ copied.packet u ∙ sym moved_in ∙ packet_is
 
-    over_s : Pushed net w v s.at s.first s.packet t
+    over_s : Pushed net w v s.at s.first s.packet t.at t.first t.count t.packet
     over_s = rw (← same_packet) over
 
     last_same : last_of got (set zs (d - 1 + 1) t) ≡ last_of got xs

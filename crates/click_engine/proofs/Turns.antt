@@ -80,7 +80,7 @@ module _ (net : Wiring) where
       falls = omega arith;
     }
 
-    module _ (v : World) (s t : Sender) (over : Pushed net w v s.at s.first s.packet t) where
+    module _ (v : World) (s t : Sender) (over : Pushed net w v s.at s.first s.packet t.at t.first t.count t.packet) where
       sends-over : (n : ℕ) → s.count ≡ suc n
           → resume net (Sends s.at (s.first + 1) n s.packet) (resume net (sends_of t) (left_with v a)) ≡ resume net (sends_of s) (left_with w a)
       sends-over n c =

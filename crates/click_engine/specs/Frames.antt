@@ -80,3 +80,11 @@ pub record IsTurn (net : Wiring) (w : World) (old : Machine) (v : World) (new : 
   pub room : new.room ≡ old.room
   pub fits : length new.frames + v.left ≤ new.room
   pub falls : to_do v.left new.frames < to_do w.left old.frames
+
+-- some turns, or none
+pub record Follows (net : Wiring) (w : World) (old : Machine) (v : World) (new : Machine) : Type 0 where
+  pub keeps : complete net v new ≡ complete net w old
+  pub fewer : v.left ≤ w.left
+  pub room : new.room ≡ old.room
+  pub fits : length new.frames + v.left ≤ new.room
+  pub falls : to_do v.left new.frames ≤ to_do w.left old.frames

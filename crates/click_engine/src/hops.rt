@@ -1,7 +1,7 @@
 //! One push or pull over a connection.
-ghost use Rattle.std.specs.Prelude.{◌≡◌, ℕ, ◌<◌, ◌≤◌, MatchOption, IfSome, None, Some, true, false};
+ghost use Rattle.std.specs.Prelude.{◌≡◌, ℕ, ◌+◌, ◌<◌, ◌≤◌, ◌^◌, MatchOption, IfSome, None, Some, true, false};
 ghost use Rattle.click_engine.specs.Wires.{world_of, wiring_of};
-ghost use Rattle.click_engine.specs.kept.Hops.{Pushed, Reached};
+ghost use Rattle.click_engine.specs.kept.Hops.{Along, Pushed, Reached};
 
 use crate::machine::Sender;
 use crate::wires::Wires;
@@ -18,6 +18,41 @@ pub struct Reply {
     pub first: u16,
 }
 
+/// Outputs of an element that are to get a packet.
+#[derive(Clone, Copy)]
+pub struct Outputs {
+    pub at: usize,
+    pub first: usize,
+    pub count: usize,
+    ghost small: { first + count < 2 ^ 32 },
+}
+
+/// Pushes a packet over the connection at an output, and tells which outputs are to get it then.
+#[inline(always)]
+fn cross(wires: &Wires, work: &mut Work, at: usize, output: usize, packet: &mut Packet) -> Outputs
+    ensures { Pushed (wiring_of wires.now) (world_of work.old) (world_of work.new) at output packet.old result.at result.first result.count packet.new }
+{
+    let none = Outputs {
+        at: 0,
+        first: 0,
+        count: 0,
+    };
+    if work.left == 0 {
+        work.overrun();
+        return none;
+    }
+    work.spend();
+    let Some(far) = wires.target(at, output) else {
+        return none;
+    };
+    let outputs = work.act(far.element, far.port, packet);
+    Outputs {
+        at: far.element,
+        first: outputs.first as usize,
+        count: outputs.count as usize,
+    }
+}
+
 /// Pushes the packet of `sender` over the connection at an output, and leaves in `sender` what goes on from there.
 #[inline(always)]
 pub(crate) fn push_over(
@@ -27,22 +62,12 @@ pub(crate) fn push_over(
     output: usize,
     sender: &mut Sender,
 )
-    ensures { Pushed (wiring_of wires.now) (world_of work.old) (world_of work.new) at output sender.old.packet sender.new }
+    ensures { Pushed (wiring_of wires.now) (world_of work.old) (world_of work.new) at output sender.old.packet sender.new.at sender.new.first sender.new.count sender.new.packet }
 {
-    if work.left == 0 {
-        work.overrun();
-        sender.count = 0;
-        return;
-    }
-    work.spend();
-    let Some(far) = wires.target(at, output) else {
-        sender.count = 0;
-        return;
-    };
-    let outputs = work.act(far.element, far.port, &mut sender.packet);
-    sender.at = far.element;
-    sender.first = outputs.first as usize;
-    sender.count = outputs.count as usize;
+    let to = cross(wires, work, at, output, &mut sender.packet);
+    sender.at = to.at;
+    sender.first = to.first;
+    sender.count = to.count;
 }
 
 /// The same, for a copy.
@@ -54,9 +79,28 @@ pub(crate) fn push_copy_over(
     output: usize,
     sender: &mut Sender,
 )
-    ensures { Pushed (wiring_of wires.now) (world_of work.old) (world_of work.new) at output sender.old.packet sender.new }
+    ensures { Pushed (wiring_of wires.now) (world_of work.old) (world_of work.new) at output sender.old.packet sender.new.at sender.new.first sender.new.count sender.new.packet }
 {
     push_over(wires, work, at, output, sender);
+}
+
+/// Pushes the packet of `sender` on while just one output is to get it. The place stays in locals, so that a step costs what its element does.
+#[inline(always)]
+pub(crate) fn push_along(wires: &Wires, work: &mut Work, sender: &mut Sender)
+    ensures { Along (wiring_of wires.now) (world_of work.old) (world_of work.new) sender.old.at sender.old.first sender.old.count sender.old.packet
+        sender.new.at sender.new.first sender.new.count sender.new.packet }
+{
+    let mut to = Outputs {
+        at: sender.at,
+        first: sender.first,
+        count: sender.count,
+    };
+    while to.count == 1 {
+        to = cross(wires, work, to.at, to.first, &mut sender.packet);
+    }
+    sender.at = to.at;
+    sender.first = to.first;
+    sender.count = to.count;
 }
 
 /// Pulls over the connection at an input. Where it is answered, `packet` is the answer.

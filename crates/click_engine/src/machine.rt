@@ -1,7 +1,7 @@
 //! The pushes and pulls of a run that are under way: frames whose slots are written in place.
 ghost use Rattle.std.specs.Prelude.{◌≡◌, ℕ, ◌+◌, ◌-◌, ◌<◌, ◌≤◌, ◌^◌, List, [], ◌∷◌, ◌++◌, length};
 
-use crate::hops::{Reply, pull_over, push_copy_over, push_over};
+use crate::hops::{Reply, pull_over, push_along, push_copy_over, push_over};
 use crate::slots::{copy_up, tries};
 use crate::wires::Wires;
 use crate::world::Work;
@@ -68,7 +68,7 @@ impl Model for Machine {
 
 impl Machine {
     ghost use Rattle.std.specs.Prelude.{◌≡◌, ℕ, ◌+◌, ◌-◌, ◌<◌, ◌≤◌, ◌^◌, List, [], ◌∷◌, ◌++◌, length, IfOk, IfSome, IsSome, IsTrue, ◌↔◌, None, Some, true, false};
-    ghost use Rattle.click_engine.specs.Frames.{Frame, Sends, Pulls, IsTurn, sends_first};
+    ghost use Rattle.click_engine.specs.Frames.{Frame, Sends, Pulls, IsTurn, Follows, sends_first};
     ghost use Rattle.click_engine.specs.Wires.{world_of, wiring_of};
     ghost use Rattle.click_engine.specs.World.{element_at, with_state};
     ghost use Rattle.click_classes.specs.Acts.{emission};
@@ -179,6 +179,27 @@ impl Machine {
         let sender = &mut self.senders[0];
         self.answered = work.emit(at, &mut sender.packet);
         self.answered
+    }
+
+    /// Pushes on where a push is on top that has one output left, up to an element with several or none.
+    #[inline(never)]
+    pub(crate) fn follow(&mut self, wires: &Wires, work: &mut Work)
+        requires room { length self.old.frames + work.old.left ≤ self.old.room }
+        ensures { Follows (wiring_of wires.now) (world_of work.old) self.old (world_of work.new) self.new }
+    {
+        // The first slot is not free where an answer lies in it.
+        if self.sending == 0 {
+            return;
+        }
+        let top = self.sending - 1;
+        if top == 0 && self.answered {
+            return;
+        }
+        let sender = &mut self.senders[top];
+        push_along(wires, work, sender);
+        if sender.count == 0 {
+            self.sending = top;
+        }
     }
 
     /// One turn where a push is on top.

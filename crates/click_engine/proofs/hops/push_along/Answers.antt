@@ -1,0 +1,1 @@
+use Rattle.click_engine.proofs.hops.push_along.Goals as goal
