@@ -150,6 +150,10 @@ wrong_calls 'a fault with a name before it' 'sed -i "s/^31 /click_calls: 31 /" "
 for from in 0 1 2 4; do
     wrong_calls "status 3 in place of $from" "if [ \$status = $from ]; then status=3; fi"
 done
+for change in ': > "$out"' 'sed -i 1d "$out"' 'sed -i "s/ 255 / 254 /" "$out"' 'echo junk >> "$err"' 'status=3'; do
+    wrapped "$work/wrong_calls" "$calls" "$change"
+    CALLS=$work/wrong_calls is_refused "a click_calls with the change $change" tools/element_pages.sh
+done
 echo "$refused times a wrong program was refused"
 
 # changed FILE CHANGE: the file with the change, a script of sed that has to change something, as $work/page.
@@ -172,7 +176,8 @@ PROGRAM=$program wrong_page tools/readme.sh README.md '/^    \.\/run\.sh/d' 's/^
 wrong_page tools/tries.sh README.md '/^    rt try/d' '/^    cd crates/d' 's/^    cd crates\/click_prog/    cd crates\/click_text/'
 wrong_page tools/control_example.sh docs/CONTROL.md '/^An example, with/d' 's/^    > QUIT/    > STOP/' 's/^    510/    511/' '/^    DATA 1/d'
 wrong_page tools/calls_examples.sh docs/CALLS.md '/^An example, with/d' 's/^    > transmit b/    > transmit a/' 's/^    value 32/    value 33/' '/^    sent none/d'
-wrong_page tools/element_pages.sh docs/ELEMENTS.md 's/^## Tee$/## Tea/' '/^## Tee$/,/^## PullTee$/d' 's/Tee(2)/Tee(3)/' 's/Packets pass\./Packets pass on./'
+CALLS=$calls wrong_page tools/element_pages.sh docs/ELEMENTS.md 's/^## Tee$/## Tea/' '/^## Tee$/,/^## PullTee$/d' 's/Tee(2)/Tee(3)/' 's/Packets pass\./Packets pass on./' \
+    '0,/^```calls$/s//```/' '0,/^> transmit b/s//> transmit a/' 's/^sent 61 255 /sent 61 254 /' '/^nodevice$/d' '$a ```calls\nIdle;\n> round\nworked 0\n```' '$d'
 wrong_page tools/fault_examples.sh docs/FAULTS.md '/^| 23 /d' 's/^| 23 BadText/| 23 BadWord/' 's/^| 23 /| 27 /' '/^| 23 /p' 's/at 1:48/at 1:49/' \
     's/17 BrokenText in P@2/17 BrokenText in P@3/' 's/Idle => Discard/Idle -> Discard/' 's/^| /- /'
 
