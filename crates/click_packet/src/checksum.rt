@@ -12,10 +12,8 @@ fn quad(header: &[u8], at: usize) -> u64
         + slice_index header.now (at + 2) * 256 + slice_index header.now (at + 3) }
     ensures fits { result < 4294967296 }
 {
-    u64::from(header[at]) * 0x100_0000
-        + u64::from(header[at + 1]) * 0x1_0000
-        + u64::from(header[at + 2]) * 0x100
-        + u64::from(header[at + 3])
+    let word = [header[at], header[at + 1], header[at + 2], header[at + 3]];
+    u64::from(u32::from_be_bytes(word))
 }
 
 /// The sum of the 32-bit words of a header's options, which follow its first 20 bytes. Most headers have none.
@@ -42,12 +40,12 @@ pub fn sums_to_ones(header: &[u8]) -> bool
     requires begun { 0 < slice_index header.now 0 }
     ensures { IsTrue result ↔ (ones_sum (sum_of_words header.now) ≡ 65535) }
 {
-    let first = quad(header, 0)
+    let total = sum_of_options(header)
+        + quad(header, 0)
         + quad(header, 4)
         + quad(header, 8)
         + quad(header, 12)
         + quad(header, 16);
-    let total = first + sum_of_options(header);
     total % 65535 == 0
 }
 
@@ -60,8 +58,12 @@ pub fn checksum_at(header: &[u8], ttl: u8) -> u16
     ensures { result ≡ checksum (slice_set header.now 8 ttl) }
 {
     // The third word ends with the checksum itself, which counts as zero.
-    let third = u64::from(ttl) * 0x100_0000 + u64::from(header[9]) * 0x1_0000;
-    let first = quad(header, 0) + quad(header, 4) + third + quad(header, 12) + quad(header, 16);
-    let total = first + sum_of_options(header);
+    let third = u32::from(ttl) * 0x100_0000 + u32::from(header[9]) * 0x1_0000;
+    let total = sum_of_options(header)
+        + quad(header, 0)
+        + quad(header, 4)
+        + u64::from(third)
+        + quad(header, 12)
+        + quad(header, 16);
     (65534 - (total - 1) % 65535) as u16
 }

@@ -6,7 +6,7 @@ use Rattle.click_packet.proofs.checksum.sums_to_ones.Goals as goal
 pub returns : goal.returns
 returns c =
     let header = c.args.header.now in
-    let sum = c.quad.result + c.quad-2.result + c.quad-3.result + c.quad-4.result + c.quad-5.result + c.sum_of_options.result in
+    let sum = c.sum_of_options.result + c.quad.result + c.quad-2.result + c.quad-3.result + c.quad-4.result + c.quad-5.result in
     let some : 0 < sum = omega (arith, c.quad.ensures.value, c.requires.begun) in
     let test = Decides-eqb (sum % 65535) 0 in
     let rule = sums_by_quads header sum c.requires.whole some
