@@ -104,7 +104,7 @@ unfolding with_ttl
 with_ttl_is bytes ttl =
     ap (λ n. with_checksum_field (set bytes 8 ttl) (checksum (take n (set bytes 8 ttl)))) (stated_len-set bytes 8 ttl (omega arith))
 
-take-set_in : (n : ℕ) (xs : List ℕ) (i b : ℕ) → take n (set xs i b) ≡ set (take n xs) i b
+pub take-set_in : (n : ℕ) (xs : List ℕ) (i b : ℕ) → take n (set xs i b) ≡ set (take n xs) i b
 take-set_in zero xs i b = refl
 take-set_in (suc n) [] i b = refl
 take-set_in (suc n) (x ∷ xs) zero b = refl

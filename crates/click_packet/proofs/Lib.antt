@@ -1,2 +1,4 @@
 pub mod Headers
+pub mod Places
+pub mod Quads
 pub mod Sums

@@ -1,49 +1,69 @@
-//! The checksum of an internet header (RFC 791, section 3.1).
-ghost use Rattle.std.specs.Prelude.{◌≡◌, ◌%◌, ◌≤◌, length};
+//! The checksum of an internet header (RFC 791, section 3.1). Words of 32 bits are summed, half as many as of 16:
+//! 65,536 leaves 1 modulo 65,535, so their ones' complement sum is the same.
+ghost use Rattle.std.specs.Prelude.{◌≡◌, ◌+◌, ◌-◌, ◌*◌, ◌%◌, ◌<◌, ◌≤◌, ◌↔◌, length, drop, slice_index, slice_set, IsTrue};
 ghost use Rattle.click_packet.specs.Checksum.{sum_of_words, ones_sum};
 ghost use Rattle.click_packet.specs.Header.{checksum};
+ghost use Rattle.click_packet.specs.kept.Quads.{quads};
 
-/// The plain sum of a header's 16-bit words, the high byte first. Two bytes make a word, and 60 bytes are the longest
-/// header.
-#[tactic(auto, using(crate::proofs::Sums::word_steps))]
-fn sum_of_words(header: &[u8]) -> u32
-    requires even { length header.now % 2 ≡ 0 }
+/// The 32-bit word from a byte on, the high byte first.
+fn quad(header: &[u8], at: usize) -> u64
+    requires { at + 4 ≤ length header.now }
+    ensures value { result ≡ slice_index header.now at * 16777216 + slice_index header.now (at + 1) * 65536
+        + slice_index header.now (at + 2) * 256 + slice_index header.now (at + 3) }
+    ensures fits { result < 4294967296 }
+{
+    let word = [header[at], header[at + 1], header[at + 2], header[at + 3]];
+    u64::from(u32::from_be_bytes(word))
+}
+
+/// The sum of the 32-bit words of a header's options, which follow its first 20 bytes. Most headers have none.
+#[tactic(auto, using(crate::proofs::Quads::quad_steps))]
+fn sum_of_options(header: &[u8]) -> u64
+    requires whole { length header.now % 4 ≡ 0 }
+    requires long { 20 ≤ length header.now }
     requires short { length header.now ≤ 60 }
-    ensures { result ≡ sum_of_words header.now }
+    ensures value { result ≡ quads (drop 20 header.now) }
+    ensures fits { result < 68719476736 }
 {
     let mut sum = 0;
-    for at in 0..header.len() / 2 {
-        sum += u32::from(header[2 * at]) * 256 + u32::from(header[2 * at + 1]);
+    for at in 5..header.len() / 4 {
+        sum += quad(header, 4 * at);
     }
     sum
 }
 
-/// The ones' complement sum of the words whose plain sum is `total`: what goes past 16 bits is added to them.
-#[tactic(auto, using(crate::proofs::Sums::folding))]
-fn fold(total: u32) -> u16
-    ensures { result ≡ ones_sum total }
-{
-    // The first sum is at most twice ffff, so the second is a word.
-    let once = total % 65536 + total / 65536;
-    (once % 65536 + once / 65536) as u16
-}
-
-/// The ones' complement sum of a header's 16-bit words, ffff where its checksum is right.
-pub fn sum(header: &[u8]) -> u16
-    requires even { length header.now % 2 ≡ 0 }
-    requires short { length header.now ≤ 60 }
-    ensures { result ≡ ones_sum (sum_of_words header.now) }
-{
-    fold(sum_of_words(header))
-}
-
-/// The checksum that belongs into a header, whatever stands in its bytes 10 and 11 now.
-pub fn checksum(header: &[u8]) -> u16
-    requires even { length header.now % 2 ≡ 0 }
+/// Whether the ones' complement sum of a header's 16-bit words is ffff, as it is where its checksum is right.
+pub fn sums_to_ones(header: &[u8]) -> bool
+    requires whole { length header.now % 4 ≡ 0 }
     requires long { 20 ≤ length header.now }
     requires short { length header.now ≤ 60 }
-    ensures { result ≡ checksum header.now }
+    requires begun { 0 < slice_index header.now 0 }
+    ensures { IsTrue result ↔ (ones_sum (sum_of_words header.now) ≡ 65535) }
 {
-    let field = u32::from(header[10]) * 256 + u32::from(header[11]);
-    u16::MAX - fold(sum_of_words(header) - field)
+    let total = sum_of_options(header)
+        + quad(header, 0)
+        + quad(header, 4)
+        + quad(header, 8)
+        + quad(header, 12)
+        + quad(header, 16);
+    total % 65535 == 0
+}
+
+/// The checksum that belongs into a header with this time to live, whatever stands in its bytes 8, 10 and 11 now.
+pub fn checksum_at(header: &[u8], ttl: u8) -> u16
+    requires whole { length header.now % 4 ≡ 0 }
+    requires long { 20 ≤ length header.now }
+    requires short { length header.now ≤ 60 }
+    requires begun { 0 < slice_index header.now 0 }
+    ensures { result ≡ checksum (slice_set header.now 8 ttl) }
+{
+    // The third word ends with the checksum itself, which counts as zero.
+    let third = u32::from(ttl) * 0x100_0000 + u32::from(header[9]) * 0x1_0000;
+    let total = sum_of_options(header)
+        + quad(header, 0)
+        + quad(header, 4)
+        + u64::from(third)
+        + quad(header, 12)
+        + quad(header, 16);
+    (65534 - (total - 1) % 65535) as u16
 }

@@ -1,8 +1,10 @@
 //! The internet header at the front of a packet's bytes (RFC 791, section 3.1).
-ghost use Rattle.std.specs.Prelude.{◌≡◌, ◌≤◌, length, true, false, IfSome, MatchOption};
-ghost use Rattle.click_packet.specs.Header.{stated_len, header_len, header_good, with_ttl};
+ghost use Rattle.std.specs.Prelude.{◌≡◌, ◌-◌, ◌≤◌, length, true, false, not, nat_lt, if◌then◌else◌, IfSome, MatchOption};
+ghost use Rattle.std.specs.List.{list_any};
+ghost use Rattle.std.specs.Str.{bytes_eq};
+ghost use Rattle.click_packet.specs.Header.{source, stated_len, header_len, header_good, ttl, with_ttl};
 
-use crate::checksum::{checksum, sum};
+use crate::checksum::{checksum_at, sums_to_ones};
 
 /// The header's length in bytes: the lower half of the first byte times four, if it is from 20 to the number of bytes.
 #[tactic(auto, using(crate::proofs::Headers::header_lens))]
@@ -34,11 +36,36 @@ pub fn is_good(bytes: &[u8], refused: &[[u8; 4]]) -> bool
     if bytes[0] / 16 != 4 || total < len || bytes.len() < total {
         return false;
     }
-    if sum(&bytes[..len]) != 0xffff {
+    if !sums_to_ones(&bytes[..len]) {
         return false;
+    }
+    is_welcome(bytes, refused)
+}
+
+/// Whether the source address of a header is none of `refused`.
+fn is_welcome(bytes: &[u8], refused: &[[u8; 4]]) -> bool
+    requires { 16 ≤ length bytes.now }
+    ensures { result ≡ not (list_any (λ address. bytes_eq address (source bytes.now)) refused.now) }
+{
+    // Mostly nobody is refused, and then no address is read.
+    if refused.is_empty() {
+        return true;
     }
     let source = [bytes[12], bytes[13], bytes[14], bytes[15]];
     !refused.contains(&source)
+}
+
+/// Sets byte 8 and the checksum that goes with it.
+fn write_ttl(bytes: &mut [u8], len: usize, ttl: u8)
+    requires stated { len ≡ stated_len bytes.old }
+    requires long { 20 ≤ len }
+    requires there { len ≤ length bytes.old }
+    ensures { bytes.new ≡ with_ttl bytes.old ttl }
+{
+    let word = checksum_at(&bytes[..len], ttl);
+    bytes[8] = ttl;
+    bytes[10] = (word / 256) as u8;
+    bytes[11] = (word % 256) as u8;
 }
 
 /// Sets byte 8 and the checksum that goes with it, where there is a header, and says whether there is.
@@ -50,9 +77,25 @@ pub fn set_ttl(bytes: &mut [u8], ttl: u8) -> bool
     let Some(len) = header_len(bytes) else {
         return false;
     };
-    bytes[8] = ttl;
-    let word = checksum(&bytes[..len]);
-    bytes[10] = (word / 256) as u8;
-    bytes[11] = (word % 256) as u8;
+    write_ttl(bytes, len, ttl);
+    true
+}
+
+/// Makes byte 8 less by one, with the checksum that goes with it, where there is a header and that byte is above 1, and
+/// says whether that is so.
+pub fn count_down(bytes: &mut [u8]) -> bool
+    ensures { MatchOption (ttl bytes.old)
+        ((result ≡ false) × (bytes.new ≡ bytes.old))
+        (λ hops. (result ≡ nat_lt 1 hops)
+        × (bytes.new ≡ (if nat_lt 1 hops then with_ttl bytes.old (hops - 1) else bytes.old))) }
+{
+    let Some(len) = header_len(bytes) else {
+        return false;
+    };
+    let hops = bytes[8];
+    if hops <= 1 {
+        return false;
+    }
+    write_ttl(bytes, len, hops - 1);
     true
 }

@@ -1,0 +1,25 @@
+-- Facts on the bytes of a packet where they lie.
+use Rattle.std.proofs.Common.{◌≡◌, ℕ, ◌+◌, ◌-◌, ◌≤◌, min, List, ◌++◌, length, take, drop, sym, ◌∙◌, ap, arith, length-drop, length-take-le, drop-drop}
+use Rattle.std.proofs.Math.Seq.{take-append-add}
+use Rattle.std.proofs.lemmas.List.{drop_min, drop-take}
+
+-- the bytes that are left after the first ones
+pub stripped : (xs : List ℕ) (start len count : ℕ) → start + len ≤ length xs →
+    take (len - min count len) (drop (start + min count len) xs) ≡ drop count (take len (drop start xs))
+stripped xs start len count h =
+    let ys = drop start xs in
+    let n = min count len in
+    let within : len ≤ length ys = omega (arith, length-drop start xs) in
+    let whole : length (take len ys) ≡ len = length-take-le len ys within in
+    let parts : n + (len - n) ≡ len = omega arith in
+    ap (λ zs. take (len - n) zs) (sym (drop-drop n start xs))
+    ∙ sym (drop-take n (len - n) ys)
+    ∙ ap (λ m. drop n (take m ys)) parts
+    ∙ ap (λ m. drop (min count m) (take len ys)) (sym whole)
+    ∙ drop_min count (take len ys)
+
+-- the bytes with others before them
+pub prepended : (front rest bytes : List ℕ) (len : ℕ) → bytes ≡ front ++ rest → take (len + length front) bytes ≡ front ++ take len rest
+prepended front rest bytes len e =
+    let n : len + length front ≡ length front + len = omega arith in
+    rw (e, n) (take-append-add front rest len)
