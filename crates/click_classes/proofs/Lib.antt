@@ -1,6 +1,10 @@
 pub mod Numbers
 pub mod Groups
 pub mod Ring
+pub mod LongestFirst
+pub mod AddressWords
+pub mod RowSteps
+pub mod Short
 pub mod Tables
 pub mod Lists
 pub mod Names

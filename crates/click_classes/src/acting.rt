@@ -8,7 +8,6 @@ use crate::classes::classifier::classify;
 use crate::classes::encap::put_header;
 use crate::classes::header::{age, header_fate};
 use crate::classes::length::length_fate;
-use crate::classes::lookup::route;
 use crate::classes::paint::paint_tee_fate;
 use crate::classes::plain::count_packet;
 use crate::classes::queues::{store, store_for_the_first};
@@ -233,7 +232,7 @@ impl State {
                 },
                 None => NONE,
             },
-            State::StaticIPLookup { entries } => match route(entries, packet.destination()) {
+            State::StaticIPLookup { entries } => match entries.find(packet.destination()) {
                 Some(entry) => {
                     if let Some(gateway) = entry.gateway {
                         packet.set_destination(gateway);

@@ -12,6 +12,7 @@ mod making;
 mod packet_list;
 mod port_counts;
 mod ports;
+mod routes;
 mod state;
 mod values;
 
@@ -23,6 +24,7 @@ pub use making::make;
 pub use packet_list::PacketList;
 pub use port_counts::counts;
 pub use ports::{Code, Counts, Side};
+pub use routes::Routes;
 pub use state::State;
 pub use values::entry::Entry;
 pub use values::pattern::{Clause, Pattern};

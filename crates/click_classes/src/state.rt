@@ -5,7 +5,7 @@ ghost use Rattle.click_classes.specs.State.{class};
 
 use crate::class::Class;
 use crate::packet_list::PacketList;
-use crate::values::entry::Entry;
+use crate::routes::Routes;
 use crate::values::pattern::Pattern;
 use click_text::sequence::Sequence;
 
@@ -88,7 +88,7 @@ pub enum State {
     },
     /// The table.
     StaticIPLookup {
-        entries: Sequence<Entry>,
+        entries: Routes,
     },
     /// The sources whose packets are bad.
     CheckIPHeader {

@@ -3,15 +3,12 @@
 ghost use Rattle.click_classes.specs.Fresh.{static_ip_lookup};
 ghost use Rattle.click_classes.specs.Made.{ByWords};
 ghost use Rattle.click_classes.specs.Steps.{OrNoMemory};
-ghost use Rattle.std.specs.Prelude.{◌≡◌};
-ghost use Rattle.click_classes.specs.Routes.{route, covers, longer};
 
 use crate::arguments::Arguments;
 use crate::fault::ArgFault;
+use crate::routes::Routes;
 use crate::state::State;
-use crate::values::entry::{Entry, read_table};
-use crate::values::prefix::{Prefix, first_bits};
-use click_text::sequence::Sequence;
+use crate::values::entry::read_table;
 use std::alloc::Global;
 
 /// StaticIPLookup(ENTRY, ..): sends packets on by their destination.
@@ -32,47 +29,7 @@ pub fn make_static_ip_lookup(alloc: Global, arguments: &Arguments) -> Result<Sta
         return Err(ArgFault::ArgumentCount);
     }
     let words = arguments.words(alloc)?;
-    let entries = read_table(alloc, words.as_slice())?;
+    let table = read_table(alloc, words.as_slice())?;
+    let entries = Routes::of(alloc, table)?;
     Ok(State::StaticIPLookup { entries })
-}
-
-/// The address has the prefix.
-#[tactic(auto, unfolding(crate::specs::Values::cleared))]
-fn covers(prefix: Prefix, address: [u8; 4]) -> bool
-    ensures { result ≡ covers prefix address }
-{
-    // Most entries differ in a byte that their prefixes have whole: that is tested first.
-    let len = prefix.len;
-    let network = prefix.network;
-    first_bits(len, address[0]) == network[0]
-        && first_bits(len.saturating_sub(8), address[1]) == network[1]
-        && first_bits(len.saturating_sub(16), address[2]) == network[2]
-        && first_bits(len.saturating_sub(24), address[3]) == network[3]
-}
-
-/// The entry with the longest prefix that the address has.
-pub fn route(entries: &Sequence<Entry>, address: [u8; 4]) -> Option<Entry>
-    ensures { result ≡ route entries.now address }
-{
-    let entries = entries.as_slice();
-    let mut found: Option<Entry> = None;
-    let mut at = entries.len();
-    while at > 0 {
-        at -= 1;
-        let entry = entries[at];
-        if covers(entry.prefix, address) {
-            found = Some(longer(entry, found));
-        }
-    }
-    found
-}
-
-/// Of two entries the one with the longer prefix, the first of two that are as long.
-fn longer(first: Entry, second: Option<Entry>) -> Entry
-    ensures { result ≡ longer first second }
-{
-    match second {
-        Some(second) if first.prefix.len < second.prefix.len => second,
-        Some(_) | None => first,
-    }
 }

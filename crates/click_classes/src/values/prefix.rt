@@ -17,7 +17,7 @@ pub struct Prefix {
 
 /// The first bits of a byte, with the others 0.
 #[tactic(auto, unfolding(crate::specs::Values::first_bits))]
-pub(crate) fn first_bits(bits: u8, byte: u8) -> u8
+fn first_bits(bits: u8, byte: u8) -> u8
     ensures { result ≡ first_bits bits byte }
 {
     let unit = 1u16 << (8 - bits.min(8));

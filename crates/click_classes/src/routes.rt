@@ -1,0 +1,143 @@
+//! The table of a StaticIPLookup, made ready for its packets.
+
+ghost use Rattle.std.specs.Prelude.{◌≡◌, ◌≤◌, ◌-◌, ◌^◌, ◌++◌, length, map, OnOk, IfOk};
+ghost use Rattle.std.specs.List.{All, filter};
+ghost use Rattle.click_classes.specs.Routes.{route};
+ghost use Rattle.click_classes.specs.kept.Rows.{IsAddress, word, IsShort, has_len, longest_first, IsReady, entry_of, first_found};
+
+use crate::values::entry::Entry;
+use click_text::sequence::Sequence;
+use std::alloc::{AllocError, Global};
+use std::marker::Model;
+
+/// An entry, with the bits of an address that its prefix tells: which they are, and what they have to be.
+#[derive(Clone, Copy, Debug, PartialEq, Eq)]
+struct Row {
+    mask: u32,
+    network: u32,
+    entry: Entry,
+}
+
+/// The entries as written, and a row for each of them, those with the longest prefixes first.
+#[derive(Drop)]
+pub struct Routes {
+    entries: Sequence<Entry>,
+    rows: Vec<Row>,
+}
+
+impl Model for Routes {
+    ghost use Rattle.std.specs.Prelude.{◌≡◌, List, ℕ};
+    ghost use Rattle.click_classes.specs.declared.values.entry.Entry.{Entry};
+    ghost use Rattle.click_classes.specs.Routes.{route};
+    ghost use Rattle.click_classes.specs.kept.Rows.{IsAddress, word, first_found};
+
+    ghost Value = { List Entry };
+
+    ghost view = { λ r. r.entries };
+
+    ghost invariant = { λ r. (a : List ℕ) → IsAddress a → first_found r.rows.items (word a) ≡ route r.entries a };
+}
+
+/// The first `len` bits of an address.
+fn mask_of(len: u8) -> u32
+    requires { len ≤ 32 }
+    ensures { result ≡ 2 ^ 32 - 2 ^ (32 - len) }
+{
+    if len == 0 { 0 } else { u32::MAX << (32 - len) }
+}
+
+/// An address as a number.
+fn word_of(address: [u8; 4]) -> u32
+    ensures value { result ≡ word address }
+    ensures address { IsAddress address }
+{
+    let [first, second, third, fourth] = address;
+    u32::from_be_bytes([first, second, third, fourth])
+}
+
+/// The row of an entry.
+fn row_of(entry: Entry) -> Row
+    requires { entry.prefix.len ≤ 32 }
+    ensures entry { result.entry ≡ entry }
+    ensures ready { IsReady result }
+{
+    Row {
+        mask: mask_of(entry.prefix.len),
+        network: word_of(entry.prefix.network),
+        entry,
+    }
+}
+
+/// Adds the rows of the entries whose prefixes have that length.
+fn push_rows(rows: &mut Vec<Row>, entries: &[Entry], len: u8) -> Result<(), AllocError>
+    requires short { All IsShort entries.now }
+    requires ready { All IsReady rows.old.items }
+    ensures entries { OnOk result (map entry_of rows.new.items ≡ map entry_of rows.old.items ++ filter (has_len len) entries.now) }
+    ensures ready { OnOk result (All IsReady rows.new.items) }
+{
+    for entry in entries {
+        if entry.prefix.len == len {
+            rows.push(row_of(*entry))?;
+        }
+    }
+    Ok(())
+}
+
+/// The rows of the entries, those with the longest prefixes first, and of those as long the first written first.
+fn rows_of(alloc: Global, entries: &[Entry]) -> Result<Vec<Row>, AllocError>
+    requires { All IsShort entries.now }
+    ensures entries { IfOk result (λ rows. map entry_of rows.items ≡ longest_first 33 entries.now) }
+    ensures ready { IfOk result (λ rows. All IsReady rows.items) }
+{
+    let mut rows = Vec::new(alloc);
+    let mut len = 33;
+    while len > 0 {
+        len -= 1;
+        push_rows(&mut rows, entries, len)?;
+    }
+    Ok(rows)
+}
+
+/// The entry of the first row that tells the bits of the address.
+fn first_found(rows: &[Row], word: u32) -> Option<Entry>
+    ensures { result ≡ first_found rows.now word }
+{
+    for row in rows {
+        if word & row.mask == row.network {
+            return Some(row.entry);
+        }
+    }
+    None
+}
+
+impl Routes {
+    /// The table of these entries.
+    pub(crate) fn of(alloc: Global, entries: Sequence<Entry>) -> Result<Routes, AllocError>
+        requires { All IsShort entries }
+        ensures { IfOk result (λ routes. routes ≡ entries) }
+    {
+        let rows = rows_of(alloc, entries.as_slice())?;
+        Ok(Routes { entries, rows })
+    }
+
+    /// The entries, as written.
+    pub fn as_slice(&self) -> &[Entry]
+        ensures { result.now ≡ self.now }
+    {
+        self.entries.as_slice()
+    }
+
+    /// How many entries there are.
+    pub fn len(&self) -> usize
+        ensures { result ≡ length self.now }
+    {
+        self.entries.len()
+    }
+
+    /// The entry with the longest prefix that the address has.
+    pub fn find(&self, address: [u8; 4]) -> Option<Entry>
+        ensures { result ≡ route self.now address }
+    {
+        first_found(self.rows.as_slice(), word_of(address))
+    }
+}
