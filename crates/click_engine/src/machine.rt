@@ -123,6 +123,16 @@ impl Machine {
         }
     }
 
+    /// Makes `packet` the last pull's answer; false, and without change, where there is none.
+    pub(crate) fn copy_answer(&self, packet: &mut Packet) -> bool
+        ensures { MatchOption self.now.last ((result ≡ false) × (packet.new ≡ packet.old)) (λ p. (result ≡ true) × (packet.new ≡ p)) }
+    {
+        if self.answered {
+            packet.copy_from(&self.senders[0].packet);
+        }
+        self.answered
+    }
+
     /// Whether the last pull was answered.
     pub(crate) fn is_answered(&self) -> bool
         ensures { IsTrue result ↔ IsSome self.now.last }

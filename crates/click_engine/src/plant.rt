@@ -167,6 +167,19 @@ impl Plant {
         self.machine.answer()
     }
 
+    /// Makes `packet` what a device takes, and moves no packet by value; false, and `packet` without change, where the device gets none.
+    pub fn pull_into(&mut self, device: &[u8], packet: &mut Packet) -> bool
+        ensures plant { self.new ≡ transmit self.old device.now }
+        ensures packet { MatchOption (transmitted self.old device.now) ((result ≡ false) × (packet.new ≡ packet.old)) (λ p. (result ≡ true) × (packet.new ≡ p)) }
+    {
+        let Some(at) = self.sinks.element(device) else {
+            return false;
+        };
+        self.work.left = CROSSINGS;
+        pull_packet(&self.wires, &mut self.work, &mut self.machine, at);
+        self.machine.copy_answer(packet)
+    }
+
     /// Runs each task once in flat order, and tells how many packets sources gave and Unqueues and Discards pulled, at most 2^64 - 1.
     pub fn round(&mut self) -> u64
         ensures plant { self.new ≡ (round self.old).plant }

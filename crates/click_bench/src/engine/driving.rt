@@ -34,19 +34,21 @@ pub fn enter_last(plant: &mut Plant, packet: &mut Packet, times: usize) -> u64 {
 }
 
 /// How long the packet is that is pulled at the device b.
-fn pulled(plant: &mut Plant) -> u64 {
-    match plant.pull(b"b") {
-        Some(packet) => packet.bytes().len() as u64,
-        None => 0,
+fn pulled(plant: &mut Plant, packet: &mut Packet) -> u64 {
+    if plant.pull_into(b"b", packet) {
+        packet.bytes().len() as u64
+    } else {
+        0
     }
 }
 
 /// The packet enters at the device a and is pulled at b. The bytes that were pulled.
 pub fn enter_pull(plant: &mut Plant, packet: &Packet, times: usize) -> u64 {
     let mut bytes: u64 = 0;
+    let mut answer = Packet::empty();
     for _time in 0..times {
         let _taken = plant.enter(b"a", packet);
-        bytes = bytes.saturating_add(pulled(plant));
+        bytes = bytes.saturating_add(pulled(plant, &mut answer));
     }
     bytes
 }
@@ -54,6 +56,7 @@ pub fn enter_pull(plant: &mut Plant, packet: &Packet, times: usize) -> u64 {
 /// The packet enters at four devices in turn and is pulled at b. The bytes that were pulled.
 pub fn enter_pull_four(plant: &mut Plant, packet: &Packet, times: usize) -> u64 {
     let mut bytes: u64 = 0;
+    let mut answer = Packet::empty();
     for time in 0..times {
         let device = match time % 4 {
             0 => b"a".as_slice(),
@@ -62,7 +65,7 @@ pub fn enter_pull_four(plant: &mut Plant, packet: &Packet, times: usize) -> u64 
             _ => b"e".as_slice(),
         };
         let _taken = plant.enter(device, packet);
-        bytes = bytes.saturating_add(pulled(plant));
+        bytes = bytes.saturating_add(pulled(plant, &mut answer));
     }
     bytes
 }
