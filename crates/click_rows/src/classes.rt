@@ -1,8 +1,7 @@
 //! Tests of the arguments of each class.
 
-use click_classes::{
-    ArgFault, CLASSES, Class, Code, Side, State, class_of, code, counts, make, passes,
-};
+use click_classes::{ArgFault, Class, Code, Side, State, class_of, code, counts, make, passes};
+use click_packet::Packet;
 use std::alloc::Global;
 use std::process::Abort;
 use std::test::Fail;
@@ -420,16 +419,6 @@ fn makes(rt: HostRuntime) {
 }
 
 #[test]
-fn names(rt: HostRuntime) {
-    for class in CLASSES {
-        assert_eq!(rt; class_of(class.name()), Some(class));
-    }
-    assert_eq!(rt; class_of(b"queue".as_slice()), None);
-    assert_eq!(rt; class_of(b"".as_slice()), None);
-    assert_eq!(rt; class_of(b"Queues".as_slice()), None);
-}
-
-#[test]
 fn ports(rt: HostRuntime) {
     let s = counts(&State::Switch { output: Some(255) });
     assert_eq!(rt; (s.inputs, s.outputs, s.equal), ((1, 1), (256, 256), false));
@@ -464,6 +453,21 @@ fn fault_texts(rt: HostRuntime) -> Result<(), Fail> {
     for (fault, text) in rows {
         let shown = format!(in rt.alloc(); "{fault}")?;
         assert_eq!(rt; shown.as_str(), text);
+    }
+    Ok(())
+}
+
+/// Counts stop at the greatest number.
+#[test]
+fn counts_no_further(rt: HostRuntime) -> Result<(), Fail> {
+    let mut packet = Packet::of(b"cdef")?;
+    let mut full = State::Counter {
+        count: u64::MAX,
+        byte_count: u64::MAX - 1,
+    };
+    let _passed = full.act(1, 0, &mut packet);
+    if let State::Counter { count, byte_count } = full {
+        assert_eq!(rt; (count, byte_count), (u64::MAX, u64::MAX));
     }
     Ok(())
 }
