@@ -1,8 +1,6 @@
 //! Sessions with a port, a reader and a writer in memory.
 
-use click_control::{
-    Answer, AskFault, Command, Ended, Failed, Port, Reading, ServeFault, Writing, reply_text, serve,
-};
+use click_control::{AskFault, Ended, Failed, Port, Reading, ServeFault, Writing, serve};
 use click_router::{Call, Refusal, Reply};
 use click_text::sequence::Sequence;
 use std::alloc::{AllocError, Global};
@@ -320,27 +318,6 @@ fn replies_before_the_next_read(rt: HostRuntime) {
     let mut writer = Writing::new(Counting { written: &written });
     let ended = serve(rt.alloc(), &mut reader, &mut writer, &mut OneCounter, true);
     assert_eq!(rt; ended, Ok(Ended::Quit));
-}
-
-#[test]
-fn has_no_text_for_an_answer_that_cannot_be(rt: HostRuntime) -> Result<(), Fail> {
-    let failed = Answer::Failed(AskFault::NoMemory);
-    assert_eq!(rt; reply_text(rt.alloc(), &Command::Quit, &failed)?.len(), 0);
-    let word = Sequence::of(Vec::from_slice(rt.alloc(), b"FOO")?);
-    assert_eq!(rt;
-        reply_text(rt.alloc(), &Command::Unknown { word }, &failed)?.len(),
-        0
-    );
-    let read = Command::Read {
-        handler: Sequence::of(Vec::from_slice(rt.alloc(), b"c.count")?),
-        text: Sequence::new(rt.alloc()),
-    };
-    assert_eq!(rt; reply_text(rt.alloc(), &read, &Answer::NoCall)?.len(), 0);
-    assert_eq!(rt;
-        reply_text(rt.alloc(), &read, &failed)?.as_slice(),
-        b"520 Out of memory\r\n".as_slice()
-    );
-    Ok(())
 }
 
 /// A reply of many bytes is written in full, however many of them a write takes.

@@ -24,6 +24,7 @@ kinds FromDevice(a) -> Queue -> PaintTee(1) -> ToDevice(b); => /h,h/l,l/l,l/,
 kinds FromDevice(a) -> h :: CheckIPHeader -> Discard; h [1] -> Discard; => /h,h/hh,h/,h/,
 kinds FromDevice(a) -> Queue -> h :: CheckIPHeader -> ToDevice(b); h [1] -> Discard; => /h,h/l,l/lh,l/,h/,
 kinds FromDevice(a) -> Queue -> CheckIPHeader -> ToDevice(b); => /h,h/l,l/l,l/,
+kinds FromDevice(a) -> Queue -> l :: CheckLength(3) -> ToDevice(b); l [1] -> Discard; => /h,h/l,l/lh,l/,h/,
 kinds FromDevice(a) -> Queue -> p :: PullTee -> ToDevice(b); p [1] -> Discard; => /h,h/l,l/lh,l/,h/,
 "#;
 
