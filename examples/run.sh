@@ -69,6 +69,14 @@ refused() {
 while IFS=$'\t' read -r fault text; do
     refused "$fault" "$text"
 done < faults.txt
+# Texts that open: the session is served.
+while IFS= read -r text; do
+    ran "$program" -e "$text" < /dev/null
+    same_bytes nothing.transcript "$work/out" "opens: $text"
+    is_empty "$work/err" "standard error beside: $text"
+    same_status 0 "$status" "opens: $text"
+    passed=$((passed + 1))
+done < opens.txt
 # As many braces as may be open, and one more; as many elements, and one more; bodies that double what they stand for, refused at once.
 times() { for _ in $(seq "$1"); do printf '%s' "$2"; done; }
 refused '4 Unexpected at 1:33' "$(times 32 '{')"

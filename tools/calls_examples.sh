@@ -68,6 +68,18 @@ ran "$calls" -e "$text" < <(printf 'arrive a %s\npoll a %s\nread q.length %s\ntr
     "$longest" "$(times 31 "$longest,")$longest" "${long_text%?}")
 answered 0 'the longest packets and lines'
 
+# A value is passed on through sixty compounds without a change; and what stands for nothing is not read again and again: with every level read twice
+# this would not end.
+compounds='elementclass P0 { $x | input -> Strip($x$x) -> output } elementclass D0 { $x, $y | input -> Strip(1$x) -> output }'
+for level in $(seq 60); do
+    compounds+=" elementclass P$level { \$x | input -> P$((level - 1))(\$x) -> output }"
+    compounds+=" elementclass D$level { \$x, \$y | input -> D$((level - 1))(\$x\$x, ) -> output }"
+done
+printf 'entered 1\nsent 0b 0 0.0.0.0\nentered 1\nsent 0102 0 0.0.0.0\n' > "$work/wanted"
+ran "$calls" -e "$compounds FromDevice(a) -> P60(1) -> Queue -> ToDevice(b); FromDevice(c) -> D60(,) -> Queue -> ToDevice(d);" \
+    < <(printf 'arrive a 000102030405060708090a0b\ntransmit b\narrive c 000102\ntransmit d\n')
+answered 0 'arguments through sixty compounds'
+
 # A faulty configuration, wrong arguments, and a word that is no text: one text on standard error alone.
 : > "$work/wanted"
 printf '31 Count at Counter@1 inputs 0\n' > "$work/wanted_error"

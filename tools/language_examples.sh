@@ -1,7 +1,8 @@
 #!/usr/bin/env bash
 # The examples of docs/LANGUAGE.md and docs/ELEMENTS.md, the blocks that begin with ```click, in their order. What click_bench's parser reads in each is
 # compared with its line of examples/readings.txt, which has that and, after a tab, the example's first line. Where a line `Fault: ..` stands after the
-# block, the program has to refuse the example with it; every other example has to be served. The programs must have been built.
+# block, the program has to refuse the example with it; every other example has to be served. Then come the texts of examples/texts.txt, each behind
+# what is read in it and a tab, and texts of many connections. The programs must have been built.
 #
 #   tools/language_examples.sh [READINGS PAGE..]
 set -eu
@@ -56,3 +57,31 @@ for at in "${!texts[@]}"; do
 done
 same "${#texts[@]}" "${#lines[@]}" "the examples, and the lines of $readings"
 echo "$served examples of the pages served, $refused refused, each read as $(basename "$readings") says"
+
+# said WORD WANTED WHAT: what click_bench says of $work/text.
+said() {
+    ran "$bench" "$1" < "$work/text"
+    printf '%s\n' "$2" > "$work/wanted"
+    same_bytes "$work/wanted" "$work/out" "$3"
+    same_status 0 "$status" "$3"
+}
+read=0
+while IFS=$'\t' read -r reading text; do
+    printf '%s' "$text" > "$work/text"
+    said input "$reading" "what is read in: $text"
+    read=$((read + 1))
+done < "$top/examples/texts.txt"
+
+# crossed SOURCES SINKS: each source is joined to each sink by way of one compound.
+crossed() {
+    echo 'elementclass H { input -> output } h :: H;'
+    for _ in $(seq "$1"); do echo 'Idle -> h;'; done
+    for _ in $(seq "$2"); do echo 'h -> Discard;'; done
+}
+crossed 128 128 > "$work/text"
+said flat '256 elements, 16384 connections' 'as many connections as there may be'
+crossed 129 128 > "$work/text"
+said flat TooMany 'more connections than there may be'
+{ printf Idle; for _ in $(seq 4095); do printf ' -> Null'; done; } > "$work/text"
+said flat '4096 elements, 4095 connections' 'a long chain'
+echo "$read texts read as texts.txt says, and as many connections made as there may be"

@@ -1,8 +1,7 @@
 //! Tests of the arguments of each class.
 
-use click_classes::{
-    ArgFault, CLASSES, Class, Code, Side, State, class_of, code, counts, make, passes,
-};
+use click_classes::{ArgFault, Class, State, class_of, make};
+use click_packet::Packet;
 use std::alloc::Global;
 use std::process::Abort;
 use std::test::Fail;
@@ -419,36 +418,6 @@ fn makes(rt: HostRuntime) {
     make_rows(&rt, rt.alloc(), QUOTED_ROWS);
 }
 
-#[test]
-fn names(rt: HostRuntime) {
-    for class in CLASSES {
-        assert_eq!(rt; class_of(class.name()), Some(class));
-    }
-    assert_eq!(rt; class_of(b"queue".as_slice()), None);
-    assert_eq!(rt; class_of(b"".as_slice()), None);
-    assert_eq!(rt; class_of(b"Queues".as_slice()), None);
-}
-
-#[test]
-fn ports(rt: HostRuntime) {
-    let s = counts(&State::Switch { output: Some(255) });
-    assert_eq!(rt; (s.inputs, s.outputs, s.equal), ((1, 1), (256, 256), false));
-    let s = counts(&State::Switch { output: None });
-    assert_eq!(rt; s.outputs, (0, 256));
-    let s = counts(&State::Suppressor { active: [true; 16] });
-    assert_eq!(rt; (s.inputs, s.outputs, s.equal), ((1, 16), (1, 16), true));
-    assert_eq!(rt; code(Class::PullTee, Side::Output, 0), Code::Pull);
-    assert_eq!(rt; code(Class::PullTee, Side::Output, 1), Code::Push);
-    assert_eq!(rt; code(Class::CheckLength, Side::Output, 0), Code::Agnostic);
-    assert_eq!(rt; code(Class::CheckLength, Side::Output, 1), Code::Push);
-    assert_eq!(rt; code(Class::Queue, Side::Input, 0), Code::Push);
-    assert_eq!(rt; code(Class::Queue, Side::Output, 0), Code::Pull);
-    assert!(rt; passes(Class::Suppressor, 3, 3));
-    assert!(rt; !passes(Class::Suppressor, 3, 4));
-    assert!(rt; !passes(Class::Idle, 0, 0));
-    assert!(rt; passes(Class::Tee, 0, 7));
-}
-
 /// The text of a fault is its number and its name.
 #[test]
 fn fault_texts(rt: HostRuntime) -> Result<(), Fail> {
@@ -465,5 +434,25 @@ fn fault_texts(rt: HostRuntime) -> Result<(), Fail> {
         let shown = format!(in rt.alloc(); "{fault}")?;
         assert_eq!(rt; shown.as_str(), text);
     }
+    Ok(())
+}
+
+/// Counts stop at the greatest number.
+#[test]
+fn counts_no_further(rt: HostRuntime) -> Result<(), Fail> {
+    let mut packet = Packet::of(b"cdef")?;
+    let mut full = State::Counter {
+        count: u64::MAX,
+        byte_count: u64::MAX - 1,
+    };
+    let _passed = full.act(1, 0, &mut packet);
+    let stopped = matches!(
+        &full,
+        State::Counter {
+            count: u64::MAX,
+            byte_count: u64::MAX,
+        }
+    );
+    assert!(rt; stopped);
     Ok(())
 }

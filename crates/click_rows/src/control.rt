@@ -1,8 +1,6 @@
 //! Sessions with a port, a reader and a writer in memory.
 
-use click_control::{
-    Answer, AskFault, Command, Ended, Failed, Port, Reading, ServeFault, Writing, reply_text, serve,
-};
+use click_control::{AskFault, Ended, Failed, Port, Reading, ServeFault, Writing, serve};
 use click_router::{Call, Refusal, Reply};
 use click_text::sequence::Sequence;
 use std::alloc::{AllocError, Global};
@@ -132,66 +130,63 @@ fn replies(written: &[u8]) -> &[u8] {
     }
 }
 
+/// What is read, how the session ends, and what is written after the greeting.
+type SessionRow<'a> = (&'a [u8], Ended, &'a [u8]);
+
+const WANTED: &[u8] =
+    b"200 Read handler 'c.count' OK\r\nDATA 1\r\n0501 Unimplemented command 'FOO'\r\n200 Goodbye!\r\n";
+
+const SESSIONS: [SessionRow<'_>; 15] = [
+    (
+        b"READ x.count\r\n",
+        Ended::EndOfInput,
+        b"510 No element named 'x'\r\n",
+    ),
+    (
+        b"READ nodot\n",
+        Ended::EndOfInput,
+        b"510 No element named ''\r\n",
+    ),
+    (
+        b"READ c.none\n",
+        Ended::EndOfInput,
+        b"511 No handler named 'c.none'\r\n",
+    ),
+    (b"READ c.late\n", Ended::EndOfInput, b"520 History full\r\n"),
+    (
+        b"  read\tc.count  and text \n",
+        Ended::EndOfInput,
+        b"200 Read handler 'c.count' OK\r\nDATA 1\r\n0",
+    ),
+    (
+        b"FOO bar\n",
+        Ended::EndOfInput,
+        b"501 Unimplemented command 'FOO'\r\n",
+    ),
+    (b"READ \n", Ended::EndOfInput, b"500 Syntax error\r\n"),
+    (b"\n \t\r\n\r\r\n", Ended::EndOfInput, b""),
+    (b"READ c.none", Ended::EndOfInput, b""),
+    (b"", Ended::EndOfInput, b""),
+    (b"quit now\nREAD c.none\n", Ended::Quit, b"200 Goodbye!\r\n"),
+    // Any line ends.
+    (b"READ c.count\rFOO\rQUIT\r", Ended::Quit, WANTED),
+    (b"READ c.count\nFOO\nQUIT\n", Ended::Quit, WANTED),
+    (b"READ c.count\r\nFOO\r\nQUIT\r\n", Ended::Quit, WANTED),
+    (b"READ c.count\n\rFOO\r\n\nQUIT\rFOO\n", Ended::Quit, WANTED),
+];
+
+/// Bytes come and go in any pieces.
 #[test]
 fn answers_commands(rt: HostRuntime) -> Result<(), Fail> {
-    let cases: [(&[u8], &[u8]); 10] = [
-        (b"READ x.count\r\n", b"510 No element named 'x'\r\n"),
-        (b"READ nodot\n", b"510 No element named ''\r\n"),
-        (b"READ c.none\n", b"511 No handler named 'c.none'\r\n"),
-        (b"READ c.late\n", b"520 History full\r\n"),
-        (
-            b"  read\tc.count  and text \n",
-            b"200 Read handler 'c.count' OK\r\nDATA 1\r\n0",
-        ),
-        (b"FOO bar\n", b"501 Unimplemented command 'FOO'\r\n"),
-        (b"READ \n", b"500 Syntax error\r\n"),
-        (b"\n \t\r\n\r\r\n", b""),
-        (b"READ c.none", b""),
-        (b"", b""),
-    ];
-    for (input, want) in cases {
-        let (ended, written) = session(
-            rt.alloc(),
-            reader_of(input, 4096, 0),
-            writer_of(rt.alloc(), 4096, 0),
-        );
-        assert_eq!(rt; ended, Ok(Ended::EndOfInput));
-        assert_eq!(rt; replies(&written), want);
-    }
-    Ok(())
-}
-
-#[test]
-fn quits(rt: HostRuntime) -> Result<(), Fail> {
-    let (ended, written) = session(
-        rt.alloc(),
-        reader_of(b"quit now\nREAD c.none\n", 4096, 0),
-        writer_of(rt.alloc(), 4096, 0),
-    );
-    assert_eq!(rt; ended, Ok(Ended::Quit));
-    assert_eq!(rt; replies(&written), b"200 Goodbye!\r\n".as_slice());
-    Ok(())
-}
-
-#[test]
-fn takes_any_line_ends_in_any_pieces(rt: HostRuntime) -> Result<(), Fail> {
-    let inputs: [&[u8]; 4] = [
-        b"READ c.count\rFOO\rQUIT\r",
-        b"READ c.count\nFOO\nQUIT\n",
-        b"READ c.count\r\nFOO\r\nQUIT\r\n",
-        b"READ c.count\n\rFOO\r\n\nQUIT\rFOO\n",
-    ];
-    let want =
-        b"200 Read handler 'c.count' OK\r\nDATA 1\r\n0501 Unimplemented command 'FOO'\r\n200 Goodbye!\r\n";
-    for input in inputs {
+    for (input, ends, want) in SESSIONS {
         for size in [1, 2, 3, 4096] {
             let (ended, written) = session(
                 rt.alloc(),
                 reader_of(input, size, 0),
                 writer_of(rt.alloc(), size, 0),
             );
-            assert_eq!(rt; ended, Ok(Ended::Quit));
-            assert_eq!(rt; replies(&written), want.as_slice());
+            assert_eq!(rt; ended, Ok(ends));
+            assert_eq!(rt; replies(&written), want);
         }
     }
     Ok(())
@@ -209,38 +204,30 @@ fn long_line(alloc: Global, len: usize) -> Result<Vec<u8>, AllocError> {
     Ok(line)
 }
 
+/// The longest line; one byte more; and that byte alone, whose line end has not come.
 #[test]
 fn ends_at_a_line_that_is_too_long(rt: HostRuntime) -> Result<(), Fail> {
-    let longest = long_line(rt.alloc(), 65_536)?;
-    let (ended, written) = session(
-        rt.alloc(),
-        reader_of(&longest, 1000, 0),
-        writer_of(rt.alloc(), 4096, 0),
-    );
-    assert_eq!(rt; ended, Ok(Ended::Quit));
-    assert_eq!(rt;
-        replies(&written),
-        b"501 Unimplemented command 'FOO'\r\n200 Goodbye!\r\n".as_slice()
-    );
-
-    let mut longer = long_line(rt.alloc(), 65_537)?;
-    let want = b"500 Line too long\r\n".as_slice();
-    let (ended, written) = session(
-        rt.alloc(),
-        reader_of(&longer, 1000, 0),
-        writer_of(rt.alloc(), 4096, 0),
-    );
-    assert_eq!(rt; ended, Ok(Ended::TooLong));
-    assert_eq!(rt; replies(&written), want);
-    // The byte that makes it too long decides, though its end has not come.
-    longer.truncate(65_537);
-    let (ended, written) = session(
-        rt.alloc(),
-        reader_of(&longer, 1, 0),
-        writer_of(rt.alloc(), 4096, 0),
-    );
-    assert_eq!(rt; ended, Ok(Ended::TooLong));
-    assert_eq!(rt; replies(&written), want);
+    let rows: [(usize, usize, Ended, &[u8]); 3] = [
+        (
+            65_536,
+            70_000,
+            Ended::Quit,
+            b"501 Unimplemented command 'FOO'\r\n200 Goodbye!\r\n",
+        ),
+        (65_537, 70_000, Ended::TooLong, b"500 Line too long\r\n"),
+        (65_537, 65_537, Ended::TooLong, b"500 Line too long\r\n"),
+    ];
+    for (len, kept, ends, want) in rows {
+        let mut line = long_line(rt.alloc(), len)?;
+        line.truncate(kept);
+        let (ended, written) = session(
+            rt.alloc(),
+            reader_of(&line, 1000, 0),
+            writer_of(rt.alloc(), 4096, 0),
+        );
+        assert_eq!(rt; ended, Ok(ends));
+        assert_eq!(rt; replies(&written), want);
+    }
     Ok(())
 }
 
@@ -331,27 +318,6 @@ fn replies_before_the_next_read(rt: HostRuntime) {
     let mut writer = Writing::new(Counting { written: &written });
     let ended = serve(rt.alloc(), &mut reader, &mut writer, &mut OneCounter, true);
     assert_eq!(rt; ended, Ok(Ended::Quit));
-}
-
-#[test]
-fn has_no_text_for_an_answer_that_cannot_be(rt: HostRuntime) -> Result<(), Fail> {
-    let failed = Answer::Failed(AskFault::NoMemory);
-    assert_eq!(rt; reply_text(rt.alloc(), &Command::Quit, &failed)?.len(), 0);
-    let word = Sequence::of(Vec::from_slice(rt.alloc(), b"FOO")?);
-    assert_eq!(rt;
-        reply_text(rt.alloc(), &Command::Unknown { word }, &failed)?.len(),
-        0
-    );
-    let read = Command::Read {
-        handler: Sequence::of(Vec::from_slice(rt.alloc(), b"c.count")?),
-        text: Sequence::new(rt.alloc()),
-    };
-    assert_eq!(rt; reply_text(rt.alloc(), &read, &Answer::NoCall)?.len(), 0);
-    assert_eq!(rt;
-        reply_text(rt.alloc(), &read, &failed)?.as_slice(),
-        b"520 Out of memory\r\n".as_slice()
-    );
-    Ok(())
 }
 
 /// A reply of many bytes is written in full, however many of them a write takes.

@@ -2,8 +2,6 @@
 #![tactic(auto)]
 
 #[cfg(test)]
-mod acting;
-#[cfg(test)]
 mod arguments;
 #[cfg(test)]
 mod classes;
@@ -16,8 +14,6 @@ mod packet;
 #[cfg(test)]
 mod ports;
 #[cfg(test)]
-mod router;
-#[cfg(test)]
-mod rows;
+mod tables;
 #[cfg(test)]
 mod text;

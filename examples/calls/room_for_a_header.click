@@ -1,0 +1,1 @@
+FromDevice(a) -> e :: EtherEncap(0x0800, 1:1:1:1:1:1, 2:2:2:2:2:2) -> c :: Counter -> e; FromDevice(b) -> f :: EtherEncap(0x0800, 1:1:1:1:1:1, 2:2:2:2:2:2) -> l :: CheckLength(1586) -> f; l [1] -> q :: Queue -> EtherEncap(0x0800, 1:1:1:1:1:1, 2:2:2:2:2:2) -> ToDevice(d);

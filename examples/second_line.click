@@ -1,0 +1,3 @@
+a :: Idle;
+// again
+ a :: Counter;
