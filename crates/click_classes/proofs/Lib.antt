@@ -5,6 +5,9 @@ pub mod LongestFirst
 pub mod AddressWords
 pub mod RowSteps
 pub mod Short
+pub mod ByteWords
+pub mod ReadySteps
+pub mod StepLists
 pub mod Tables
 pub mod Lists
 pub mod Names

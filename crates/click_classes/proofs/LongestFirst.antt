@@ -1,5 +1,5 @@
 -- Of entries the longest first, the first that covers an address is its route.
-use Rattle.std.proofs.Common.{◌≡◌, ◌==◌, ℕ, zero, suc, ◌<◌, ◌≤◌, List, [], ◌∷◌, ◌++◌, Bool, true, false, Option, Some, None, nat_lt, refl, sym, ap, ◌∙◌, arith, inl, inr}
+use Rattle.std.proofs.Common.{◌≡◌, ◌==◌, ℕ, zero, suc, ◌<◌, ◌≤◌, List, [], ◌∷◌, ◌++◌, true, false, Option, Some, None, nat_lt, refl, sym, ap, ◌∙◌, arith, inl, inr}
 use Rattle.std.specs.Prelude.{map, if◌then◌else◌}
 use Rattle.std.specs.List.{All, filter}
 use Rattle.std.proofs.lemmas.Bool.{cases_Bool, cases_lt}
@@ -8,7 +8,7 @@ use Rattle.std.proofs.lemmas.List.Elements.{All-head, All-tail}
 use Rattle.click_classes.specs.declared.values.entry.Entry.{Entry}
 use Rattle.click_classes.specs.declared.routes.Row.{Row}
 use Rattle.click_classes.specs.Routes.{covers, longer, route}
-use Rattle.click_classes.specs.kept.Rows.{IsAddress, word, IsShort, has_len, longest_first, entry_of, fits, IsReady, first_found}
+use Rattle.click_classes.specs.kept.Rows.{IsAddress, word, IsShort, has_len, longest_first, entry_of, IsReady, first_found}
 
 -- the first of two that is there
 either : Option Entry → Option Entry → Option Entry

@@ -1,7 +1,7 @@
 -- The prefixes of a table have lengths up to 32.
-use Rattle.std.proofs.Common.{◌≡◌, ◌==◌, ℕ, ◌+◌, ◌≤◌, List, [], ◌∷◌, ◌++◌, length, Bool, true, false, Option, Some, None, Result, Ok, Err, take, drop, refl, sym, ap, ◌∙◌, arith, inl, inr}
-use Rattle.std.specs.Prelude.{nat_le, position, if◌then◌else◌}
-use Rattle.std.specs.List.{All, list_all}
+use Rattle.std.proofs.Common.{◌≡◌, ◌==◌, ℕ, ◌+◌, ◌≤◌, List, [], ◌∷◌, length, Option, Some, None, Result, Ok, Err, take, drop, refl, sym, arith, inl, inr}
+use Rattle.std.specs.Prelude.{nat_le, position}
+use Rattle.std.specs.List.{All}
 use Rattle.std.proofs.lemmas.Bool.{cases_Bool}
 use Rattle.std.proofs.lemmas.Bool.Decides.{nat_tests}
 use Rattle.std.proofs.lemmas.List.Elements.{All-nil, All-push}
@@ -10,7 +10,6 @@ use Rattle.click_classes.specs.declared.fault.ArgFault.{ArgFault}
 use Rattle.click_classes.specs.declared.values.entry.Entry.{Entry}
 use Rattle.click_classes.specs.declared.values.prefix.Prefix.{Prefix}
 use Rattle.click_classes.specs.Entries.{word, entry_of, entry, with_entry, table}
-use Rattle.click_classes.specs.Steps.{◌>>=◌}
 use Rattle.click_classes.specs.Values.{address, at_most, cleared, decimal_in, is_run, number_in, prefix, prefix_at, prefix_of, spelled, whole}
 use Rattle.click_classes.specs.kept.Rows.{IsShort}
 use Rattle.click_classes.proofs.Uses.{both_ok, with_entry_is}

@@ -98,7 +98,8 @@ fn rows_of(alloc: Global, entries: &[Entry]) -> Result<Vec<Row>, AllocError>
     Ok(rows)
 }
 
-/// The entry of the first row that tells the bits of the address.
+/// The entry of the first row that tells the bits of the address. It stands alone, so that nothing else takes part in its loop.
+#[inline(never)]
 fn first_found(rows: &[Row], word: u32) -> Option<Entry>
     ensures { result ≡ first_found rows.now word }
 {

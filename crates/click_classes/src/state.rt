@@ -5,8 +5,8 @@ ghost use Rattle.click_classes.specs.State.{class};
 
 use crate::class::Class;
 use crate::packet_list::PacketList;
+use crate::patterns::Patterns;
 use crate::routes::Routes;
-use crate::values::pattern::Pattern;
 use click_text::sequence::Sequence;
 
 /// A state of each class, with the values that its arguments and its handlers have.
@@ -80,7 +80,7 @@ pub enum State {
     },
     /// The pattern of each output.
     Classifier {
-        patterns: Sequence<Pattern>,
+        patterns: Patterns,
     },
     /// Where the address begins.
     GetIPAddress {

@@ -5,12 +5,12 @@ ghost use Rattle.click_classes.specs.Made.{ByWords};
 ghost use Rattle.click_classes.specs.Patterns.{pattern};
 ghost use Rattle.click_classes.specs.Steps.{each, OrNoMemory};
 ghost use Rattle.click_classes.specs.kept.Answers.{IsOrNoMemory};
-ghost use Rattle.std.specs.Prelude.{◌≡◌, ◌<◌, length, position, IfSome};
+ghost use Rattle.std.specs.Prelude.{◌≡◌, ◌<◌, IfSome};
 ghost use Rattle.click_classes.specs.Acts.{classified};
-ghost use Rattle.click_classes.specs.Matches.{matches};
 
 use crate::arguments::Arguments;
 use crate::fault::ArgFault;
+use crate::patterns::Patterns;
 use crate::state::State;
 use crate::values::pattern::{Pattern, read_pattern};
 use click_packet::Packet;
@@ -51,25 +51,15 @@ pub fn make_classifier(alloc: Global, arguments: &Arguments) -> Result<State, Ar
         return Err(ArgFault::ArgumentCount);
     }
     let words = arguments.words(alloc)?;
-    let patterns = patterns(alloc, words.as_slice())?;
+    let written = patterns(alloc, words.as_slice())?;
+    let patterns = Patterns::of(alloc, written)?;
     Ok(State::Classifier { patterns })
 }
 
-/// The place of the first pattern that bytes match.
-fn first_match(patterns: &[Pattern], bytes: &[u8]) -> Option<usize>
-    ensures place { result ≡ position (λ p. matches p bytes.now) patterns.now }
-    ensures bound { IfSome result (λ place. place < length patterns.now) }
-{
-    patterns.iter().position(|pattern| pattern.matches(bytes))
-}
-
 /// The output of the first pattern that a packet matches, of 256 at most.
-#[inline(never)]
-pub fn classify(patterns: &Sequence<Pattern>, packet: &Packet) -> Option<usize>
+pub fn classify(patterns: &Patterns, packet: &Packet) -> Option<usize>
     ensures output { result ≡ classified patterns.now packet.now.bytes }
     ensures bound { IfSome result (λ output. output < 256) }
 {
-    let patterns = patterns.as_slice();
-    let most = 256_usize.min(patterns.len());
-    first_match(&patterns[..most], packet.bytes())
+    patterns.first_match(packet.bytes())
 }

@@ -3,7 +3,6 @@
 ghost use Rattle.std.specs.Prelude.{◌≡◌, ◌≤◌, length, replicate, Ok};
 ghost use Rattle.std.specs.List.{list_all};
 ghost use Rattle.click_classes.specs.Patterns.{pattern_digit, value_of, counted_bits, mask_of, are_digits, is_mask, clause_of, unsigned, clause, is_dash, pattern};
-ghost use Rattle.click_classes.specs.Matches.{agrees, holds, matches};
 ghost use Rattle.click_classes.specs.Steps.{each};
 ghost use Rattle.click_classes.specs.kept.Answers.{IsOrNoMemory};
 
@@ -200,39 +199,4 @@ pub fn read_pattern(alloc: Global, words: &[Sequence<u8>]) -> Result<Pattern, Ar
     }
     let clauses = clauses(alloc, words)?;
     Ok(Pattern { clauses })
-}
-
-/// The bytes of the value are there, and agree with it in each bit of the mask.
-fn agrees(bytes: &[u8], value: &[u8], mask: &[u8]) -> bool
-    ensures { result ≡ agrees bytes.now value.now mask.now }
-{
-    let len = value.len().min(mask.len());
-    for at in 0..len {
-        if at >= bytes.len() || bytes[at] & mask[at] != value[at] & mask[at] {
-            return false;
-        }
-    }
-    true
-}
-
-impl Clause {
-    /// Whether it holds of a packet's bytes.
-    fn holds(&self, bytes: &[u8]) -> bool
-        ensures { result ≡ holds self.now bytes.now }
-    {
-        let rest = &bytes[bytes.len().min(usize::from(self.offset))..];
-        agrees(rest, self.value.as_slice(), self.mask.as_slice()) != self.negated
-    }
-}
-
-impl Pattern {
-    /// Whether a packet's bytes match it: each clause holds.
-    pub fn matches(&self, bytes: &[u8]) -> bool
-        ensures { result ≡ matches self.now bytes.now }
-    {
-        self.clauses
-            .as_slice()
-            .iter()
-            .all(|clause| clause.holds(bytes))
-    }
 }

@@ -1,4 +1,3 @@
-use Rattle.std.proofs.Common.{rules, ap, sym, ◌∙◌}
 use Rattle.click_classes.proofs.AddressWords.{masked_covers}
 use Rattle.click_classes.proofs.routes.row_of.Goals as goal
 

@@ -1,0 +1,258 @@
+//! The patterns of a Classifier, made ready for its packets.
+
+ghost use Rattle.std.specs.Prelude.{◌≡◌, ◌≤◌, ◌<◌, ◌+◌, ◌^◌, ◌&&◌, nat_le, length, drop, IfOk, IfSome};
+ghost use Rattle.std.specs.List.{list_all};
+ghost use Rattle.click_classes.specs.Acts.{classified};
+ghost use Rattle.click_classes.specs.kept.Masks.{word, at_place, behind, fits, step_holds, test_holds, tests_hold, first_ready, IsStep, AreSteps, IsTest, AreTests};
+
+use crate::values::pattern::{Clause, Pattern};
+use click_text::sequence::Sequence;
+use std::alloc::{AllocError, Global};
+use std::marker::Model;
+
+/// That a packet reaches to an end, and that its eight bytes from a place on, as a number, agree with the value in each bit
+/// of the mask.
+#[derive(Clone, Copy, Debug, PartialEq, Eq)]
+struct Step {
+    at: usize,
+    end: usize,
+    mask: u64,
+    value: u64,
+}
+
+/// A clause: that each step holds; negated, that one does not.
+#[derive(Drop)]
+struct Test {
+    negated: bool,
+    first: Step,
+    rest: Sequence<Step>,
+}
+
+/// The patterns as written, and the tests of each.
+#[derive(Drop)]
+pub struct Patterns {
+    written: Sequence<Pattern>,
+    ready: Sequence<Sequence<Test>>,
+}
+
+impl Model for Patterns {
+    ghost use Rattle.std.specs.Prelude.{List};
+    ghost use Rattle.std.specs.List.{AllZip};
+    ghost use Rattle.click_classes.specs.declared.values.pattern.Pattern.{Pattern};
+    ghost use Rattle.click_classes.specs.kept.Masks.{AreTests};
+
+    ghost Value = { List Pattern };
+
+    ghost view = { λ p. p.written };
+
+    ghost invariant = { λ p. AllZip AreTests p.written p.ready };
+}
+
+/// The byte at a place of bytes that stand behind `lead` others; 0 where there is none.
+fn byte_behind(bytes: &[u8], lead: usize, at: usize) -> u8
+    ensures { result ≡ behind lead bytes.now at }
+{
+    if lead <= at && at - lead < bytes.len() {
+        bytes[at - lead]
+    } else {
+        0
+    }
+}
+
+/// Eight bytes as a number: those that stand behind `lead` others, and 0 where there are none.
+#[tactic(auto, unfolding(crate::specs::kept::Masks::word))]
+#[inline(never)]
+fn word_behind(bytes: &[u8], lead: usize) -> u64
+    ensures { result ≡ word (behind lead bytes.now) 8 }
+{
+    u64::from_le_bytes([
+        byte_behind(bytes, lead, 0),
+        byte_behind(bytes, lead, 1),
+        byte_behind(bytes, lead, 2),
+        byte_behind(bytes, lead, 3),
+        byte_behind(bytes, lead, 4),
+        byte_behind(bytes, lead, 5),
+        byte_behind(bytes, lead, 6),
+        byte_behind(bytes, lead, 7),
+    ])
+}
+
+/// Eight bytes as a number, from a place on.
+#[tactic(auto, unfolding(crate::specs::kept::Masks::word))]
+#[inline(always)]
+fn word_at(bytes: &[u8], at: usize) -> u64
+    requires { at + 8 ≤ length bytes.now }
+    ensures { result ≡ word (at_place at bytes.now) 8 }
+{
+    u64::from_le_bytes([
+        bytes[at],
+        bytes[at + 1],
+        bytes[at + 2],
+        bytes[at + 3],
+        bytes[at + 4],
+        bytes[at + 5],
+        bytes[at + 6],
+        bytes[at + 7],
+    ])
+}
+
+/// The step of up to eight bytes of a clause, which a packet has to have from the offset on.
+fn step_of(offset: usize, value: &[u8], mask: &[u8]) -> Step
+    requires same { length value.now ≡ length mask.now }
+    requires few { length value.now ≤ 8 }
+    requires fits { offset + 8 < 2 ^ 64 }
+    ensures { IsStep offset value.now mask.now result }
+{
+    let end = if value.is_empty() {
+        0
+    } else {
+        offset + value.len()
+    };
+    let at = end.saturating_sub(8);
+    let mask = word_behind(mask, offset - at);
+    Step {
+        at,
+        end,
+        mask,
+        value: word_behind(value, offset - at) & mask,
+    }
+}
+
+/// The further steps of a clause, from so many of its bytes on.
+fn steps_of(
+    alloc: Global,
+    offset: usize,
+    value: &[u8],
+    mask: &[u8],
+    from: usize,
+) -> Result<Sequence<Step>, AllocError>
+    requires { offset < 2 ^ 16 }
+    ensures { IfOk result (λ steps. AreSteps (offset + from) (drop from value.now) (drop from mask.now) steps) }
+{
+    let len = value.len().min(mask.len());
+    let mut steps = Sequence::new(alloc);
+    let mut at = from;
+    while at < len {
+        let end = at + (len - at).min(8);
+        steps.push(step_of(offset + at, &value[at..end], &mask[at..end]))?;
+        at = end;
+    }
+    Ok(steps)
+}
+
+/// The test of a clause.
+fn test_of(alloc: Global, clause: &Clause) -> Result<Test, AllocError>
+    ensures { IfOk result (λ test. IsTest clause.now test) }
+{
+    let offset = usize::from(clause.offset);
+    let value = clause.value.as_slice();
+    let mask = clause.mask.as_slice();
+    let end = value.len().min(mask.len()).min(8);
+    Ok(Test {
+        negated: clause.negated,
+        first: step_of(offset, &value[..end], &mask[..end]),
+        rest: steps_of(alloc, offset, value, mask, end)?,
+    })
+}
+
+/// The tests of a pattern.
+fn tests_of(alloc: Global, pattern: &Pattern) -> Result<Sequence<Test>, AllocError>
+    ensures { IfOk result (λ tests. AreTests pattern.now tests) }
+{
+    let clauses = pattern.clauses.as_slice();
+    let mut tests = Sequence::new(alloc);
+    for clause in clauses {
+        tests.push(test_of(alloc, clause)?)?;
+    }
+    Ok(tests)
+}
+
+impl Step {
+    /// Whether it holds of a packet that has not eight bytes from its place on.
+    #[inline(never)]
+    fn holds_at_the_end(&self, bytes: &[u8]) -> bool
+        ensures { result ≡ (nat_le self.now.end (length bytes.now) && fits self.now bytes.now) }
+    {
+        let rest = &bytes[bytes.len().min(self.at)..];
+        self.end <= bytes.len() && word_behind(rest, 0) & self.mask == self.value
+    }
+
+    /// Whether it holds of a packet's bytes.
+    #[inline(always)]
+    fn holds(&self, bytes: &[u8]) -> bool
+        ensures { result ≡ step_holds self.now bytes.now }
+    {
+        if bytes.len() >= 8 && self.at <= bytes.len() - 8 {
+            word_at(bytes, self.at) & self.mask == self.value
+        } else {
+            self.holds_at_the_end(bytes)
+        }
+    }
+}
+
+/// Whether all steps hold of a packet's bytes.
+#[inline(always)]
+fn steps_hold(steps: &Sequence<Step>, bytes: &[u8]) -> bool
+    ensures { result ≡ list_all (λ s. step_holds s bytes.now) steps.now }
+{
+    steps.as_slice().iter().all(|step| step.holds(bytes))
+}
+
+impl Test {
+    /// Whether it holds of a packet's bytes.
+    #[inline(always)]
+    fn holds(&self, bytes: &[u8]) -> bool
+        ensures { result ≡ test_holds self.now bytes.now }
+    {
+        let found = self.first.holds(bytes) && steps_hold(&self.rest, bytes);
+        found != self.negated
+    }
+}
+
+/// Whether all tests hold of a packet's bytes.
+#[inline(always)]
+fn tests_hold(tests: &Sequence<Test>, bytes: &[u8]) -> bool
+    ensures { result ≡ tests_hold tests.now bytes.now }
+{
+    tests.as_slice().iter().all(|test| test.holds(bytes))
+}
+
+/// The place of the first pattern whose tests all hold.
+fn first_ready(ready: &[Sequence<Test>], bytes: &[u8]) -> Option<usize>
+    ensures place { result ≡ first_ready ready.now bytes.now }
+    ensures bound { IfSome result (λ place. place < length ready.now) }
+{
+    ready.iter().position(|tests| tests_hold(tests, bytes))
+}
+
+impl Patterns {
+    /// These patterns.
+    pub(crate) fn of(alloc: Global, written: Sequence<Pattern>) -> Result<Patterns, AllocError>
+        ensures { IfOk result (λ patterns. patterns ≡ written) }
+    {
+        let patterns = written.as_slice();
+        let mut ready = Sequence::new(alloc);
+        for pattern in patterns {
+            ready.push(tests_of(alloc, pattern)?)?;
+        }
+        Ok(Patterns { written, ready })
+    }
+
+    /// How many patterns there are.
+    pub fn len(&self) -> usize
+        ensures { result ≡ length self.now }
+    {
+        self.written.len()
+    }
+
+    /// The place of the first pattern that bytes match, of the first 256.
+    #[inline(never)]
+    pub(crate) fn first_match(&self, bytes: &[u8]) -> Option<usize>
+        ensures place { result ≡ classified self.now bytes.now }
+        ensures bound { IfSome result (λ place. place < 256) }
+    {
+        let ready = self.ready.as_slice();
+        let most = 256_usize.min(ready.len());
+        first_ready(&ready[..most], bytes)
+    }
+}
