@@ -29,11 +29,14 @@ pub fn header_len(bytes: &[u8]) -> Option<usize>
 pub fn is_good(bytes: &[u8], refused: &[[u8; 4]]) -> bool
     ensures { result ≡ header_good bytes.now refused.now }
 {
-    let Some(len) = header_len(bytes) else {
+    if bytes.len() < 20 {
         return false;
-    };
+    }
+    let first = bytes[0];
+    let len = usize::from(first % 16) * 4;
     let total = usize::from(bytes[2]) * 256 + usize::from(bytes[3]);
-    if bytes[0] / 16 != 4 || total < len || bytes.len() < total {
+    // The first byte tells version 4 and a length of at least 20 bytes.
+    if first < 0x45 || 0x4f < first || total < len || bytes.len() < total {
         return false;
     }
     if !sums_to_ones(&bytes[..len]) {
