@@ -23,3 +23,7 @@ pub prepended : (front rest bytes : List ℕ) (len : ℕ) → bytes ≡ front ++
 prepended front rest bytes len e =
     let n : len + length front ≡ length front + len = omega arith in
     rw (e, n) (take-append-add front rest len)
+
+-- how many bytes there are
+pub held : (xs : List ℕ) (start len : ℕ) → start + len ≤ length xs → length (take len (drop start xs)) ≡ len
+held xs start len h = length-take-le len (drop start xs) (omega (arith, length-drop start xs))
