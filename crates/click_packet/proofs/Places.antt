@@ -32,3 +32,7 @@ refilled xs ys e =
     ∙ ap (λ zs. take (length xs) zs) (append-nil ys)
     ∙ ap (λ n. take n ys) (sym e)
     ∙ take-length ys
+
+-- how many bytes there are
+pub held : (xs : List ℕ) (start len : ℕ) → start + len ≤ length xs → length (take len (drop start xs)) ≡ len
+held xs start len h = length-take-le len (drop start xs) (omega (arith, length-drop start xs))

@@ -45,17 +45,25 @@ pub fn is_good(bytes: &[u8], refused: &[[u8; 4]]) -> bool
     is_welcome(bytes, refused)
 }
 
-/// Whether the source address of a header is none of `refused`.
+/// Whether the source address of a header is none of `refused`. Mostly nobody is, and then no address is read.
 fn is_welcome(bytes: &[u8], refused: &[[u8; 4]]) -> bool
     requires { 16 ≤ length bytes.now }
     ensures { result ≡ not (list_any (λ address. bytes_eq address (source bytes.now)) refused.now) }
 {
-    // Mostly nobody is refused, and then no address is read.
     if refused.is_empty() {
         return true;
     }
+    !is_from(bytes, refused)
+}
+
+/// Whether the source address of a header is one of these.
+#[inline(never)]
+fn is_from(bytes: &[u8], addresses: &[[u8; 4]]) -> bool
+    requires { 16 ≤ length bytes.now }
+    ensures { result ≡ list_any (λ address. bytes_eq address (source bytes.now)) addresses.now }
+{
     let source = [bytes[12], bytes[13], bytes[14], bytes[15]];
-    !refused.contains(&source)
+    addresses.contains(&source)
 }
 
 /// Sets byte 8 and the checksum that goes with it.
