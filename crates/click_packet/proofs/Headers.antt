@@ -20,17 +20,6 @@ pub sum_of_words-field : (xs : List ℕ) (w : ℕ) → 12 ≤ length xs →
 sum_of_words-field xs w long =
     omega (arith, total-field xs w long, sum_of_words-total xs, sum_of_words-total (with_checksum_field xs w))
 
--- the sum with the checksum field zero, without writing it
-pub field_within : (xs : List ℕ) → 12 ≤ length xs → checksum_field xs ≤ sum_of_words xs
-field_within xs long = omega (arith, sum_of_words-field xs 0 long)
-
-pub checksum_is : (xs : List ℕ) → 12 ≤ length xs → 65535 - ones_sum (sum_of_words xs - checksum_field xs) ≡ checksum xs
-unfolding checksum
-checksum_is xs long =
-    let e : sum_of_words xs - checksum_field xs ≡ sum_of_words (with_checksum_field xs 0) =
-    omega (arith, sum_of_words-field xs 0 long) in
-    ap (λ n. 65535 - ones_sum n) e
-
 pub header_len-some : (bytes : List ℕ) → 20 ≤ stated_len bytes → stated_len bytes ≤ length bytes → header_len bytes ≡ Some (stated_len bytes)
 unfolding header_len
 header_len-some bytes low high = grind (arith, nat_tests)

@@ -1,7 +1,8 @@
 -- Facts on the bytes of a packet where they lie.
 use Rattle.std.proofs.Common.{◌≡◌, ℕ, ◌+◌, ◌-◌, ◌≤◌, min, List, ◌++◌, length, take, drop, sym, ◌∙◌, ap, arith, length-drop, length-take-le, drop-drop}
-use Rattle.std.proofs.Math.Seq.{take-append-add}
-use Rattle.std.proofs.lemmas.List.{drop_min, drop-take}
+use Rattle.std.proofs.Math.Seq.{take-append-add, take-length}
+use Rattle.std.proofs.Math.ListN.{drop_of_length-le}
+use Rattle.std.proofs.lemmas.List.{append-nil, drop_min, drop-take}
 
 -- the bytes that are left after the first ones
 pub stripped : (xs : List ℕ) (start len count : ℕ) → start + len ≤ length xs →
@@ -23,3 +24,15 @@ pub prepended : (front rest bytes : List ℕ) (len : ℕ) → bytes ≡ front ++
 prepended front rest bytes len e =
     let n : len + length front ≡ length front + len = omega arith in
     rw (e, n) (take-append-add front rest len)
+
+-- a list that is written back whole
+pub refilled : (xs ys : List ℕ) → length ys ≡ length xs → take (length xs) (ys ++ drop (length ys) xs) ≡ ys
+refilled xs ys e =
+    ap (λ zs. take (length xs) (ys ++ zs)) (drop_of_length-le xs (omega (arith, e)))
+    ∙ ap (λ zs. take (length xs) zs) (append-nil ys)
+    ∙ ap (λ n. take n ys) (sym e)
+    ∙ take-length ys
+
+-- how many bytes there are
+pub held : (xs : List ℕ) (start len : ℕ) → start + len ≤ length xs → length (take len (drop start xs)) ≡ len
+held xs start len h = length-take-le len (drop start xs) (omega (arith, length-drop start xs))

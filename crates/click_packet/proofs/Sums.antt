@@ -1,8 +1,7 @@
 -- Facts on ones' complement sums.
-use Rattle.std.proofs.Common.{◌≡◌, ℕ, zero, suc, ◌+◌, ◌-◌, ◌*◌, ◌/◌, ◌%◌, ◌^◌, ◌<◌, ◌≤◌, List, [], ◌∷◌, length, get_or, drop, fold, ◌⊎◌, inl, inr, ⊎_elim, refl, sym, ◌∙◌, ap, add-zero, zero-add, arith}
+use Rattle.std.proofs.Common.{◌≡◌, ℕ, zero, suc, ◌+◌, ◌-◌, ◌*◌, ◌/◌, ◌%◌, ◌<◌, ◌≤◌, List, [], ◌∷◌, get_or, fold, ◌⊎◌, inl, inr, ⊎_elim, refl, sym, ◌∙◌, ap, add-zero, zero-add, arith}
 use Rattle.std.proofs.lemmas.Bool.Decides.{nat_tests}
 use Rattle.std.proofs.lemmas.Bool.{cases_lt, cases_eq}
-use Rattle.std.proofs.lemmas.List.{drop_more}
 use Rattle.std.proofs.lemmas.List.Sums.{sum_by-cons}
 use Rattle.click_packet.specs.Checksum.{words, sum_of_words, ones_sum, ones_add, IsOnesSum}
 
@@ -24,20 +23,6 @@ ones_sum_at n s k low high e =
     let same : (n - 1) % 65535 + 1 ≡ s = omega arith in
     ones_sum-positive n positive ∙ same
 
--- twice what goes past 16 bits is added to them
-pub fold-ones : (n : ℕ) → n < 2 ^ 32 →
-    (n % 65536 + n / 65536) % 65536 + (n % 65536 + n / 65536) / 65536 ≡ ones_sum n
-fold-ones zero h = sym ones_sum-zero
-fold-ones (suc m) h =
-    let n : ℕ = suc m in
-    let q : ℕ = n / 65536 in
-    let once : ℕ = n % 65536 + q in
-    let twice : ℕ = once % 65536 + once / 65536 in
-    let low : 0 < twice = omega arith in
-    let high : twice ≤ 65535 = omega arith in
-    let e : n ≡ 65535 * (q + once / 65536) + twice = omega arith in
-    sym (ones_sum_at n twice (q + once / 65536) low high e)
-
 -- the sum of the words, the first word first
 abbrev pub total : List ℕ → ℕ
 total [] = 0
@@ -49,17 +34,6 @@ sum_of_words-total [] = refl
 sum_of_words-total (high ∷ []) = omega arith
 sum_of_words-total (high ∷ low ∷ rest) =
     sum_by-cons (λ x. x) (high * 256 + low) (words rest) ∙ ap (λ n. high * 256 + low + n) (sum_of_words-total rest)
-
--- the next word of a list from a place on
-pub sum_of_words-drop : (xs : List ℕ) (i : ℕ) → 2 * i + 1 < length xs →
-    sum_of_words (drop (2 * i) xs)
-    ≡ get_or xs (2 * i) 0 * 256 + get_or xs (2 * i + 1) 0 + sum_of_words (drop (2 * (i + 1)) xs)
-sum_of_words-drop xs i h =
-    let first : 2 * i < length xs = omega arith in
-    let e = drop_more xs (2 * i) 0 first in
-    let f = drop_more xs (2 * i + 1) 0 h in
-    let n : 2 * i + 1 + 1 ≡ 2 * (i + 1) = omega arith in
-    rw (e, f, n) (sum_by-cons (λ x. x) (get_or xs (2 * i) 0 * 256 + get_or xs (2 * i + 1) 0) (words (drop (2 * (i + 1)) xs)))
 
 -- what a number's ones' complement sum says of it
 pub ones_sum-is : (n : ℕ) → 0 < n → (n ≡ 65535 * ((n - 1) / 65535) + ones_sum n) × (0 < ones_sum n) × (ones_sum n ≤ 65535)
@@ -152,7 +126,3 @@ complement_from_sum (suc n) w short e =
     let i = ones_sum-is (suc n) (omega arith) in
     let j = ones_sum-is (suc n + w) (omega arith) in
     ⊎_elim (λ h. inr (omega (arith, i.0, i.1, i.2, j.0, e, h), h)) (λ h. inl (omega (arith, i.0, i.1, i.2, j.0, e, h))) (cases_eq w 65535)
-
-pub ruleset folding = (fold-ones)
-
-pub ruleset word_steps = (sum_of_words-drop)

@@ -29,11 +29,14 @@ pub fn header_len(bytes: &[u8]) -> Option<usize>
 pub fn is_good(bytes: &[u8], refused: &[[u8; 4]]) -> bool
     ensures { result ≡ header_good bytes.now refused.now }
 {
-    let Some(len) = header_len(bytes) else {
+    if bytes.len() < 20 {
         return false;
-    };
+    }
+    let first = bytes[0];
+    let len = usize::from(first % 16) * 4;
     let total = usize::from(bytes[2]) * 256 + usize::from(bytes[3]);
-    if bytes[0] / 16 != 4 || total < len || bytes.len() < total {
+    // The first byte tells version 4 and a length of at least 20 bytes.
+    if first < 0x45 || 0x4f < first || total < len || bytes.len() < total {
         return false;
     }
     if !sums_to_ones(&bytes[..len]) {
@@ -42,17 +45,25 @@ pub fn is_good(bytes: &[u8], refused: &[[u8; 4]]) -> bool
     is_welcome(bytes, refused)
 }
 
-/// Whether the source address of a header is none of `refused`.
+/// Whether the source address of a header is none of `refused`. Mostly nobody is, and then no address is read.
 fn is_welcome(bytes: &[u8], refused: &[[u8; 4]]) -> bool
     requires { 16 ≤ length bytes.now }
     ensures { result ≡ not (list_any (λ address. bytes_eq address (source bytes.now)) refused.now) }
 {
-    // Mostly nobody is refused, and then no address is read.
     if refused.is_empty() {
         return true;
     }
+    !is_from(bytes, refused)
+}
+
+/// Whether the source address of a header is one of these.
+#[inline(never)]
+fn is_from(bytes: &[u8], addresses: &[[u8; 4]]) -> bool
+    requires { 16 ≤ length bytes.now }
+    ensures { result ≡ list_any (λ address. bytes_eq address (source bytes.now)) addresses.now }
+{
     let source = [bytes[12], bytes[13], bytes[14], bytes[15]];
-    !refused.contains(&source)
+    addresses.contains(&source)
 }
 
 /// Sets byte 8 and the checksum that goes with it.

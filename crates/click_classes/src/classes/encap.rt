@@ -1,6 +1,6 @@
 //! Elements that put a header before packets.
 
-ghost use Rattle.std.specs.Prelude.{◌≡◌};
+ghost use Rattle.std.specs.Prelude.{◌≡◌, replicate};
 ghost use Rattle.click_classes.specs.Fresh.{ether_encap};
 ghost use Rattle.click_classes.specs.Acts.{encapsulated, passed, ether_header};
 ghost use Rattle.click_classes.specs.declared.state.State.{State};
@@ -54,20 +54,6 @@ fn ether_header(ether_type: u16, source: [u8; 6], destination: [u8; 6]) -> [u8; 
     ]
 }
 
-/// The header that an EtherEncap puts before packets; zeros of another element.
-pub fn header_of(state: &State) -> [u8; 14]
-    ensures { result ≡ header_of state.now }
-{
-    match state {
-        State::EtherEncap {
-            ether_type,
-            source,
-            destination,
-        } => ether_header(*ether_type, *source, *destination),
-        _ => [0; 14],
-    }
-}
-
 /// Puts a header before a packet; one that would be too long with it stays as it is and is dropped.
 pub fn encapsulate(header: &[u8], packet: &mut Packet) -> Fate
     ensures { (state : State) → encapsulated state header.now packet.old ≡ passed state packet.new result }
@@ -78,10 +64,26 @@ pub fn encapsulate(header: &[u8], packet: &mut Packet) -> Fate
     }
 }
 
-/// Puts the header of an EtherEncap before a packet.
+/// Puts the header of an EtherEncap before a packet; zeros of another element.
 #[inline(never)]
 pub fn put_header(encap: &State, packet: &mut Packet) -> Fate
     ensures { (state : State) → encapsulated state (header_of encap.now) packet.old ≡ passed state packet.new result }
 {
-    encapsulate(&header_of(encap), packet)
+    match encap {
+        State::EtherEncap {
+            ether_type,
+            source,
+            destination,
+        } => encapsulate(&ether_header(*ether_type, *source, *destination), packet),
+        _ => put_zeros(packet),
+    }
+}
+
+/// Puts fourteen zeros before a packet.
+#[cold]
+#[inline(never)]
+fn put_zeros(packet: &mut Packet) -> Fate
+    ensures { (state : State) → encapsulated state (replicate 14 0) packet.old ≡ passed state packet.new result }
+{
+    encapsulate(&[0; 14], packet)
 }

@@ -110,11 +110,9 @@ pub fn header_fate(refused: &Sequence<[u8; 4]>, packet: &Packet) -> Fate
 pub fn age(packet: &mut Packet) -> Fate
     ensures { aged packet.old (ttl packet.old.bytes) ≡ record { state = State.DecIPTTL; packet = packet.new; fate = result } }
 {
-    match packet.ttl() {
-        Some(hops) if hops > 1 => {
-            let _set = packet.set_ttl(hops - 1);
-            Fate::Onward
-        }
-        Some(_) | None => Fate::Aside,
+    if packet.count_down() {
+        Fate::Onward
+    } else {
+        Fate::Aside
     }
 }

@@ -1,5 +1,5 @@
-use Rattle.std.proofs.Common.{◌≡◌, arith, ap, ◌∙◌, ℕ, ◌+◌, ◌-◌, List, ◌++◌, length, drop}
-use Rattle.click_packet.proofs.Places.{prepended}
+use Rattle.std.proofs.Common.{◌≡◌, arith, ap, ◌∙◌, ℕ, ◌+◌, ◌-◌, List, ◌++◌, length, take, drop}
+use Rattle.click_packet.proofs.Places.{prepended, refilled}
 use Rattle.click_packet.specs.Packet.{Packet}
 use Rattle.click_packet.proofs.packet.Packet.prepend.Goals as goal
 
@@ -7,10 +7,11 @@ pub returns-clause-ok : goal.returns-clause-ok
 returns-clause-ok c =
     let p = c.self.inside in
     let front = c.args.front.now in
-    let start = c.make_room-start.result in
-    let moved = c.make_room-start.new.content in
+    let before = c.as_mut_slice.ensures.value in
     let seen : List ℕ → Packet = λ bytes. record { bytes = bytes; paint = p.colour; destination = p.next } in
-    let place : start - length front + length front ≡ start = omega (arith, c.make_room-start.ensures.room) in
-    let written = c.write_at.ensures.front ∙ ap (λ n. front ++ drop n moved) place in
-    let same = prepended front (drop start moved) _ p.len written ∙ ap (λ bytes. front ++ bytes) c.make_room-start.ensures.bytes in
-    rw (← c.self.view_is) (ap seen same)
+    let place : p.start - length front + length front ≡ p.start = omega arith in
+    let written = c.write_at.ensures.front ∙ ap (λ n. front ++ drop n c.as_mut_slice.result.now) place ∙ ap (λ bytes. front ++ drop p.start bytes) before in
+    let back =
+    ap (λ bytes. take (p.len + length front) (drop (p.start - length front) bytes))
+    (refilled p.content.items c.write_at.new.bytes (c.write_at.ensures.len ∙ ap length before)) in
+    rw (← c.self.view_is) (ap seen (back ∙ prepended front (drop p.start p.content.items) _ p.len written))

@@ -7,5 +7,5 @@ pub returns : goal.returns
 returns c =
     let p = c.self.inside in
     let seen : List ℕ → Packet = λ bytes. record { bytes = bytes; paint = p.colour; destination = p.next } in
-    let same = ap (λ n. take (p.len - n) (drop (p.start + n) p.content)) c.min-stripped.ensures ∙ stripped p.content p.start p.len c.args.count (omega arith) in
+    let same = ap (λ n. take (p.len - n) (drop (p.start + n) p.content.items)) c.min-stripped.ensures ∙ stripped p.content.items p.start p.len c.args.count (omega arith) in
     rw (← c.self.view_is) (ap seen same)
