@@ -70,22 +70,8 @@ pub(crate) fn push_over(
     sender.count = to.count;
 }
 
-/// The same, for a copy.
-#[inline(never)]
-pub(crate) fn push_copy_over(
-    wires: &Wires,
-    work: &mut Work,
-    at: usize,
-    output: usize,
-    sender: &mut Sender,
-)
-    ensures { Pushed (wiring_of wires.now) (world_of work.old) (world_of work.new) at output sender.old.packet sender.new.at sender.new.first sender.new.count sender.new.packet }
-{
-    push_over(wires, work, at, output, sender);
-}
-
 /// Pushes the packet of `sender` on while just one output is to get it. The place stays in locals, so that a step costs what its element does.
-#[inline(always)]
+#[inline(never)]
 pub(crate) fn push_along(wires: &Wires, work: &mut Work, sender: &mut Sender)
     ensures { Along (wiring_of wires.now) (world_of work.old) (world_of work.new) sender.old.at sender.old.first sender.old.count sender.old.packet
         sender.new.at sender.new.first sender.new.count sender.new.packet }

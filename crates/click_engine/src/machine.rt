@@ -1,7 +1,7 @@
 //! The pushes and pulls of a run that are under way: frames whose slots are written in place.
 ghost use Rattle.std.specs.Prelude.{◌≡◌, ℕ, ◌+◌, ◌-◌, ◌<◌, ◌≤◌, ◌^◌, List, [], ◌∷◌, ◌++◌, length};
 
-use crate::hops::{Reply, pull_over, push_along, push_copy_over, push_over};
+use crate::hops::{Reply, pull_over, push_along, push_over};
 use crate::slots::{copy_up, tries};
 use crate::wires::Wires;
 use crate::world::Work;
@@ -192,7 +192,7 @@ impl Machine {
     }
 
     /// Pushes on where a push is on top that has one output left, up to an element with several or none.
-    #[inline(never)]
+    #[inline(always)]
     pub(crate) fn follow(&mut self, wires: &Wires, work: &mut Work)
         requires room { length self.old.frames + work.old.left ≤ self.old.room }
         ensures { Follows (wiring_of wires.now) (world_of work.old) self.old (world_of work.new) self.new }
@@ -203,6 +203,9 @@ impl Machine {
         }
         let top = self.sending - 1;
         if top == 0 && self.answered {
+            return;
+        }
+        if self.senders[top].count > 1 {
             return;
         }
         let sender = &mut self.senders[top];
@@ -239,7 +242,7 @@ impl Machine {
         sender.count -= 1;
         copy_up(&mut self.senders, top);
         let above = &mut self.senders[top + 1];
-        push_copy_over(wires, work, at, output, above);
+        push_over(wires, work, at, output, above);
         if above.count > 0 {
             self.sending = top + 2;
         }

@@ -20,7 +20,7 @@ pub(crate) fn tries(reply: Reply) -> Ask
 }
 
 /// Makes the packet above `top` equal to the one at `top`.
-#[inline(never)]
+#[inline(always)]
 pub(crate) fn copy_up(senders: &mut Vec<Sender>, top: usize)
     requires top { top < vec_len senders.old }
     requires room { top + 1 < vec_capacity senders.old }
@@ -28,18 +28,31 @@ pub(crate) fn copy_up(senders: &mut Vec<Sender>, top: usize)
     ensures capacity { vec_capacity senders.old ≤ vec_capacity senders.new }
 {
     if top + 1 == senders.len() {
-        let packet = senders[top].packet.copy();
-        let _made = senders.push(Sender {
-            at: 0,
-            first: 0,
-            count: 0,
-            packet,
-        });
+        push_copy(senders, top);
     } else {
         copy_next(senders.as_mut_slice(), top);
     }
 }
 
+/// Makes a slot, the first time that one is needed there.
+#[cold]
+#[inline(never)]
+fn push_copy(senders: &mut Vec<Sender>, top: usize)
+    requires last { top + 1 ≡ vec_len senders.old }
+    requires room { top + 1 < vec_capacity senders.old }
+    ensures copied { CopiedUp senders.old.items senders.new.items top }
+    ensures capacity { vec_capacity senders.old ≤ vec_capacity senders.new }
+{
+    let packet = senders[top].packet.copy();
+    let _made = senders.push(Sender {
+        at: 0,
+        first: 0,
+        count: 0,
+        packet,
+    });
+}
+
+#[inline(always)]
 fn copy_next(slots: &mut [Sender], top: usize)
     requires { top + 1 < length slots.old }
     ensures { CopiedUp slots.old slots.new top }
