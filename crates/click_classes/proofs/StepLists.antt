@@ -2,7 +2,7 @@
 use Rattle.std.proofs.Common.{◌≡◌, ℕ, zero, suc, ◌+◌, ◌<◌, ◌≤◌, List, [], ◌∷◌, ◌++◌, length, take, drop, get_or, min, Bool, true, false, cond, ◌&&◌, nat_lt, Option, Some, None, refl, sym, ap, ◌∙◌, arith}
 use Rattle.std.specs.Prelude.{not, position}
 use Rattle.std.specs.List.{AllZip, list_all, prefix_len}
-use Rattle.std.proofs.lemmas.List.{at_drop_more, at_drop_all}
+use Rattle.std.proofs.lemmas.List.{take_all, take_more}
 use Rattle.std.proofs.lemmas.List.Folds.{list_all-append}
 use Rattle.click_classes.specs.declared.patterns.Step.{Step}
 use Rattle.click_classes.specs.declared.patterns.Test.{Test}
@@ -76,30 +76,36 @@ test_made c k first rest l h step steps = record {
       rw (cut, step.step_agrees bytes b, steps.steps_agree bytes b) refl;
 }
 
--- the tests up to a place and the clauses that are left
+-- the tests of the clauses from a place on, and the clauses before it
 pub record TestsSoFar (all : List Clause) (at : ℕ) (tests : List Test) : Type 0 where
-  pub same : (bytes : List ℕ) → IsBytes bytes → (tests_hold tests bytes && list_all (λ c. holds c bytes) (drop at all)) ≡ list_all (λ c. holds c bytes) all
+  pub same : (bytes : List ℕ) → IsBytes bytes → (tests_hold tests bytes && list_all (λ c. holds c bytes) (take at all)) ≡ list_all (λ c. holds c bytes) all
 
-pub tests_begin : (all : List Clause) → TestsSoFar all 0 []
-tests_begin all = record { same = λ bytes b. refl }
+pub tests_begin : (all : List Clause) (at : ℕ) → length all ≤ at → TestsSoFar all at []
+tests_begin all at l = record { same = λ bytes b. ap (λ cs. list_all (λ c. holds c bytes) cs) (take_all at all l) }
 
-pub tests_more : (all : List Clause) (at : ℕ) (tests : List Test) (t : Test) (d : Clause) → at < length all → IsTest (get_or all at d) t → TestsSoFar all at tests → TestsSoFar all (at + 1) (tests ++ t ∷ [])
+and_swap : (a b c : Bool) → ((a && (b && true)) && c) ≡ (a && (c && (b && true)))
+and_swap true true true = refl
+and_swap true true false = refl
+and_swap true false true = refl
+and_swap true false false = refl
+and_swap false b c = refl
+
+pub tests_more : (all : List Clause) (at : ℕ) (tests : List Test) (t : Test) (d : Clause) → at < length all → IsTest (get_or all at d) t → TestsSoFar all (at + 1) tests → TestsSoFar all at (tests ++ t ∷ [])
 tests_more all at tests t d l one so_far = record {
   same = λ bytes b.
-      let rest = list_all (λ c. holds c bytes) (drop (at + 1) all) in
-      let next : list_all (λ c. holds c bytes) (drop at all) ≡ (holds (get_or all at d) bytes && rest) = at_drop_more (λ cs. list_all (λ c. holds c bytes) cs) all at d l in
+      let rest = list_all (λ c. holds c bytes) (take at all) in
+      let last : list_all (λ c. holds c bytes) (take (at + 1) all) ≡ (rest && (holds (get_or all at d) bytes && true)) =
+      ap (λ cs. list_all (λ c. holds c bytes) cs) (take_more all at d l) ∙ list_all-append (λ c. holds c bytes) (take at all) (get_or all at d ∷ []) in
       ap (λ x. x && rest) (list_all-append (λ t. test_holds t bytes) tests (t ∷ []))
-      ∙ and_assoc (tests_hold tests bytes) (test_holds t bytes && true) rest
-      ∙ ap (λ x. tests_hold tests bytes && (x && rest)) (and_true (test_holds t bytes) ∙ one.test_tells bytes b)
-      ∙ ap (λ x. tests_hold tests bytes && x) (sym next)
+      ∙ and_swap (tests_hold tests bytes) (test_holds t bytes) rest
+      ∙ ap (λ x. tests_hold tests bytes && (rest && (x && true))) (one.test_tells bytes b)
+      ∙ ap (λ x. tests_hold tests bytes && x) (sym last)
       ∙ so_far.same bytes b;
 }
 
-pub tests_end : (p : Pattern) (at : ℕ) (tests : List Test) → length p.clauses ≤ at → TestsSoFar p.clauses at tests → AreTests p tests
-tests_end p at tests l so_far = record {
-  tests_tell = λ bytes b.
-      let end : list_all (λ c. holds c bytes) (drop at p.clauses) ≡ true = at_drop_all (λ cs. list_all (λ c. holds c bytes) cs) p.clauses at l in
-      sym (and_true (tests_hold tests bytes)) ∙ ap (λ x. tests_hold tests bytes && x) (sym end) ∙ so_far.same bytes b;
+pub tests_end : (p : Pattern) (all : List Clause) (tests : List Test) → all ≡ p.clauses → TestsSoFar all 0 tests → AreTests p tests
+tests_end p all tests e so_far = record {
+  tests_tell = λ bytes b. sym (and_true (tests_hold tests bytes)) ∙ so_far.same bytes b ∙ ap (λ cs. list_all (λ c. holds c bytes) cs) e;
 }
 
 -- as many tests fail at first as patterns do

@@ -155,14 +155,16 @@ fn test_of(alloc: Global, clause: &Clause) -> Result<Test, AllocError>
     })
 }
 
-/// The tests of a pattern.
+/// The tests of a pattern, that of its last clause first: patterns mostly begin alike.
 fn tests_of(alloc: Global, pattern: &Pattern) -> Result<Sequence<Test>, AllocError>
     ensures { IfOk result (λ tests. AreTests pattern.now tests) }
 {
     let clauses = pattern.clauses.as_slice();
     let mut tests = Sequence::new(alloc);
-    for clause in clauses {
-        tests.push(test_of(alloc, clause)?)?;
+    let mut at = clauses.len();
+    while at > 0 {
+        at -= 1;
+        tests.push(test_of(alloc, &clauses[at])?)?;
     }
     Ok(tests)
 }

@@ -122,7 +122,7 @@ impl Routes {
     }
 
     /// The entries, as written.
-    pub fn as_slice(&self) -> &[Entry]
+    pub(crate) fn as_slice(&self) -> &[Entry]
         ensures { result.now ≡ self.now }
     {
         self.entries.as_slice()
