@@ -11,7 +11,7 @@ mkdir "$work/crates"
 cp -r "$here/../../crates/click_packet" "$work/crates/click_packet"
 mkdir -p "$work/crates/measure/src"
 cp "$here/main.rattle" "$work/crates/measure/src/main.rt" # the gate takes no .rt file outside crates/
-printf 'click_packet: thiserror\nmeasure: click_packet\n' > "$work/crates.txt"
+printf 'click_packet: arrayvec thiserror\nmeasure: click_packet\n' > "$work/crates.txt"
 cd "$work/crates/measure"
 printf '64\n1\n0\n' | rt run > "$work/log" 2>&1 || { tail -20 "$work/log"; exit 1; }
 rustc -C opt-level=2 -o "$work/plain" "$here/plain.rs"
