@@ -2,8 +2,8 @@
 ghost use Rattle.std.specs.Prelude.{◌≡◌, option_map};
 ghost use Rattle.click_engine.specs.Devices.{device_of};
 
+use crate::device_names::DeviceNames;
 use click_classes::State;
-use click_expand::Names;
 use std::alloc::{AllocError, Global};
 use std::marker::Model;
 
@@ -19,7 +19,7 @@ pub enum Way {
 /// Devices, each once, with the places of their elements.
 #[derive(Drop)]
 pub struct Devices {
-    names: Names,
+    names: DeviceNames,
     places: Vec<usize>,
 }
 
@@ -59,7 +59,7 @@ impl Devices {
     pub(crate) fn of(alloc: Global, way: Way, states: &[State]) -> Result<Devices, AllocError>
         ensures { IfOk result (λ ds. ds ≡ devices_from way 0 states.now) }
     {
-        let mut names = Names::new(alloc);
+        let mut names = DeviceNames::new(alloc);
         let mut places = Vec::new(alloc);
         for at in 0..states.len() {
             let Some(name) = device_of(way, &states[at]) else {

@@ -29,3 +29,7 @@ abbrev pub devices : List (List ℕ) → List ℕ → List Device
 devices [] places = []
 devices (name ∷ names) [] = []
 devices (name ∷ names) (at ∷ places) = record { name = name; element = at } ∷ devices names places
+
+-- the bytes of texts
+abbrev pub texts : List (Vec ℕ Global) → List (List ℕ)
+texts names = map (λ (name : Vec ℕ Global). name.items) names

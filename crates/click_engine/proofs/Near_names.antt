@@ -1,0 +1,44 @@
+-- Names that are compared one after the other.
+use Rattle.std.proofs.Common.{◌≡◌, ℕ, zero, suc, ◌+◌, ◌<◌, ◌≤◌, refl, sym, ap, ◌∙◌, Bool, true, false, cond, Option, Some, None, List, [], ◌∷◌, ◌++◌, length, take, drop, get_or, map, arith}
+use Rattle.std.specs.Prelude.{position}
+use Rattle.std.specs.List.{position_from}
+use Rattle.std.specs.Str.{bytes_eq}
+use Rattle.std.specs.declared.vec.Vec.{Vec}
+use Rattle.std.specs.declared.alloc.Global.{Global}
+use Rattle.std.proofs.lemmas.List.{take-append-le, take_all, length-map, drop_more}
+use Rattle.std.proofs.lemmas.Iterator.Adapters.{position_from-zero}
+use Rattle.click_engine.specs.kept.Tables.{texts}
+
+-- the place is found among the names from `at` on
+abbrev pub FoundFrom : List ℕ → List (List ℕ) → ℕ → Type 0
+FoundFrom name names at = position (bytes_eq name) names ≡ position_from (bytes_eq name) at (drop at names)
+
+pub found_first : (name : List ℕ) (names : List (List ℕ)) → FoundFrom name names 0
+found_first name names = position_from-zero (bytes_eq name) names
+
+texts-at : (names : List (Vec ℕ Global)) (at : ℕ) (v : Vec ℕ Global) → at < length names → v ≡ get_or names at v → v.items ≡ get_or (texts names) at v.items
+texts-at [] at v h e = absurd (omega (arith, h))
+texts-at (n ∷ ns) zero v h e = ap (λ (x : Vec ℕ Global). x.items) e
+texts-at (n ∷ ns) (suc i) v h e = texts-at ns i v (omega (arith, h)) e
+
+module _ (name : List ℕ) (vecs : List (Vec ℕ Global)) (at : ℕ) (v : Vec ℕ Global) (inside : at < length vecs) (here : v ≡ get_or vecs at v) (so_far : FoundFrom name (texts vecs) at) where
+  by_first : (b : Bool) → bytes_eq name v.items ≡ b
+      → position (bytes_eq name) (texts vecs) ≡ cond b (Some at) (position_from (bytes_eq name) (at + 1) (drop (at + 1) (texts vecs)))
+  by_first b e =
+      let rest = position_from (bytes_eq name) (at + 1) (drop (at + 1) (texts vecs)) in
+      so_far
+      ∙ ap (λ ys. position_from (bytes_eq name) at ys) (drop_more (texts vecs) at v.items (omega (arith, inside, length-map vecs (λ (n : Vec ℕ Global). n.items))))
+      ∙ ap (λ x. cond (bytes_eq name x) (Some at) rest) (sym (texts-at vecs at v inside here))
+      ∙ ap (λ t. cond t (Some at) rest) e
+
+  pub found_here : bytes_eq name v.items ≡ true → Some at ≡ position (bytes_eq name) (texts vecs)
+  found_here e = sym (by_first true e)
+
+  pub found_later : bytes_eq name v.items ≡ false → FoundFrom name (texts vecs) (at + 1)
+  found_later e = by_first false e
+
+-- where there are eight, no further one is near
+pub near_full : (names : List (Vec ℕ Global)) (name : List ℕ) → length names ≡ 8 → texts names ≡ take 8 (texts names ++ name ∷ [])
+near_full names name e =
+    let long : length (texts names) ≡ 8 = length-map names (λ (n : Vec ℕ Global). n.items) ∙ e in
+    sym (take-append-le 8 (texts names) (name ∷ []) (omega (arith, long)) ∙ take_all 8 (texts names) (omega (arith, long)))

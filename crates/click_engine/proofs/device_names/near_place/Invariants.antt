@@ -1,0 +1,7 @@
+use Rattle.click_engine.specs.kept.Tables.{texts}
+use Rattle.click_engine.proofs.Near_names.{FoundFrom}
+use Rattle.click_engine.proofs.device_names.near_place.Given as goal
+
+-- it is none of those before
+abbrev pub invariant-loop-at : goal.invariant-loop-at
+invariant-loop-at l = FoundFrom l.name (texts l.names) l.at
