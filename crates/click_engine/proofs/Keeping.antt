@@ -18,25 +18,25 @@ use Rattle.click_engine.specs.World.{Wiring, blank}
 use Rattle.click_engine.proofs.Reached.{Relates, in_state}
 use Rattle.click_engine.proofs.Round_keeps.{PlantKept, arrive-kept, transmit-kept, task-within, round-kept}
 
-abbrev Anywhere : ℕ → Type 0
+abbrev pub Anywhere : ℕ → Type 0
 Anywhere at = Unit {0}
 
 anywhere : (places : List ℕ) → AllAre Anywhere places
 anywhere [] = tt
 anywhere (at ∷ places) = (tt, anywhere places)
 
-whole : (net : Wiring) → IsClosed net Anywhere
+pub whole : (net : Wiring) → IsClosed net Anywhere
 whole net = record { target = λ at output far h e. tt; source = λ at input far h e. tt }
 
 -- ---- settings
 
-abbrev SameFixed : ℕ → Element → Element → Type 0
+abbrev pub SameFixed : ℕ → Element → Element → Type 0
 SameFixed at e f = fixed f ≡ fixed e
 
 same_fixed : (e : Element) (s : State) → settings s ≡ settings e.state → fixed (in_state e s) ≡ fixed e
 same_fixed e s h = ap (in_state e) h
 
-fixed-relates : Relates Anywhere SameFixed
+pub fixed-relates : Relates Anywhere SameFixed
 fixed-relates = record {
   same = λ at e. refl;
   on = λ at e f g h k. k ∙ h;

@@ -1,6 +1,7 @@
 pub mod Devices
 pub mod Frames
 pub mod Keeps
+pub mod Costs
 pub mod Plant
 pub mod Rounds
 pub mod Run

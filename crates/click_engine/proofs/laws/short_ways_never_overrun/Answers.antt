@@ -1,0 +1,5 @@
+use Rattle.click_engine.proofs.Costs.{push-within, push-spends, arrive-cost}
+use Rattle.click_engine.proofs.laws.short_ways_never_overrun.Goals as goal
+
+pub returns : goal.returns
+returns c = record { push = push-within; spends = push-spends; arrive = arrive-cost }

@@ -1,0 +1,24 @@
+-- What a push costs, in crossings.
+use Rattle.std.specs.Prelude.{◌≡◌, ℕ, zero, suc, ◌+◌, ◌≤◌, List, Option, Some, None, slice_index_or}
+use Rattle.click_packet.specs.Packet.{Packet}
+use Rattle.click_classes.specs.Acts.{act}
+use Rattle.click_classes.specs.Settings.{settings}
+use Rattle.click_classes.specs.declared.state.State.{State}
+use Rattle.click_engine.specs.declared.world.Element.{Element}
+use Rattle.click_engine.specs.World.{Wiring, blank}
+
+module _ (net : Wiring) (cost : ℕ → ℕ) where
+  -- one crossing, and what the element at the other end costs
+  abbrev pub crossing_cost : ℕ → ℕ → ℕ
+  crossing_cost at output = elim (net.target at output) [ None ↦ 1 | Some far ↦ 1 + cost far.element ]
+
+  -- `count` outputs of an element, from `first` on
+  abbrev pub outputs_cost : ℕ → ℕ → ℕ → ℕ
+  outputs_cost at zero first = 0
+  outputs_cost at (suc count) first = crossing_cost at first + outputs_cost at count (first + 1)
+
+  -- whatever an element has stored or counted: the outputs that get a packet which is pushed into it cost no more than is said of the element. So a
+  -- ring of elements has no cost, but where one of them pushes nothing on
+  pub record IsCost (es : List Element) : Type 0 where
+    pub each : (at : ℕ) (s : State) → settings s ≡ settings (slice_index_or es at blank).state → (input : ℕ) (p : Packet)
+        → outputs_cost at (act (slice_index_or es at blank).outputs s input p).outputs.count (act (slice_index_or es at blank).outputs s input p).outputs.first ≤ cost at
