@@ -25,5 +25,7 @@ pub mod Queueing
 pub mod Aging
 pub mod Settings
 pub mod Sound
+pub mod Fitting
+pub mod Turning
 pub mod Full
 pub mod Beginning

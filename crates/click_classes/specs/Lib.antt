@@ -3,6 +3,7 @@ pub mod Classes
 pub mod Codes
 pub mod Counts
 pub mod Entries
+pub mod Fitting
 pub mod Fresh
 pub mod Made
 pub mod Matches

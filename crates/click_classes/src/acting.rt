@@ -44,6 +44,7 @@ pub struct Outcome {
 }
 
 const NONE: PortRange = PortRange { first: 0, count: 0 };
+
 const OUTPUT_0: PortRange = PortRange { first: 0, count: 1 };
 
 /// The port after this one, round.

@@ -9,7 +9,7 @@ ghost use Rattle.click_classes.specs.declared.values.prefix.Prefix.{Prefix};
 ghost use Rattle.click_classes.specs.declared.class.TheConstants.{CLASSES};
 ghost use Rattle.click_packet.specs.Header.{IsGoodHeader};
 ghost use Rattle.click_packet.specs.Packet.{Packet};
-ghost use Rattle.click_classes.specs.Acts.{pass, act, gives, stored, emission, Stored};
+ghost use Rattle.click_classes.specs.Acts.{pass, act, tries, gives, stored, emission, Stored};
 ghost use Rattle.click_classes.specs.PacketList.{PacketList};
 ghost use Rattle.click_classes.specs.Queues.{Queued, queue_of, IsSound};
 ghost use Rattle.click_classes.specs.Settings.{settings};
@@ -17,6 +17,7 @@ ghost use Rattle.click_classes.specs.declared.acting.Fate.{Fate};
 ghost use Rattle.click_classes.specs.Classes.{classes, name, class_of};
 ghost use Rattle.click_classes.specs.Counts.{counts};
 ghost use Rattle.click_classes.specs.Entries.{table};
+ghost use Rattle.click_classes.specs.Fitting.{FitsPorts, HasTurn, AreThere, AreAsked};
 ghost use Rattle.click_classes.specs.Made.{IsMade};
 ghost use Rattle.click_classes.specs.Matches.{matches};
 ghost use Rattle.click_classes.specs.Patterns.{pattern};
@@ -129,4 +130,21 @@ pub fn aged_header_is_good()
 pub fn tee_copies()
     ensures { (outputs input : ℕ) (n : Option ℕ) (p : Packet) → act outputs (State.Tee n) input p
         ≡ record { state = State.Tee n; packet = p; outputs = record { first = 0; count = outputs } } }
+{}
+
+/// An element whose state and ports fit each other pushes a packet, and copies of one that was pulled, only to outputs that are there, and asks only inputs that are
+/// there, each once.
+pub fn named_ports_are_there()
+    ensures pushed { (inputs outputs input : ℕ) (s : State) (p : Packet) → FitsPorts inputs outputs s → input < inputs → AreThere outputs (act outputs s input p).outputs }
+    ensures copied { (inputs outputs input : ℕ) (s : State) (p : Packet) → AreThere outputs (gives inputs outputs s input p).copies }
+    ensures asked { (inputs outputs output : ℕ) (s : State) → FitsPorts inputs outputs s → output < outputs → AreAsked inputs (tries inputs s output) }
+{}
+
+/// Packets leave an element fitting its ports, and one that nothing has passed yet begins with port 0.
+pub fn ports_stay_there()
+    ensures pushed { (inputs outputs input : ℕ) (s : State) (p : Packet) → FitsPorts inputs outputs s → FitsPorts inputs outputs (act outputs s input p).state }
+    ensures pulled { (inputs outputs input : ℕ) (s : State) (p : Packet) → FitsPorts inputs outputs s → FitsPorts inputs outputs (gives inputs outputs s input p).state }
+    ensures held { (inputs outputs : ℕ) (s : State) (e : Stored) → stored s ≡ Some e → FitsPorts inputs outputs s → FitsPorts inputs outputs e.state }
+    ensures emitted { (inputs outputs : ℕ) (s : State) (e : Stored) → emission s ≡ Some e → FitsPorts inputs outputs s → FitsPorts inputs outputs e.state }
+    ensures first { (inputs outputs : ℕ) (s : State) → settings s ≡ s → (counts s).inputs.0 ≤ inputs → (counts s).outputs.0 ≤ outputs → HasTurn inputs outputs s }
 {}

@@ -21,7 +21,7 @@ use Rattle.click_engine.proofs.Round_keeps.{PlantKept, arrive-kept, transmit-kep
 abbrev pub Anywhere : ℕ → Type 0
 Anywhere at = Unit {0}
 
-anywhere : (places : List ℕ) → AllAre Anywhere places
+pub anywhere : (places : List ℕ) → AllAre Anywhere places
 anywhere [] = tt
 anywhere (at ∷ places) = (tt, anywhere places)
 

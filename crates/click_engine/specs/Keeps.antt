@@ -1,6 +1,7 @@
 -- What runs keep.
 use Rattle.std.specs.Prelude.{◌≡◌, ℕ, List, [], ◌∷◌, Bool, Some, length, map, slice_index_or, IsTrue}
 use Rattle.std.specs.List.{All}
+use Rattle.click_classes.specs.Fitting.{FitsPorts}
 use Rattle.click_classes.specs.Queues.{IsSound}
 use Rattle.click_classes.specs.Settings.{settings}
 use Rattle.click_engine.specs.declared.world.Element.{Element}
@@ -24,6 +25,10 @@ pub record KeepsSettings (old new : Plant) : Type 0 where
 -- no queue holds more than it has room for
 abbrev pub AreSound : Plant → Type 0
 AreSound v = All (λ (e : Element). IsSound e.state) v.elements
+
+-- each element has ports that its state allows, and the one whose turn it is, is there
+abbrev pub AreFitting : Plant → Type 0
+AreFitting v = All (λ (e : Element). FitsPorts e.inputs e.outputs e.state) v.elements
 
 -- the places that a test tells
 abbrev pub Among : (ℕ → Bool) → ℕ → Type 0

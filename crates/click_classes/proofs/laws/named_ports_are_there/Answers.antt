@@ -1,0 +1,5 @@
+use Rattle.click_classes.proofs.Fitting.{act-there, gives-there, tries-there}
+use Rattle.click_classes.proofs.laws.named_ports_are_there.Goals as goal
+
+pub returns : goal.returns
+returns c = record { pushed = act-there; copied = gives-there; asked = tries-there }

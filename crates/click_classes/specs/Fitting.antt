@@ -1,0 +1,29 @@
+-- Elements whose states and numbers of ports fit each other.
+use Rattle.std.specs.Prelude.{◌≡◌, ℕ, ◌+◌, ◌<◌, ◌≤◌, true}
+use Rattle.click_classes.specs.Counts.{counts}
+use Rattle.click_classes.specs.declared.acting.PortRange.{PortRange}
+use Rattle.click_classes.specs.declared.state.State.{State}
+use Rattle.click_classes.specs.declared.state.State.TheVariants as state
+
+-- the port whose turn it is, is there
+abbrev pub HasTurn : ℕ → ℕ → State → Type 0
+HasTurn inputs outputs (state.RoundRobinSwitch next) = next < outputs
+HasTurn inputs outputs (state.RoundRobinSched next) = next < inputs
+HasTurn inputs outputs s = Unit {0}
+
+-- an element in this state may have so many ports
+pub record FitsPorts (inputs outputs : ℕ) (s : State) : Type 0 where
+  pub inputs_from : (counts s).inputs.0 ≤ inputs
+  pub inputs_to : inputs ≤ (counts s).inputs.1
+  pub outputs_from : (counts s).outputs.0 ≤ outputs
+  pub outputs_to : outputs ≤ (counts s).outputs.1
+  pub equal : (counts s).equal ≡ true → inputs ≡ outputs
+  pub turn : HasTurn inputs outputs s
+
+-- of so many ports each of these is there
+abbrev pub AreThere : ℕ → PortRange → Type 0
+AreThere ports r = 0 < r.count → r.first + r.count ≤ ports
+
+-- of so many ports the one that is asked first is there, and none is asked twice
+abbrev pub AreAsked : ℕ → PortRange → Type 0
+AreAsked ports r = 0 < r.count → (r.first < ports) × (r.count ≤ ports)

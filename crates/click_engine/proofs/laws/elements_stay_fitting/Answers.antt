@@ -1,0 +1,5 @@
+use Rattle.click_engine.proofs.Fitting.{arrive-fitting, transmit-fitting, round-fitting}
+use Rattle.click_engine.proofs.laws.elements_stay_fitting.Goals as goal
+
+pub returns : goal.returns
+returns c = record { arrive = arrive-fitting; transmit = transmit-fitting; round = round-fitting }

@@ -1,0 +1,5 @@
+use Rattle.click_engine.proofs.Fitting.{begins-fitting}
+use Rattle.click_engine.proofs.laws.started_elements_fit.Goals as goal
+
+pub returns : goal.returns
+returns c = begins-fitting
