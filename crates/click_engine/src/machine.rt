@@ -197,11 +197,11 @@ impl Machine {
         requires room { length self.old.frames + work.old.left ≤ self.old.room }
         ensures { Follows (wiring_of wires.now) (world_of work.old) self.old (world_of work.new) self.new }
     {
-        // The first slot is not free where an answer lies in it.
         if self.sending == 0 {
             return;
         }
         let top = self.sending - 1;
+        // The first slot is not free where an answer lies in it.
         if top == 0 && self.answered {
             return;
         }
