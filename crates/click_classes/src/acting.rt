@@ -174,7 +174,7 @@ impl State {
         ensures { act outputs self.old input packet.old ≡ record { state = self.new; packet = packet.new; outputs = result } }
     {
         match self {
-            // These do so little that a second match, in `pass`, would cost as much again.
+            // What passes stands here again, since a second match, in `pass`, would cost as much as most of them do.
             State::Null | State::PushNull | State::PullNull => OUTPUT_0,
             State::Paint { colour } => {
                 packet.set_paint(*colour);
@@ -184,6 +184,19 @@ impl State {
                 count_packet(count, byte_count, packet);
                 OUTPUT_0
             }
+            State::Strip { count } => {
+                packet.strip(usize::from(*count));
+                OUTPUT_0
+            }
+            State::GetIPAddress { offset } => {
+                take_address(*offset, packet);
+                OUTPUT_0
+            }
+            State::PaintTee { colour } => pushed_to(outputs, paint_tee_fate(*colour, packet)),
+            State::CheckLength { max } => pushed_to(outputs, length_fate(*max, packet)),
+            State::CheckIPHeader { refused } => pushed_to(outputs, header_fate(refused, packet)),
+            State::DecIPTTL => pushed_to(outputs, age(packet)),
+            State::EtherEncap { .. } => pushed_to(outputs, put_header(self, packet)),
             State::Queue {
                 list,
                 drops,
@@ -252,19 +265,9 @@ impl State {
             | State::PullTee { .. }
             | State::Idle
             | State::Discard
-            | State::PaintTee { .. }
-            | State::Strip { .. }
-            | State::CheckLength { .. }
-            | State::GetIPAddress { .. }
-            | State::CheckIPHeader { .. }
-            | State::DecIPTTL
-            | State::EtherEncap { .. }
             | State::InfiniteSource { .. }
             | State::FromDevice { .. }
-            | State::ToDevice { .. } => {
-                let fate = self.pass(packet);
-                pushed_to(outputs, fate)
-            }
+            | State::ToDevice { .. } => NONE,
         }
     }
 

@@ -1,6 +1,6 @@
 //! The table of a StaticIPLookup, made ready for its packets.
 
-ghost use Rattle.std.specs.Prelude.{◌≡◌, ◌≤◌, ◌-◌, ◌^◌, ◌++◌, length, map, OnOk, IfOk};
+ghost use Rattle.std.specs.Prelude.{◌≡◌, ◌≤◌, ◌-◌, ◌^◌, ◌++◌, length, map, option_map, OnOk, IfOk};
 ghost use Rattle.std.specs.List.{All, filter};
 ghost use Rattle.click_classes.specs.Routes.{route};
 ghost use Rattle.click_classes.specs.kept.Rows.{IsAddress, word, IsShort, has_len, longest_first, IsReady, entry_of, first_found};
@@ -100,12 +100,12 @@ fn rows_of(alloc: Global, entries: &[Entry]) -> Result<Vec<Row>, AllocError>
 
 /// The entry of the first row that tells the bits of the address. It stands alone, so that nothing else takes part in its loop.
 #[inline(never)]
-fn first_found(rows: &[Row], word: u32) -> Option<Entry>
-    ensures { result ≡ first_found rows.now word }
+fn first_found(rows: &[Row], word: u32) -> Option<&Row>
+    ensures { option_map (λ row. row.now.entry) result ≡ first_found rows.now word }
 {
     for row in rows {
         if word & row.mask == row.network {
-            return Some(row.entry);
+            return Some(row);
         }
     }
     None
@@ -136,9 +136,11 @@ impl Routes {
     }
 
     /// The entry with the longest prefix that the address has.
+    #[inline(always)]
     pub fn find(&self, address: [u8; 4]) -> Option<Entry>
         ensures { result ≡ route self.now address }
     {
-        first_found(self.rows.as_slice(), word_of(address))
+        let row = first_found(self.rows.as_slice(), word_of(address))?;
+        Some(row.entry)
     }
 }

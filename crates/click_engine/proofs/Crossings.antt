@@ -1,5 +1,5 @@
 -- What a push or a pull over one connection tells.
-use Rattle.std.proofs.Common.{◌≡◌, ℕ, ◌-◌, ◌<◌, inr, refl, sym, ap, ◌∙◌, Option, Some, None, Bool, true, false, if◌then◌else◌, MatchOption, arith}
+use Rattle.std.proofs.Common.{◌≡◌, ℕ, ◌-◌, ◌^◌, ◌<◌, inr, length, refl, sym, ap, ◌∙◌, Option, Some, None, Bool, true, false, if◌then◌else◌, MatchOption, arith}
 use Rattle.click_packet.specs.Packet.{Packet}
 use Rattle.click_classes.specs.Acts.{stored, Stored}
 use Rattle.click_classes.specs.declared.acting.PortRange.{PortRange}
@@ -7,9 +7,11 @@ use Rattle.click_classes.specs.declared.acting.PortRange.{PortRange}
 use Rattle.click_engine.specs.declared.world.Port.{Port}
 use Rattle.click_engine.specs.World.{Wiring, World, element_at, with_state, tries_at, spent, overrun, Acts}
 use Rattle.click_engine.specs.Run.{push, sent, Pulled, nothing, Answers}
-use Rattle.click_engine.specs.kept.Hops.{Pushed, Reached}
+use Rattle.click_engine.specs.kept.Hops.{with_left, Along, Pushed, Reached}
+use Rattle.click_engine.specs.kept.Tables.{far_of}
 use Rattle.click_engine.specs.declared.hops.Reply.{Reply}
-use Rattle.click_engine.proofs.Steps.{push-none, push-unconnected, push-made, pull-none, pull-unconnected, pull-asks, pull-held, stored-no, spread-zero}
+use Rattle.click_engine.proofs.Steps.{push-none, push-unconnected, push-made, pull-none, pull-unconnected, pull-asks, pull-held, stored-no, spread-suc, spread-zero}
+use Rattle.click_engine.proofs.Past.{acts_past}
 
 pub answers_whole : (r : Pulled) (w : World) (got : Bool) (p : Packet) → Answers r w got p → ◌≡◌ {A = Pulled} (record { world = w; packet = if got then Some p else None }) r
 answers_whole r w got p a = rw (a.world, ← a.answer) refl
@@ -52,6 +54,19 @@ module _ (net : Wiring) (w v : World) (at o : ℕ) where
         spends = λ k. omega arith;
         few = omega arith;
       }
+
+  -- where the output is joined to nothing, the element past all of them does nothing
+  pub pushed_on : (p q : Packet) (far : Port) (w1 : World) (to : PortRange) → 0 < w.left → far ≡ far_of (net.target at o) → length w.elements < 2 ^ 64
+      → w1 ≡ spent w → Acts w1 v far.element far.port p q to → to.count < 65536 → Pushed net w v at o p far.element to.first to.count q
+  pushed_on p q far w1 to h is short e acts few = go (net.target at o) refl
+    where
+      go : (t : Option Port) → net.target at o ≡ t → Pushed net w v at o p far.element to.first to.count q
+      go (Some f) t = pushed_far p q far w1 to h (t ∙ ap Some (sym (is ∙ ap far_of t))) e acts few
+      go None t =
+          let nowhere_is : far.element ≡ 2 ^ 64 - 1 = ap (λ (f : Port). f.element) (is ∙ ap far_of t) in
+          let same : length w1.elements ≡ length w.elements = ap (λ (u : World). length u.elements) e in
+          let none = acts_past w1 far.element (omega (arith, nowhere_is, same, short)) far.port p in
+          pushed_unconnected p q far.element to.first to.count h t (acts.world ∙ sym none.0 ∙ e) (ap (λ (r : PortRange). r.count) (acts.outputs ∙ sym none.2))
 
   pub reached_none : (p : Packet) (r : Reply) → w.left ≡ 0 → v ≡ overrun w → r.held ≡ false → r.count ≡ 0 → Reached net w v at o p r
   reached_none p r h e held c =
@@ -110,3 +125,18 @@ pub stored-left : (o : Option Stored) (at : ℕ) (w v : World) (p : Packet) (hel
     → MatchOption o ((held ≡ false) × (v ≡ w)) (λ s. (held ≡ true) × (s.packet ≡ p) × (v ≡ with_state w at s.state)) → v.left ≡ w.left
 stored-left None at w v p held h = ap (λ (u : World). u.left) h.1
 stored-left (Some s) at w v p held h = ap (λ (u : World). u.left) h.2
+
+-- what an element does does not depend on the crossings left
+pub acts_left : (w v : World) (at input : ℕ) (p q : Packet) (to : PortRange) → Acts w v at input p q to → (n : ℕ) → Acts (with_left w n) (with_left v n) at input p q to
+acts_left w v at input p q to a n = record { world = ap (λ u. with_left u n) a.world; packet = a.packet; outputs = a.outputs }
+
+-- a packet that was pushed on finds no crossing left
+pub along_lost : (net : Wiring) (w v u : World) (at first count : ℕ) (p : Packet) (far next still : ℕ) (q : Packet) → Along net w v at first count p far next still q
+    → still ≡ 1 → v.left ≡ 0 → u ≡ overrun v → Along net w u at first count p far next 0 q
+along_lost net w v u at first count p far next still q over one none lost =
+    let left = ap (λ (x : World). x.left) lost in
+    record {
+      made = lost ∙ sym (push-none net v far next v.left q (inr none)) ∙ sym (spread-suc (λ x o. push net v.left x far o q) still 0 next v one) ∙ over.made;
+      fewer = omega (arith, over.fewer, left);
+      falls = omega (arith, over.falls, left);
+    }

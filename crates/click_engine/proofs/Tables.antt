@@ -1,5 +1,5 @@
 -- Rows that connections are noted in.
-use Rattle.std.proofs.Common.{◌≡◌, ◌≢◌, ◌⊎◌, inl, inr, ℕ, zero, suc, ◌<◌, refl, sym, ap, subst, ◌∙◌, arith, All, List, [], ◌∷◌, ◌++◌, set, get_or, length, replicate, Bool, true, false, Option, Some, None}
+use Rattle.std.proofs.Common.{◌≡◌, ◌≢◌, ◌⊎◌, inl, inr, ℕ, zero, suc, ◌<◌, refl, sym, ap, subst, ◌∙◌, arith, All, List, [], ◌∷◌, ◌++◌, set, get_or, length, map, replicate, Bool, true, false, Option, Some, None}
 use Rattle.std.specs.Prelude.{nat_eq, ◌&&◌, if◌then◌else◌}
 use Rattle.std.proofs.lemmas.Bool.Decides.{eqb_tells}
 use Rattle.std.specs.declared.vec.Vec.{Vec}
@@ -10,7 +10,7 @@ use Rattle.click_classes.specs.declared.ports.Side.{Side}
 use Rattle.click_classes.specs.declared.ports.Side.TheVariants.{Input, Output}
 use Rattle.click_expand.specs.declared.flat.Connection.{Connection}
 use Rattle.click_engine.specs.Wires.{end_of, is_port, first_joined}
-use Rattle.click_engine.specs.kept.Tables.{entry, first_of, rows_of, IsNoted}
+use Rattle.click_engine.specs.kept.Tables.{entry, far_of, first_far, first_of, nowhere, rows_of, AreFirst, IsNoted, IsTable}
 use Rattle.click_engine.specs.declared.world.Port.{Port}
 
 pub padded : (xs : List (Option Port)) (n : ℕ) → get_or (xs ++ None ∷ []) n None ≡ get_or xs n None
@@ -90,3 +90,12 @@ noted_rows rows near far old new l is h at n =
     let row : get_or (rows_of rows) near.element [] ≡ old.items = get_or-map (λ (v : Vec (Option Port) Global). v.items) rows near.element old [] l ∙ ap (λ (v : Vec (Option Port) Global). v.items) (sym is) in
     rw (map-set (λ (v : Vec (Option Port) Global). v.items) rows near.element new)
     (noted_row (rows_of rows) near.element near.port new.items far (omega (arith, l, length-map rows (λ (v : Vec (Option Port) Global). v.items))) (λ m. h m ∙ rw row refl) at n)
+
+-- the first port of each row
+pub first_at : (rows : List (List (Option Port))) (at : ℕ) → get_or (map first_far rows) at nowhere ≡ far_of (entry rows at 0)
+first_at [] at = refl
+first_at (row ∷ rows) zero = refl
+first_at (row ∷ rows) (suc at) = first_at rows at
+
+pub firsts_are : (rows : List (List (Option Port))) (f : ℕ → ℕ → Option Port) (ports : List Port) → IsTable rows f → ports ≡ map first_far rows → AreFirst ports f
+firsts_are rows f ports table is at = rw is (first_at rows at ∙ ap far_of (table at 0))

@@ -1,7 +1,7 @@
 //! One push or pull over a connection.
 ghost use Rattle.std.specs.Prelude.{◌≡◌, ℕ, ◌+◌, ◌<◌, ◌≤◌, ◌^◌, MatchOption, IfSome, None, Some, true, false};
 ghost use Rattle.click_engine.specs.Wires.{world_of, wiring_of};
-ghost use Rattle.click_engine.specs.kept.Hops.{Along, Pushed, Reached};
+ghost use Rattle.click_engine.specs.kept.Hops.{with_left, Along, Pushed, Reached};
 
 use crate::machine::Sender;
 use crate::wires::Wires;
@@ -27,24 +27,23 @@ pub struct Outputs {
     ghost small: { first + count < 2 ^ 32 },
 }
 
-/// Pushes a packet over the connection at an output, and tells which outputs are to get it then.
+/// Pushes a packet over the connection at an output, and tells which outputs are to get it then. The crossings left are those of `left`.
 #[inline(always)]
-fn cross(wires: &Wires, work: &mut Work, at: usize, output: usize, packet: &mut Packet) -> Outputs
-    ensures { Pushed (wiring_of wires.now) (world_of work.old) (world_of work.new) at output packet.old result.at result.first result.count packet.new }
+fn cross(
+    wires: &Wires,
+    work: &mut Work,
+    left: &mut usize,
+    at: usize,
+    output: usize,
+    packet: &mut Packet,
+) -> Outputs
+    requires { 0 < left.old }
+    ensures pushed { Pushed (wiring_of wires.now) (with_left (world_of work.old) left.old) (with_left (world_of work.new) left.new) at output packet.old
+        result.at result.first result.count packet.new }
+    ensures spent { left.new < left.old }
 {
-    let none = Outputs {
-        at: 0,
-        first: 0,
-        count: 0,
-    };
-    if work.left == 0 {
-        work.overrun();
-        return none;
-    }
-    work.spend();
-    let Some(far) = wires.target(at, output) else {
-        return none;
-    };
+    *left -= 1;
+    let far = wires.target(at, output);
     let outputs = work.act(far.element, far.port, packet);
     Outputs {
         at: far.element,
@@ -64,13 +63,21 @@ pub(crate) fn push_over(
 )
     ensures { Pushed (wiring_of wires.now) (world_of work.old) (world_of work.new) at output sender.old.packet sender.new.at sender.new.first sender.new.count sender.new.packet }
 {
-    let to = cross(wires, work, at, output, &mut sender.packet);
+    if work.left == 0 {
+        work.overrun();
+        sender.count = 0;
+        return;
+    }
+    let mut left = work.left;
+    let to = cross(wires, work, &mut left, at, output, &mut sender.packet);
+    work.left = left;
     sender.at = to.at;
     sender.first = to.first;
     sender.count = to.count;
 }
 
-/// Pushes the packet of `sender` on while just one output is to get it. The place stays in locals, so that a step costs what its element does.
+/// Pushes the packet of `sender` on while just one output is to get it. The place and the crossings left stay in locals, so that a step costs what its
+/// element does.
 #[inline(never)]
 pub(crate) fn push_along(wires: &Wires, work: &mut Work, sender: &mut Sender)
     ensures { Along (wiring_of wires.now) (world_of work.old) (world_of work.new) sender.old.at sender.old.first sender.old.count sender.old.packet
@@ -81,8 +88,14 @@ pub(crate) fn push_along(wires: &Wires, work: &mut Work, sender: &mut Sender)
         first: sender.first,
         count: sender.count,
     };
-    while to.count == 1 {
-        to = cross(wires, work, to.at, to.first, &mut sender.packet);
+    let mut left = work.left;
+    while to.count == 1 && left > 0 {
+        to = cross(wires, work, &mut left, to.at, to.first, &mut sender.packet);
+    }
+    work.left = left;
+    if to.count == 1 {
+        work.overrun();
+        to.count = 0;
     }
     sender.at = to.at;
     sender.first = to.first;

@@ -1,7 +1,7 @@
 //! The connections of a net, in tables.
-ghost use Rattle.std.specs.Prelude.{◌≡◌, ◌<◌, ◌≤◌, ◌^◌, ℕ, [], vec_len, slice_index_or, IfOk, OnOk, None, nat_eq, replicate};
+ghost use Rattle.std.specs.Prelude.{◌≡◌, ◌<◌, ◌≤◌, ◌^◌, ℕ, [], vec_len, slice_index_or, IfOk, OnOk, None, nat_eq, replicate, map};
 ghost use Rattle.click_engine.specs.Wires.{end_of, first_joined};
-ghost use Rattle.click_engine.specs.kept.Tables.{entry, first_of, rows_of, IsNoted, IsTable};
+ghost use Rattle.click_engine.specs.kept.Tables.{entry, far_of, first_far, first_of, nowhere, rows_of, IsNoted, IsTable};
 
 use crate::world::Port;
 use click_classes::Side;
@@ -16,19 +16,27 @@ pub struct Wires {
     net: Net,
     targets: Vec<Vec<Option<Port>>>,
     sources: Vec<Vec<Option<Port>>>,
+    /// Where a push at the first output of each element goes: mostly there is no other.
+    ahead: Vec<Port>,
 }
+
+/// Past all elements, in the place of none.
+const NOWHERE: Port = Port {
+    element: usize::MAX,
+    port: 0,
+};
 
 impl Model for Wires {
     ghost use Rattle.click_ports.specs.Net.{Net as Seen};
     ghost use Rattle.click_engine.specs.Wires.{target_in, source_in};
-    ghost use Rattle.click_engine.specs.kept.Tables.{rows_of, IsTable};
+    ghost use Rattle.click_engine.specs.kept.Tables.{rows_of, AreFirst, IsTable};
 
     ghost Value = { Seen };
 
     ghost view = { λ w. w.net };
 
     ghost invariant = { λ w. IsTable (rows_of w.targets.items) (target_in w.net.connections)
-        × IsTable (rows_of w.sources.items) (source_in w.net.connections) };
+        × IsTable (rows_of w.sources.items) (source_in w.net.connections) × AreFirst w.ahead.items (target_in w.net.connections) };
 }
 
 /// The connection's port at a side: the output that it leaves, or the input that it comes to.
@@ -123,9 +131,52 @@ fn look_up(rows: &[Vec<Option<Port>>], at: usize, port: usize) -> Option<Port>
     *row.get(port)?
 }
 
+/// What a port is joined to, if it is joined.
+fn far_of(noted: Option<Port>) -> Port
+    ensures { result ≡ far_of noted }
+{
+    match noted {
+        Some(far) => far,
+        None => NOWHERE,
+    }
+}
+
+/// What the first port of a row is joined to.
+fn first_far(row: &[Option<Port>]) -> Port
+    ensures { result ≡ first_far row.now }
+{
+    match row.get(0) {
+        Some(noted) => far_of(*noted),
+        None => NOWHERE,
+    }
+}
+
+/// What the first port of each row is joined to.
+fn firsts(alloc: Global, rows: &[Vec<Option<Port>>]) -> Result<Vec<Port>, AllocError>
+    ensures { IfOk result (λ ports. ports.items ≡ map first_far (rows_of rows.now)) }
+{
+    let mut ports = Vec::with_capacity(alloc, rows.len())?;
+    for row in rows {
+        ports.push(first_far(row.as_slice()))?;
+    }
+    Ok(ports)
+}
+
+/// What the first port of an element is joined to.
+#[inline(always)]
+fn near(ports: &[Port], at: usize) -> Port
+    ensures { result ≡ slice_index_or ports.now at nowhere }
+{
+    match ports.get(at) {
+        Some(port) => *port,
+        None => NOWHERE,
+    }
+}
+
 impl Wires {
     ghost use Rattle.std.specs.Prelude.{◌≡◌, IfOk};
     ghost use Rattle.click_engine.specs.Wires.{wiring_of};
+    ghost use Rattle.click_engine.specs.kept.Tables.{far_of};
 
     /// The tables of a net.
     pub fn new(alloc: Global, net: Net) -> Result<Wires, AllocError>
@@ -133,10 +184,12 @@ impl Wires {
     {
         let targets = joined(alloc, &net, Side::Output, Side::Input)?;
         let sources = joined(alloc, &net, Side::Input, Side::Output)?;
+        let ahead = firsts(alloc, targets.as_slice())?;
         Ok(Wires {
             net,
             targets,
             sources,
+            ahead,
         })
     }
 
@@ -148,10 +201,14 @@ impl Wires {
     }
 
     /// The input that a push at an output goes to.
-    pub(crate) fn target(&self, at: usize, output: usize) -> Option<Port>
-        ensures { result ≡ (wiring_of self.now).target at output }
+    #[inline(always)]
+    pub(crate) fn target(&self, at: usize, output: usize) -> Port
+        ensures { result ≡ far_of ((wiring_of self.now).target at output) }
     {
-        look_up(self.targets.as_slice(), at, output)
+        if output == 0 {
+            return near(self.ahead.as_slice(), at);
+        }
+        far_of(look_up(self.targets.as_slice(), at, output))
     }
 
     /// The output that a pull at an input asks.

@@ -1,5 +1,5 @@
 -- The tables of connections.
-use Rattle.std.specs.Prelude.{◌≡◌, ℕ, List, [], ◌∷◌, map, slice_index_or, Option, Some, None, Bool, if◌then◌else◌}
+use Rattle.std.specs.Prelude.{◌≡◌, ℕ, ◌-◌, ◌^◌, List, [], ◌∷◌, map, slice_index_or, Option, Some, None, Bool, if◌then◌else◌}
 use Rattle.std.specs.declared.vec.Vec.{Vec}
 use Rattle.std.specs.declared.alloc.Global.{Global}
 use Rattle.click_engine.specs.Devices.{Device}
@@ -14,6 +14,22 @@ entry rows at number = slice_index_or (slice_index_or rows at []) number None
 
 abbrev pub IsTable : List (List (Option Port)) → (ℕ → ℕ → Option Port) → Type 0
 IsTable rows f = (at number : ℕ) → entry rows at number ≡ f at number
+
+-- a port past all elements, which stands for none
+abbrev pub nowhere : Port
+nowhere = record { element = 2 ^ 64 - 1; port = 0 }
+
+abbrev pub far_of : Option Port → Port
+far_of None = nowhere
+far_of (Some p) = p
+
+-- what a row's first port is joined to
+abbrev pub first_far : List (Option Port) → Port
+first_far row = far_of (slice_index_or row 0 None)
+
+-- what the first port of each element is joined to
+abbrev pub AreFirst : List Port → (ℕ → ℕ → Option Port) → Type 0
+AreFirst ports f = (at : ℕ) → slice_index_or ports at nowhere ≡ far_of (f at 0)
 
 -- what was noted, else the far port where it is its turn
 abbrev pub first_of : Option Port → Bool → Port → Option Port

@@ -1,1 +1,16 @@
+use Rattle.std.proofs.Common.{◌≡◌, arith}
+use Rattle.click_engine.proofs.Crossings.{along_lost}
+use Rattle.click_engine.proofs.hops.push_along.Goals.{then-to-eq1, else-to-eq1, then-loop-to-test+else-left-gt0, else-loop-to-test}
 use Rattle.click_engine.proofs.hops.push_along.Goals as goal
+
+pub returns : goal.returns
+returns c =
+    elim c.if-to-eq1.branch [
+      | then-to-eq1 w ↦
+          let none : c.loop-to.left ≡ 0 = elim c.loop-to-test.branch [
+            | then-loop-to-test+else-left-gt0 u ↦ omega (arith, u.if-left-gt0.false)
+            | else-loop-to-test u ↦ absurd (omega (arith, u.loop-to-test.false, w.if-to-eq1.true))
+          ] in
+          rw (w.work-is, w.to-is) (along_lost _ _ _ _ _ _ _ _ _ _ _ _ c.loop-to.invariant.along w.if-to-eq1.true none w.overrun.ensures)
+      | else-to-eq1 w ↦ rw (w.work-is, w.to-is) c.loop-to.invariant.along
+    ]
