@@ -1,5 +1,5 @@
 -- What a push or a pull over one connection tells.
-use Rattle.std.proofs.Common.{◌≡◌, ℕ, ◌-◌, ◌^◌, ◌<◌, inr, length, refl, sym, ap, ◌∙◌, Option, Some, None, Bool, true, false, if◌then◌else◌, MatchOption, arith}
+use Rattle.std.proofs.Common.{◌≡◌, ◌≢◌, ◌⊎◌, ℕ, zero, suc, inl, ◌-◌, ◌^◌, ◌<◌, inr, length, refl, sym, ap, ◌∙◌, Option, Some, None, Bool, true, false, if◌then◌else◌, MatchOption, arith}
 use Rattle.click_packet.specs.Packet.{Packet}
 use Rattle.click_classes.specs.Acts.{stored, Stored}
 use Rattle.click_classes.specs.declared.acting.PortRange.{PortRange}
@@ -139,4 +139,10 @@ along_lost net w v u at first count p far next still q over one none lost =
       made = lost ∙ sym (push-none net v far next v.left q (inr none)) ∙ sym (spread-suc (λ x o. push net v.left x far o q) still 0 next v one) ∙ over.made;
       fewer = omega (arith, over.fewer, left);
       falls = omega (arith, over.falls, left);
+      more = λ h e. absurd (omega arith);
     }
+
+pub not_one : (n : ℕ) → n ≢ 1 → (n ≡ 0) ⊎ (1 < n)
+not_one zero h = inl refl
+not_one (suc zero) h = absurd (h refl)
+not_one (suc (suc n)) h = inr (omega arith)

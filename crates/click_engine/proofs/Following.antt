@@ -13,7 +13,7 @@ use Rattle.click_engine.proofs.Steps.{spread-zero}
 use Rattle.click_engine.proofs.Turns.{machine, left_with}
 use Rattle.click_engine.proofs.Slot_lists.{machine_is, frames-more, frames-set, last-free}
 
-to_do-moved : (a b : ℕ) (fs : List Frame) → to_do a fs + 131072 * b ≡ to_do b fs + 131072 * a
+pub to_do-moved : (a b : ℕ) (fs : List Frame) → to_do a fs + 131072 * b ≡ to_do b fs + 131072 * a
 to_do-moved a b [] = omega arith
 to_do-moved a b (f ∷ fs) = omega (arith, to_do-moved a b fs)
 

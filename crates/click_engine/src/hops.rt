@@ -1,5 +1,5 @@
 //! One push or pull over a connection.
-ghost use Rattle.std.specs.Prelude.{◌≡◌, ℕ, ◌+◌, ◌<◌, ◌≤◌, ◌^◌, MatchOption, IfSome, None, Some, true, false};
+ghost use Rattle.std.specs.Prelude.{◌≡◌, ℕ, ◌+◌, ◌<◌, ◌⊎◌, ◌≤◌, ◌^◌, MatchOption, IfSome, None, Some, true, false};
 ghost use Rattle.click_engine.specs.Wires.{world_of, wiring_of};
 ghost use Rattle.click_engine.specs.kept.Hops.{with_left, Along, Pushed, Reached};
 
@@ -78,10 +78,11 @@ pub(crate) fn push_over(
 
 /// Pushes the packet of `sender` on while just one output is to get it. The place and the crossings left stay in locals, so that a step costs what its
 /// element does.
-#[inline(never)]
+#[inline(always)]
 pub(crate) fn push_along(wires: &Wires, work: &mut Work, sender: &mut Sender)
-    ensures { Along (wiring_of wires.now) (world_of work.old) (world_of work.new) sender.old.at sender.old.first sender.old.count sender.old.packet
+    ensures along { Along (wiring_of wires.now) (world_of work.old) (world_of work.new) sender.old.at sender.old.first sender.old.count sender.old.packet
         sender.new.at sender.new.first sender.new.count sender.new.packet }
+    ensures ends { (sender.new.count ≡ 0) ⊎ (1 < sender.new.count) }
 {
     let mut to = Outputs {
         at: sender.at,

@@ -1,8 +1,9 @@
 //! The pushes and pulls of a run that are under way: frames whose slots are written in place.
 ghost use Rattle.std.specs.Prelude.{◌≡◌, ℕ, ◌+◌, ◌-◌, ◌<◌, ◌≤◌, ◌^◌, List, [], ◌∷◌, ◌++◌, length};
 
+use crate::copies::serve_above;
 use crate::hops::{Reply, pull_over, push_along, push_over};
-use crate::slots::{copy_up, tries};
+use crate::slots::{copy_up, make_above, tries};
 use crate::wires::Wires;
 use crate::world::Work;
 use click_classes::after;
@@ -191,9 +192,49 @@ impl Machine {
         self.answered
     }
 
-    /// Pushes on where a push is on top that has one output left, up to an element with several or none.
+    /// Pushes on where a push is on top, as far as no copy has several ways to go.
     #[inline(always)]
     pub(crate) fn follow(&mut self, wires: &Wires, work: &mut Work)
+        requires room { length self.old.frames + work.old.left ≤ self.old.room }
+        ensures { Follows (wiring_of wires.now) (world_of work.old) self.old (world_of work.new) self.new }
+    {
+        if self.sending > 0 {
+            self.push_on(wires, work);
+        }
+    }
+
+    #[inline(never)]
+    fn push_on(&mut self, wires: &Wires, work: &mut Work)
+        requires room { length self.old.frames + work.old.left ≤ self.old.room }
+        ensures { Follows (wiring_of wires.now) (world_of work.old) self.old (world_of work.new) self.new }
+    {
+        self.push_copies(wires, work);
+        self.push_last(wires, work);
+    }
+
+    /// Pushes copies where a push is on top that has several outputs left, up to a copy that several are to get, or to the last output.
+    #[inline(always)]
+    fn push_copies(&mut self, wires: &Wires, work: &mut Work)
+        requires room { length self.old.frames + work.old.left ≤ self.old.room }
+        ensures { Follows (wiring_of wires.now) (world_of work.old) self.old (world_of work.new) self.new }
+    {
+        if self.sending == 0 {
+            return;
+        }
+        let top = self.sending - 1;
+        if self.senders[top].count < 2 {
+            return;
+        }
+        make_above(&mut self.senders, top);
+        serve_above(wires, work, &mut self.senders, top);
+        if self.senders[top + 1].count > 0 {
+            self.sending = top + 2;
+        }
+    }
+
+    /// Pushes on where a push is on top that has one output left, up to an element with several or none.
+    #[inline(always)]
+    fn push_last(&mut self, wires: &Wires, work: &mut Work)
         requires room { length self.old.frames + work.old.left ≤ self.old.room }
         ensures { Follows (wiring_of wires.now) (world_of work.old) self.old (world_of work.new) self.new }
     {

@@ -1,5 +1,5 @@
 //! The slots of a machine.
-ghost use Rattle.std.specs.Prelude.{◌≡◌, ℕ, ◌+◌, ◌<◌, ◌≤◌, List, length, vec_len, vec_capacity};
+ghost use Rattle.std.specs.Prelude.{◌≡◌, ℕ, ◌+◌, ◌<◌, ◌≤◌, List, length, take, vec_len, vec_capacity};
 ghost use Rattle.click_engine.specs.kept.Slots.{CopiedUp};
 ghost use Rattle.click_engine.specs.declared.machine.Ask.TheVariants.{Tries};
 
@@ -31,6 +31,20 @@ pub(crate) fn copy_up(senders: &mut Vec<Sender>, top: usize)
         push_copy(senders, top);
     } else {
         copy_next(senders.as_mut_slice(), top);
+    }
+}
+
+/// Makes a slot above `top`, the first time that one is needed there.
+#[inline(always)]
+pub(crate) fn make_above(senders: &mut Vec<Sender>, top: usize)
+    requires top { top < vec_len senders.old }
+    requires room { top + 1 < vec_capacity senders.old }
+    ensures below { take (top + 1) senders.new.items ≡ take (top + 1) senders.old.items }
+    ensures long { top + 1 < length senders.new.items }
+    ensures capacity { vec_capacity senders.old ≤ vec_capacity senders.new }
+{
+    if top + 1 == senders.len() {
+        push_copy(senders, top);
     }
 }
 
