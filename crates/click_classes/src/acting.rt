@@ -327,6 +327,7 @@ impl State {
 
     /// Takes out what the element itself has stored, and makes `packet` equal to it; false, and without change, where there is nothing.
     #[tactic(auto, unfolding(crate::specs::Acts::stored))]
+    #[inline(always)]
     pub fn take_stored(&mut self, packet: &mut Packet) -> bool
         ensures { MatchOption (stored self.old) ((result ≡ false) × (self.new ≡ self.old) × (packet.new ≡ packet.old))
             (λ s. (result ≡ true) × (s ≡ record { packet = packet.new; state = self.new })) }

@@ -208,6 +208,17 @@ impl Machine {
         requires room { length self.old.frames + work.old.left ≤ self.old.room }
         ensures { Follows (wiring_of wires.now) (world_of work.old) self.old (world_of work.new) self.new }
     {
+        self.push_last(wires, work);
+        if self.sending > 0 {
+            self.push_rest(wires, work);
+        }
+    }
+
+    #[inline(never)]
+    fn push_rest(&mut self, wires: &Wires, work: &mut Work)
+        requires room { length self.old.frames + work.old.left ≤ self.old.room }
+        ensures { Follows (wiring_of wires.now) (world_of work.old) self.old (world_of work.new) self.new }
+    {
         self.push_copies(wires, work);
         self.push_last(wires, work);
     }

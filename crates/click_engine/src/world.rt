@@ -81,6 +81,7 @@ impl Work {
         }
     }
 
+    #[inline(always)]
     pub(crate) fn take_stored(&mut self, at: usize, packet: &mut Packet) -> bool
         ensures { MatchOption (stored (element_at (world_of self.old) at).state)
             ((result ≡ false) × (world_of self.new ≡ world_of self.old))
