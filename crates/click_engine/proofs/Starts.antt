@@ -4,18 +4,23 @@ use Rattle.click_packet.specs.Packet.{Packet}
 use Rattle.click_classes.specs.Acts.{Stored}
 use Rattle.click_engine.specs.World.{Wiring, World}
 use Rattle.click_engine.specs.Run.{push, pull, Pulled}
-use Rattle.click_engine.specs.Frames.{Sends, Pulls, Machine, complete}
+use Rattle.click_engine.specs.Frames.{Sends, Pulls, Asks, Machine, IsTurn, Follows, complete}
 use Rattle.click_engine.specs.kept.Slots.{frames_of, last_of}
 use Rattle.click_engine.specs.declared.machine.Sender.{Sender}
 use Rattle.click_engine.specs.declared.machine.Ask.{Ask}
-use Rattle.click_engine.specs.declared.machine.Ask.TheVariants.{Pull}
-use Rattle.click_engine.proofs.Turns.{machine, left_with}
+use Rattle.click_engine.specs.declared.machine.Ask.TheVariants.{Tries}
+use Rattle.click_engine.specs.declared.hops.Reply.{Reply}
+use Rattle.click_engine.specs.kept.Hops.{Reached}
+use Rattle.click_engine.proofs.Turns.{machine, left_with, pulls_ended, pulls_asks}
 use Rattle.click_engine.proofs.Slack.{push-slack}
 use Rattle.click_engine.proofs.Slot_lists.{no_asks, no_senders, one_send, some_packet, last-none}
 
 last_set : (xs : List Sender) (s : Sender) (b : Bool) → 0 < length xs → last_of b (set xs 0 s) ≡ (if b then Some s.packet else None)
 last_set [] s b l = absurd (omega (arith, l))
 last_set (x ∷ xs) s b l = refl
+
+of_turn : (net : Wiring) (w v : World) (a b : Machine) → IsTurn net w a v b → Follows net w a v b
+of_turn net w v a b t = record { keeps = t.keeps; fewer = t.fewer; room = t.room; fits = t.fits; falls = omega (arith, t.falls) }
 
 module _ (old : Machine) (d : ℕ) (xs : List Sender) (ys : List Ask) (got : Bool) (r : ℕ)
     (view : machine (frames_of (take d xs) ys) (last_of got xs) r ≡ old) (done : old.frames ≡ []) where
@@ -40,14 +45,6 @@ module _ (old : Machine) (d : ℕ) (xs : List Sender) (ys : List Ask) (got : Boo
       go None e = tt
       go (Some p) e = started_push first s at p at_is first_is count_is (packet_is ∙ some_packet got xs u p first there e)
 
-  pub started_pull : d ≤ length xs → (zs : List Ask) (at : ℕ) → zs ≡ ys ++ Pull at 0 ∷ []
-      → machine (frames_of (take d xs) zs) (last_of false xs) r ≡ machine (Pulls at 0 ∷ []) None old.room
-  started_pull inside zs at e =
-      let none = no_asks (take d xs) ys empty in
-      let zero = no_senders d xs ys inside empty in
-      let frames : frames_of (take d xs) zs ≡ Pulls at 0 ∷ [] = rw (e, none, zero) refl in
-      rw (frames, last-none xs, same_room) refl
-
   -- the first slot holds the answer, where there is one
   pub held : d ≤ length xs → 0 < length xs → (s : Sender) (b : Bool)
       → machine (frames_of (take d (set xs 0 s)) ys) (last_of b (set xs 0 s)) r ≡ machine [] (if b then Some s.packet else None) old.room
@@ -55,6 +52,21 @@ module _ (old : Machine) (d : ℕ) (xs : List Sender) (ys : List Ask) (got : Boo
       let none = no_asks (take d xs) ys empty in
       let zero = no_senders d xs ys inside empty in
       rw (zero, none, same_room, last_set xs s b first) refl
+
+  -- a pull began, and its first turn was made
+  module _ (net : Wiring) (w v : World) (at : ℕ) (s : Sender) (rep : Reply) (over : Reached net w v at 0 s.packet rep) (fits : w.left < old.room) (inside : d ≤ length xs) (first : 0 < length xs) where
+    pub pulled_ended : rep.count ≡ 0
+        → Follows net w (machine (Pulls at 0 ∷ []) None old.room) v (machine (frames_of (take d (set xs 0 s)) ys) (last_of rep.held (set xs 0 s)) r)
+    pulled_ended none = rw (held inside first s rep.held) (of_turn net w v _ _ (pulls_ended net w v [] old.room s.packet rep None at 0 over none (omega (arith, fits))))
+
+    pub pulled_asks : (zs : List Ask) (x : Ask) → zs ≡ ys ++ x ∷ [] → x ≡ Tries rep.at rep.inputs rep.count rep.first 0 → 0 < rep.count
+        → Follows net w (machine (Pulls at 0 ∷ []) None old.room) v (machine (frames_of (take d (set xs 0 s)) zs) (last_of rep.held (set xs 0 s)) r)
+    pulled_asks zs x e f more =
+        let none = no_asks (take d xs) ys empty in
+        let zero = no_senders d xs ys inside empty in
+        let frames : frames_of (take d (set xs 0 s)) zs ≡ Asks rep.at rep.inputs rep.count rep.first 0 ∷ [] = rw (e, none, zero, f) refl in
+        let last : last_of rep.held (set xs 0 s) ≡ None = ap (λ b. last_of b (set xs 0 s)) (over.alone more) ∙ last-none (set xs 0 s) in
+        rw (frames, last, same_room) (of_turn net w v _ _ (pulls_asks net w v [] old.room s.packet rep None at 0 0 over more (omega (arith, fits))))
 
 -- what a source gave is the answer
 pub taken : (b : Bool) (q : Packet) (m : Machine) (room : ℕ) → m ≡ machine [] (if b then Some q else None) room → (w v : World) (X : Stored → Type 0) (o : Option Stored)

@@ -168,14 +168,20 @@ impl Machine {
         self.answered = false;
     }
 
-    /// Begins with a pull at input 0 of an element.
-    pub(crate) fn start_pull(&mut self, at: usize)
+    /// Begins with a pull at input 0 of an element, whose first turn is made at once: mostly a queue is there, and nothing is left to do.
+    #[inline(always)]
+    pub(crate) fn start_pull(&mut self, wires: &Wires, work: &mut Work, at: usize)
         requires done { self.old.frames ≡ [] }
-        requires room { 0 < self.old.room }
-        ensures { self.new ≡ record { frames = Pulls at 0 ∷ []; last = None; room = self.old.room } }
+        requires room { work.old.left < self.old.room }
+        ensures { Follows (wiring_of wires.now) (world_of work.old) (record { frames = Pulls at 0 ∷ []; last = None; room = self.old.room })
+            (world_of work.new) self.new }
     {
-        self.answered = false;
-        let _made = self.asks.push(Ask::Pull { at, input: 0 });
+        let sender = &mut self.senders[0];
+        let reply = pull_over(wires, work, at, 0, &mut sender.packet);
+        self.answered = reply.held;
+        if reply.count > 0 {
+            let _made = self.asks.push(tries(reply));
+        }
     }
 
     /// The answer becomes the packet that a source gives next; false, and there is none, where it gives none.
