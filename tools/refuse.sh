@@ -1,11 +1,11 @@
 #!/usr/bin/env bash
-# Refuses each request for memory of some runs in turn, until a run has none refused: the program's stored session, the preparing and the parsing of
-# some texts, the making of some elements. The programs must have been built.
+# Refuses each request for memory of some runs in turn, until a run has none refused: the program's stored session, handlers that are read and written, the
+# preparing and the parsing of some texts, the making of some elements. The programs must have been built.
 #
-#   tools/refuse.sh [program|bench]    the runs of click_prog, or of click_bench, alone
+#   tools/refuse.sh [program|calls|bench]    the runs of click_prog, of click_calls, or of click_bench, alone
 set -eu
 . "$(dirname "$(readlink -f "$0")")/checking.sh"
-is_built "$program" "$bench"
+is_built "$program" "$calls" "$bench"
 if ! command -v cc > /dev/null; then fail 'there is no C compiler cc, which tools/refuse.c needs'; fi
 if ! cc -O1 -shared -fPIC -o "$work/refuse.so" "$top/tools/refuse.c" -ldl; then fail 'tools/refuse.c does not compile'; fi
 tried=0 answered=0 first=1
@@ -74,6 +74,15 @@ refuse_program() {
     passed none 'while texts are prepared'
 }
 
+refuse_calls() {
+    # The table of handlers, reads and writes: the replies before the refused request stand.
+    for config in capacity lookup suppressor switches source_handlers; do
+        example=$top/examples/calls/$config
+        in_turn "the calls of $config" "$example.calls" "$example.out" none 3 "$example.out" "$calls" -e "$(cat "$example.click")"
+    done
+    passed none 'while handlers are read and written'
+}
+
 refuse_bench() {
     # click_bench writes the fault, or fails to read its input.
     : > "$work/nothing"
@@ -114,9 +123,11 @@ E
 
 case "${1:-both}" in
 program) refuse_program ;;
+calls) refuse_calls ;;
 bench) refuse_bench ;;
 both)
     refuse_program
+    refuse_calls
     refuse_bench ;;
 *) fail "there are no runs of $1" ;;
 esac

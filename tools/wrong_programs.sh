@@ -142,6 +142,9 @@ wrong_calls 'another value' 'sed -i "s/^value 313238/value 313237/" "$out"'
 wrong_calls 'digits in upper case' 'sed -i "/^sent/y/abcdef/ABCDEF/" "$out"'
 wrong_calls 'no paint' 'sed -i "s/ 7 / 0 /" "$out"'
 wrong_calls 'another destination' 'sed -i "s/192.168.1.10/10.1.168.192/" "$out"'
+wrong_calls 'a write that is done and refused' 'sed -i "s/^refused Handler .*/done/" "$out"'
+wrong_calls 'one fault of a handler for another' 'sed -i "s/^refused Handler not a number/refused Handler out of range/" "$out"'
+wrong_calls 'no handler for one of the other way' 'sed -i "s/^refused WrongWay/refused NoHandler/" "$out"'
 wrong_calls 'junk on standard error' 'if [ $status = 0 ]; then echo junk >> "$err"; fi'
 wrong_calls 'a reply to a line that is no call' 'if [ $status = 2 ]; then echo nodevice >> "$out"; fi'
 wrong_calls 'another number of a line' 'sed -i "s/^error 3/error 2/" "$err"'
@@ -149,6 +152,10 @@ wrong_calls 'nothing of what is wrong' 'sed -i "s/: .*/:/" "$err"'
 wrong_calls 'a fault with a name before it' 'sed -i "s/^31 /click_calls: 31 /" "$err"'
 for from in 0 1 2 4; do
     wrong_calls "status 3 in place of $from" "if [ \$status = $from ]; then status=3; fi"
+done
+for change in 'status=0' 'echo junk >> "$out"' 'if [ $status = 3 ]; then echo done >> "$out"; fi' 'if [ $status = 3 ]; then echo junk >> "$err"; fi'; do
+    wrapped "$work/wrong_calls" "$calls" "$change"
+    CALLS=$work/wrong_calls is_refused "a click_calls with the change $change" tools/refuse.sh calls
 done
 for change in ': > "$out"' 'sed -i 1d "$out"' 'sed -i "s/ 255 / 254 /" "$out"' 'echo junk >> "$err"' 'status=3'; do
     wrapped "$work/wrong_calls" "$calls" "$change"

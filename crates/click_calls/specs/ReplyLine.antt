@@ -1,16 +1,12 @@
 -- A reply as a line.
-use Rattle.std.specs.Prelude.{ℕ, List, ◌++◌, slice_index, codes, decimal, Some, None}
+use Rattle.std.specs.Prelude.{ℕ, List, ◌++◌, codes, decimal, Some, None}
 use Rattle.click_packet.specs.Packet.{Packet}
+use Rattle.click_handlers.specs.Answers.{fault_text}
+use Rattle.click_handlers.specs.Reads.{dotted}
 use Rattle.click_router.specs.declared.call.Reply.{Reply}
 use Rattle.click_router.specs.declared.call.Reply.TheVariants as reply
 use Rattle.click_router.specs.declared.call.Refusal.TheVariants as refusal
 use Rattle.click_calls.specs.Digits.{hex_text}
-
--- an address as four numbers with dots between them
-abbrev pub dotted : List ℕ → List ℕ
-dotted address =
-    decimal (slice_index address 0) ++ codes "." ++ decimal (slice_index address 1) ++ codes "." ++ decimal (slice_index address 2) ++ codes "."
-    ++ decimal (slice_index address 3)
 
 -- a word and a number
 abbrev pub counted_line : List ℕ → ℕ → List ℕ
@@ -24,6 +20,9 @@ abbrev pub reply_line : Reply → List ℕ
 reply_line (reply.Value bytes) = codes "value " ++ hex_text bytes ++ codes "\n"
 reply_line (reply.Refused refusal.NoElement) = codes "refused NoElement\n"
 reply_line (reply.Refused refusal.NoHandler) = codes "refused NoHandler\n"
+reply_line (reply.Refused refusal.WrongWay) = codes "refused WrongWay\n"
+reply_line (reply.Refused (refusal.Handler f)) = codes "refused Handler " ++ fault_text f ++ codes "\n"
+reply_line reply.Done = codes "done\n"
 reply_line (reply.Entered count) = counted_line (codes "entered ") count
 reply_line (reply.Worked count) = counted_line (codes "worked ") count
 reply_line (reply.Sent (Some packet)) = sent_line packet

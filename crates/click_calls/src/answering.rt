@@ -2,7 +2,7 @@
 
 use crate::line::{LineFault, call_of};
 use crate::reply::reply_line;
-use click_router::{Router, StepFault};
+use click_router::{Handlers, Router, StepFault};
 use std::alloc::{AllocError, Global};
 use std::io::{self, BufRead, Read, Write};
 use thiserror::Error;
@@ -53,11 +53,11 @@ enum Next {
 }
 
 /// Answers the calls of the input until it ends. Each reply is written before the next line is read.
-pub fn answer_all<R: BufRead, W: Write>(
+pub fn answer_all<R: BufRead, W: Write, T: Handlers>(
     alloc: Global,
     input: &mut R,
     output: &mut W,
-    router: &mut Router,
+    router: &mut Router<T>,
 ) -> Result<(), Stop> {
     let mut line = Vec::new(alloc);
     for before in 0..u64::MAX {
@@ -93,12 +93,12 @@ fn next_line<R: BufRead>(input: &mut R, line: &mut Vec<u8>) -> io::Result<Next> 
 }
 
 /// Answers the call of a line.
-fn answer<W: Write>(
+fn answer<W: Write, T: Handlers>(
     alloc: Global,
     number: u64,
     line: &[u8],
     output: &mut W,
-    router: &mut Router,
+    router: &mut Router<T>,
 ) -> Result<(), Stop> {
     let call = match call_of(alloc, line) {
         Ok(call) => call,

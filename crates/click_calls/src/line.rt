@@ -61,8 +61,21 @@ pub fn call_of(alloc: Global, line: &[u8]) -> Result<Call, LineFault> {
                 device: kept(alloc, device)?,
             })
         }
-        b"read" => read_of(alloc, rest),
-        b"write" | b"checkread" | b"checkwrite" | b"swap" => Err(LineFault::NotCarriedOut),
+        b"read" => {
+            let (name, text) = named_text(alloc, rest)?;
+            Ok(Call::Read { name, text })
+        }
+        b"write" => {
+            let (name, text) = named_text(alloc, rest)?;
+            Ok(Call::Write { name, text })
+        }
+        b"checkread" => Ok(Call::CheckRead {
+            name: only_name(alloc, rest)?,
+        }),
+        b"checkwrite" => Ok(Call::CheckWrite {
+            name: only_name(alloc, rest)?,
+        }),
+        b"swap" => Err(LineFault::NotCarriedOut),
         _ => Err(LineFault::UnknownCall),
     }
 }
@@ -136,11 +149,18 @@ fn packets_of(alloc: Global, list: &[u8]) -> Result<Sequence<Packet>, LineFault>
     Ok(packets)
 }
 
-/// `read` with its handler and its text, which is the rest of the line.
-fn read_of(alloc: Global, rest: Option<&[u8]>) -> Result<Call, LineFault> {
+/// A handler and a text, which is the rest of the line.
+fn named_text(
+    alloc: Global,
+    rest: Option<&[u8]>,
+) -> Result<(Sequence<u8>, Sequence<u8>), LineFault> {
     let (name, text) = field(rest)?;
-    Ok(Call::Read {
-        name: kept(alloc, name)?,
-        text: kept(alloc, text.unwrap_or(b""))?,
-    })
+    Ok((kept(alloc, name)?, kept(alloc, text.unwrap_or(b""))?))
+}
+
+/// A handler alone.
+fn only_name(alloc: Global, rest: Option<&[u8]>) -> Result<Sequence<u8>, LineFault> {
+    let (name, rest) = field(rest)?;
+    ended(rest)?;
+    Ok(kept(alloc, name)?)
 }

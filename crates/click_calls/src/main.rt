@@ -13,7 +13,8 @@ mod reply;
 use answering::{Stop, answer_all};
 use arguments::configuration;
 use clap::error::ErrorKind;
-use click_router::{ConfigFault, FaultKind, Router, prepare};
+use click_handlers::{Table, TakesTable, with_table};
+use click_router::{ConfigFault, FaultKind, Handlers, Router, prepare};
 use std::io::{BufReader, Write};
 use std::process::ExitCode;
 use std::{env, io};
@@ -59,7 +60,13 @@ fn program(rt: &HostRuntime) -> Status {
         return Status::NoMemory;
     };
     match configuration(alloc, words.as_slice()) {
-        Ok(text) => calls(rt, text.unwrap().as_bytes()),
+        Ok(text) => {
+            let bytes = text.unwrap().as_bytes();
+            match with_table(alloc, Answers { rt, text: bytes }) {
+                Ok(Ok(status)) => status,
+                Ok(Err(_)) | Err(_) => Status::NoMemory,
+            }
+        }
         Err(error) if error.kind() == ErrorKind::OutOfMemory => Status::NoMemory,
         Err(error) => {
             // A failed write changes nothing of the status.
@@ -81,11 +88,26 @@ fn unread(rt: &HostRuntime, kind: io::ErrorKind) -> Status
     Status::Wrong
 }
 
+/// The calls on standard input, to a router of this text.
+#[derive(Drop)]
+struct Answers<'a> {
+    rt: &'a HostRuntime,
+    text: &'a [u8],
+}
+
+impl<'a> TakesTable for Answers<'a> {
+    type Out = Status;
+
+    fn take(self, table: Table) -> Status {
+        calls(self.rt, table, self.text)
+    }
+}
+
 /// Answers the calls on standard input by the router of the text.
-fn calls(rt: &HostRuntime, text: &[u8]) -> Status {
+fn calls<T: Handlers + Drop>(rt: &HostRuntime, table: T, text: &[u8]) -> Status {
     let alloc = rt.alloc();
     let mut router = match prepare(alloc, text) {
-        Ok(prepared) => Router::open(prepared),
+        Ok(prepared) => Router::open(table, prepared),
         Err(fault) => return refuse(rt, &fault),
     };
     let Ok(mut input) = BufReader::new(alloc, rt.stdin()) else {

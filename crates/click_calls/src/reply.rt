@@ -1,9 +1,11 @@
 //! A reply as a line.
 
 ghost use Rattle.std.specs.Prelude.{◌≡◌, ◌++◌, IfOk, OnOk, codes, decimal};
-ghost use Rattle.click_calls.specs.ReplyLine.{reply_line, sent_line, counted_line, dotted};
+ghost use Rattle.click_calls.specs.ReplyLine.{reply_line, sent_line, counted_line};
+ghost use Rattle.click_handlers.specs.Answers.{fault_text};
 
 use crate::digits::hex_text;
+use click_handlers::{HandlerFault, push_dotted};
 use click_packet::Packet;
 use click_router::{Refusal, Reply};
 use itoa::Buffer;
@@ -22,12 +24,25 @@ pub fn reply_line(alloc: Global, reply: &Reply) -> Result<Vec<u8>, AllocError>
         }
         Reply::Refused(Refusal::NoElement) => Vec::from_slice(alloc, b"refused NoElement\n"),
         Reply::Refused(Refusal::NoHandler) => Vec::from_slice(alloc, b"refused NoHandler\n"),
+        Reply::Refused(Refusal::WrongWay) => Vec::from_slice(alloc, b"refused WrongWay\n"),
+        Reply::Refused(Refusal::Handler(fault)) => fault_line(alloc, *fault),
+        Reply::Done => Vec::from_slice(alloc, b"done\n"),
         Reply::Entered(count) => counted_line(alloc, b"entered ", *count),
         Reply::Worked(count) => counted_line(alloc, b"worked ", *count),
         Reply::Sent(Some(packet)) => sent_line(alloc, packet),
         Reply::Sent(None) => Vec::from_slice(alloc, b"sent none\n"),
         Reply::NoDevice => Vec::from_slice(alloc, b"nodevice\n"),
     }
+}
+
+/// What a handler says.
+fn fault_line(alloc: Global, fault: HandlerFault) -> Result<Vec<u8>, AllocError>
+    ensures { IfOk result (λ line. line.items ≡ codes "refused Handler " ++ fault_text fault ++ codes "\n") }
+{
+    let mut line = Vec::from_slice(alloc, b"refused Handler ")?;
+    line.extend_from_slice(fault.text())?;
+    line.extend_from_slice(b"\n")?;
+    Ok(line)
 }
 
 /// A word and a number.
@@ -62,18 +77,4 @@ fn push_byte(line: &mut Vec<u8>, number: u8) -> Result<(), AllocError>
     let mut digits = Buffer::new();
     line.extend_from_slice(digits.format(number).as_bytes())?;
     Ok(())
-}
-
-/// Adds four numbers with dots between them.
-fn push_dotted(line: &mut Vec<u8>, address: [u8; 4]) -> Result<(), AllocError>
-    ensures { OnOk result (line.new.items ≡ line.old.items ++ dotted address) }
-{
-    let [first, second, third, fourth] = address;
-    push_byte(line, first)?;
-    line.extend_from_slice(b".")?;
-    push_byte(line, second)?;
-    line.extend_from_slice(b".")?;
-    push_byte(line, third)?;
-    line.extend_from_slice(b".")?;
-    push_byte(line, fourth)
 }

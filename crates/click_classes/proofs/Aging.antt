@@ -1,8 +1,8 @@
 -- What DecIPTTL lets pass keeps a good header.
-use Rattle.std.proofs.Common.{◌≡◌, ℕ, ◌-◌, List, true, false, Option, Some, None, nat_le, refl, sym, ap, ◌∙◌, subst, inl, inr}
+use Rattle.std.proofs.Common.{◌≡◌, ℕ, ◌-◌, List, Option, Some, None, nat_le, inl, inr}
 use Rattle.std.proofs.lemmas.Bool.{cases_Bool}
 use Rattle.click_packet.specs.Packet.{Packet}
-use Rattle.click_packet.specs.Header.{ttl, with_ttl, IsGoodHeader}
+use Rattle.click_packet.specs.Header.{ttl, IsGoodHeader}
 use Rattle.click_packet.proofs.Headers.{with_ttl-good}
 use Rattle.click_classes.specs.Acts.{pass, aged}
 use Rattle.click_classes.specs.declared.acting.Fate.TheVariants as fate

@@ -1,5 +1,5 @@
 -- The ports that an element names are there.
-use Rattle.std.proofs.Common.{◌≡◌, ℕ, ◌+◌, ◌-◌, ◌<◌, ◌≤◌, List, [], ◌∷◌, length, take, ◌==◌, nat_le, nat_lt, Bool, true, false, Option, Some, None, if◌then◌else◌, min, max, refl, sym, ap, ◌∙◌, arith}
+use Rattle.std.proofs.Common.{◌≡◌, ℕ, ◌+◌, ◌<◌, ◌≤◌, List, [], ◌∷◌, length, take, ◌==◌, nat_lt, Bool, true, false, Option, Some, None, if◌then◌else◌, min, max, refl, sym, ap, ◌∙◌, arith}
 use Rattle.std.specs.Prelude.{position}
 use Rattle.std.proofs.Math.Nat.{le-max_left, le-max_right}
 use Rattle.std.proofs.lemmas.Bool.{cond_both}
@@ -7,15 +7,14 @@ use Rattle.std.proofs.lemmas.Bool.Decides.{nat_tests}
 use Rattle.std.proofs.lemmas.List.{length-take}
 use Rattle.std.proofs.lemmas.List.Quantifiers.{position-Some}
 use Rattle.click_packet.specs.Packet.{Packet}
-use Rattle.click_classes.specs.Acts.{act, pass, gives, pushed_to, copied_to, is_active, front_dropped, switched, routed, classified, after, range, side_output, tries, Acted}
-use Rattle.click_classes.specs.Counts.{counts, outputs_for}
-use Rattle.click_classes.specs.Fitting.{FitsPorts, HasTurn, AreThere, AreAsked}
+use Rattle.click_classes.specs.Acts.{act, pass, gives, pushed_to, copied_to, is_active, front_dropped, switched, routed, classified, tries, Acted}
+use Rattle.click_classes.specs.Counts.{outputs_for}
+use Rattle.click_classes.specs.Fitting.{FitsPorts, AreThere, AreAsked}
 use Rattle.click_classes.specs.Matches.{matches}
 use Rattle.click_classes.specs.PacketList.{PacketList}
 use Rattle.click_classes.specs.Routes.{route, covers, longer}
 use Rattle.click_classes.specs.declared.acting.Fate.{Fate}
 use Rattle.click_classes.specs.declared.acting.Fate.TheVariants as fate
-use Rattle.click_classes.specs.declared.acting.PortRange.{PortRange}
 use Rattle.click_classes.specs.declared.state.State.{State}
 use Rattle.click_classes.specs.declared.state.State.TheVariants as state
 use Rattle.click_classes.specs.declared.values.entry.Entry.{Entry}

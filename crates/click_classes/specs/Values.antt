@@ -58,6 +58,14 @@ within low high (Some n) = if nat_le low n && nat_le n high then Ok n else Err f
 unfoldable pub number_in : ℕ → ℕ → List ℕ → Result ℕ ArgFault
 number_in low high bytes = within low high (number bytes)
 
+-- the number that decimal digits alone spell
+abbrev pub digits : List ℕ → Option ℕ
+digits bytes = if is_run digit bytes then Some (spelled 10 0 bytes) else None
+
+-- a number from low to high, in decimal digits alone
+unfoldable pub decimal_number : ℕ → ℕ → List ℕ → Result ℕ ArgFault
+decimal_number low high bytes = within low high (digits bytes)
+
 abbrev pub some : Result ℕ ArgFault → Result (Option ℕ) ArgFault
 some (Ok n) = Ok (Some n)
 some (Err f) = Err f

@@ -3,10 +3,10 @@
 ghost use Rattle.std.specs.Prelude.{◌≡◌, MatchResult};
 
 use crate::port::{AskFault, Port};
-use click_router::{Call, Reply, Router, StepFault};
+use click_router::{Call, Handlers, Reply, Router, StepFault};
 use std::alloc::Global;
 
-impl Port for Router {
+impl<T: Handlers> Port for Router<T> {
     ghost use Rattle.click_control.specs.Alone.{Steps};
 
     ghost asks = { Steps };

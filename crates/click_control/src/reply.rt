@@ -3,10 +3,11 @@
 ghost use Rattle.std.specs.Prelude.{◌≡◌, ◌++◌, IfOk, codes};
 ghost use Rattle.std.specs.List.{before_last};
 ghost use Rattle.click_router.specs.One.{is_dot};
-ghost use Rattle.click_control.specs.ReplyText.{text_of, read_text, uncalled_text, naming, data_text};
+ghost use Rattle.click_control.specs.ReplyText.{text_of, read_text, uncalled_text, naming, data_text, handler_text};
 
 use crate::command::{Answer, Command};
 use crate::port::AskFault;
+use click_handlers::HandlerFault;
 use click_router::{Refusal, Reply};
 use itoa::Buffer;
 use memchr::memrchr;
@@ -50,10 +51,18 @@ fn read_text(alloc: Global, handler: &[u8], answer: &Answer) -> Result<Vec<u8>, 
         Answer::Replied(Reply::Refused(Refusal::NoHandler)) => {
             naming(alloc, b"511 No handler named ", handler, b"")
         }
+        Answer::Replied(Reply::Refused(Refusal::WrongWay)) => {
+            naming(alloc, b"530 Handler ", handler, b" write-only")
+        }
+        Answer::Replied(Reply::Refused(Refusal::Handler(fault))) => {
+            handler_text(alloc, b"520-Read handler ", handler, *fault)
+        }
         Answer::Failed(AskFault::NoMemory) => Vec::from_slice(alloc, b"520 Out of memory\r\n"),
         Answer::Failed(AskFault::HistoryFull) => Vec::from_slice(alloc, b"520 History full\r\n"),
-        // What only calls that carry packets are answered.
-        Answer::Replied(Reply::Entered(_) | Reply::Worked(_) | Reply::Sent(_) | Reply::NoDevice)
+        // What only other calls are answered.
+        Answer::Replied(
+            Reply::Done | Reply::Entered(_) | Reply::Worked(_) | Reply::Sent(_) | Reply::NoDevice,
+        )
         | Answer::NoCall => Ok(Vec::new(alloc)),
     }
 }
@@ -68,6 +77,22 @@ fn value_text(alloc: Global, handler: &[u8], bytes: &[u8]) -> Result<Vec<u8>, Al
     text.extend_from_slice(digits.format(bytes.len()).as_bytes())?;
     text.extend_from_slice(b"\r\n")?;
     text.extend_from_slice(bytes)?;
+    Ok(text)
+}
+
+/// The lines of a handler's own fault.
+fn handler_text(
+    alloc: Global,
+    front: &[u8],
+    handler: &[u8],
+    fault: HandlerFault,
+) -> Result<Vec<u8>, AllocError>
+    ensures { IfOk result (λ text. text.items ≡ handler_text front.now handler.now fault) }
+{
+    let mut text = naming(alloc, front, handler, b" error:")?;
+    text.extend_from_slice(b"520 ")?;
+    text.extend_from_slice(fault.text())?;
+    text.extend_from_slice(b"\r\n")?;
     Ok(text)
 }
 

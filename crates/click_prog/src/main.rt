@@ -13,7 +13,8 @@ mod tests;
 use arguments::configuration;
 use clap::error::ErrorKind;
 use click_control::{Ended, InputDevice, OutputDevice, Reading, ServeFault, Sink, Source, Writing};
-use click_router::{ConfigFault, FaultKind};
+use click_handlers::{Table, TakesTable, with_table};
+use click_router::{ConfigFault, FaultKind, Handlers};
 use run::{RunFault, run};
 use std::alloc::Global;
 use std::io::Write;
@@ -61,9 +62,11 @@ fn program(rt: &HostRuntime) -> Status {
     };
     match configuration(alloc, words.as_slice()) {
         Ok(text) => {
-            let bytes = text.unwrap().as_bytes();
-            let (status, _, _) = session(alloc, rt.stdin(), rt.stdout(), &mut rt.stderr(), bytes);
-            status
+            let text = text.unwrap().as_bytes();
+            match with_table(alloc, Serving { rt, text }) {
+                Ok(Ok(status)) => status,
+                Ok(Err(_)) | Err(_) => Status::NoMemory,
+            }
         }
         Err(error) if error.kind() == ErrorKind::OutOfMemory => Status::NoMemory,
         Err(error) => {
@@ -86,10 +89,35 @@ fn unread(rt: &HostRuntime, kind: io::ErrorKind) -> Status
     Status::WrongArguments
 }
 
+/// One session on standard input and output, over the router of this text.
+#[derive(Drop)]
+struct Serving<'a> {
+    rt: &'a HostRuntime,
+    text: &'a [u8],
+}
+
+impl<'a> TakesTable for Serving<'a> {
+    type Out = Status;
+
+    fn take(self, table: Table) -> Status {
+        let rt = self.rt;
+        let (status, _, _) = session(
+            rt.alloc(),
+            table,
+            rt.stdin(),
+            rt.stdout(),
+            &mut rt.stderr(),
+            self.text,
+        );
+        status
+    }
+}
+
 /// Serves one session that reads from this device and writes to that one, over the router of the text. The devices come back as the
 /// session left them.
-fn session<I: InputDevice, O: OutputDevice, E: Write>(
+fn session<T: Handlers + Drop, I: InputDevice, O: OutputDevice, E: Write>(
     alloc: Global,
+    table: T,
     input: I,
     output: O,
     errors: &mut E,
@@ -100,13 +128,14 @@ fn session<I: InputDevice, O: OutputDevice, E: Write>(
 {
     let mut reader = Reading::new(input);
     let mut writer = Writing::new(output);
-    let status = serve_text(alloc, &mut reader, &mut writer, errors, text);
+    let status = serve_text(alloc, table, &mut reader, &mut writer, errors, text);
     (status, reader, writer)
 }
 
 /// Serves one session with this reader and this writer, over the router of the text. Why a text is refused is written to `errors`.
-fn serve_text<R: Source, W: Sink, E: Write>(
+fn serve_text<T: Handlers + Drop, R: Source, W: Sink, E: Write>(
     alloc: Global,
+    table: T,
     reader: &mut R,
     writer: &mut W,
     errors: &mut E,
@@ -114,7 +143,7 @@ fn serve_text<R: Source, W: Sink, E: Write>(
 ) -> Status
     ensures { RunsTo text.now (R.input reader.old) (R.input reader.new) (W.output writer.old) (W.output writer.new) result }
 {
-    let ended = run(alloc, reader, writer, text, false);
+    let ended = run(alloc, table, reader, writer, text, false);
     if let Err(RunFault::Config(fault)) = &ended {
         refuse(alloc, errors, fault);
     }

@@ -3,7 +3,7 @@
 ghost use Rattle.click_prog.specs.Running.{Runs};
 
 use click_control::{Ended, ServeFault, Sink, Source, serve};
-use click_router::{ConfigFault, Router, prepare};
+use click_router::{ConfigFault, Handlers, Router, prepare};
 use std::alloc::Global;
 use thiserror::Error;
 
@@ -21,8 +21,9 @@ pub enum RunFault {
 /// Opens the router of a text and serves one session over it.
 ///
 /// The session's answers are those of one thread that begins with what the text opens.
-pub fn run<R: Source, W: Sink>(
+pub fn run<T: Handlers + Drop, R: Source, W: Sink>(
     alloc: Global,
+    table: T,
     reader: &mut R,
     writer: &mut W,
     text: &[u8],
@@ -31,7 +32,7 @@ pub fn run<R: Source, W: Sink>(
     ensures { Runs text.now (R.input reader.old) (R.input reader.new) (W.output writer.old) (W.output writer.new) result }
 {
     let mut router = match prepare(alloc, text) {
-        Ok(prepared) => Router::open(prepared),
+        Ok(prepared) => Router::open(table, prepared),
         Err(fault) => return Err(RunFault::Config(fault)),
     };
     match serve(alloc, reader, writer, &mut router, readonly) {

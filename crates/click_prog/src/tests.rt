@@ -4,6 +4,7 @@ mod peers;
 
 use crate::run::{RunFault, run};
 use click_control::{Ended, ServeFault};
+use click_handlers::{Table, TakesTable, with_table};
 use peers::{Keeper, Script};
 use std::alloc::Global;
 use std::test::Fail;
@@ -38,21 +39,63 @@ fn end_of(ended: Result<Ended, RunFault>) -> End {
     }
 }
 
+/// A run over the router of a text, with this reader and this writer.
+#[derive(Drop)]
+struct Asked<'a> {
+    alloc: Global,
+    text: &'a [u8],
+    reader: Script<'a>,
+    writer: Keeper,
+}
+
+impl<'a> TakesTable for Asked<'a> {
+    type Out = (Result<Ended, RunFault>, Vec<u8>);
+
+    fn take(self, table: Table) -> (Result<Ended, RunFault>, Vec<u8>) {
+        let Asked {
+            alloc,
+            text,
+            mut reader,
+            mut writer,
+        } = self;
+        let ended = run(alloc, table, &mut reader, &mut writer, text, false);
+        (ended, writer.kept())
+    }
+}
+
+/// How a run ends, and what it wrote.
+fn ran(
+    alloc: Global,
+    text: &[u8],
+    reader: Script<'_>,
+    writer: Keeper,
+) -> Result<(Result<Ended, RunFault>, Vec<u8>), Fail> {
+    let asked = Asked {
+        alloc,
+        text,
+        reader,
+        writer,
+    };
+    match with_table(alloc, asked)? {
+        Ok(ran) => Ok(ran),
+        Err(_) => Err(Fail::from("a table")),
+    }
+}
+
 /// A session over the router of a text, and what it wrote.
 fn session(
     alloc: Global,
     text: &[u8],
-    mut reader: Script<'_>,
+    reader: Script<'_>,
     most: usize,
     fails: usize,
-) -> (End, Vec<u8>) {
-    let mut writer = Keeper::new(alloc, most, fails);
-    let end = end_of(run(alloc, &mut reader, &mut writer, text, false));
-    (end, writer.kept())
+) -> Result<(End, Vec<u8>), Fail> {
+    let (ended, written) = ran(alloc, text, reader, Keeper::new(alloc, most, fails))?;
+    Ok((end_of(ended), written))
 }
 
 /// The bytes that a session with this input writes.
-fn talk(alloc: Global, input: &[u8]) -> (End, Vec<u8>) {
+fn talk(alloc: Global, input: &[u8]) -> Result<(End, Vec<u8>), Fail> {
     session(alloc, COUNTED, Script::new(input, 4096, 0), 4096, 0)
 }
 
@@ -79,7 +122,7 @@ fn reads_a_counter(rt: HostRuntime) -> Result<(), Fail> {
     for input in inputs {
         for size in [1, 2, 3, 4096] {
             for most in [1, 4096] {
-                let (end, written) = session(alloc, COUNTED, Script::new(input, size, 0), most, 0);
+                let (end, written) = session(alloc, COUNTED, Script::new(input, size, 0), most, 0)?;
                 assert_eq!(rt; end, End::Quit);
                 assert_eq!(rt; written.as_slice(), wanted.as_slice());
             }
@@ -109,7 +152,7 @@ fn tells_what_is_wrong(rt: HostRuntime) -> Result<(), Fail> {
         ),
     ];
     for (line, reply) in replies {
-        let (end, written) = talk(alloc, line);
+        let (end, written) = talk(alloc, line)?;
         assert_eq!(rt; end, End::EndOfInput);
         assert_eq!(rt;
             written.as_slice(),
@@ -117,7 +160,7 @@ fn tells_what_is_wrong(rt: HostRuntime) -> Result<(), Fail> {
         );
     }
     // A command whose line does not end has no reply.
-    let (end, written) = talk(alloc, b"READ c.count");
+    let (end, written) = talk(alloc, b"READ c.count")?;
     assert_eq!(rt; end, End::EndOfInput);
     assert_eq!(rt; written.as_slice(), GREETING);
     Ok(())
@@ -138,7 +181,7 @@ fn limits_a_line(rt: HostRuntime) -> Result<(), Fail> {
             line.push(b' ')?;
         }
         line.extend_from_slice(b"\nREAD c.count\n")?;
-        let (end, written) = talk(alloc, line.as_slice());
+        let (end, written) = talk(alloc, line.as_slice())?;
         if blanks == 65_524 {
             assert_eq!(rt; end, End::EndOfInput);
             assert_eq!(rt;
@@ -165,7 +208,7 @@ fn a_read_that_fails(rt: HostRuntime) -> Result<(), Fail> {
     let read = b"500 Syntax error\r\n";
     // With one byte a read, the first line is whole after four reads, and the second after nine.
     for fails in 1..=10 {
-        let (end, written) = session(alloc, COUNTED, Script::new(input, 1, fails), 4096, 0);
+        let (end, written) = session(alloc, COUNTED, Script::new(input, 1, fails), 4096, 0)?;
         assert_eq!(rt; end, End::ReadFailed);
         let wanted = if fails <= 4 {
             joined(alloc, &[GREETING])?
@@ -193,7 +236,7 @@ fn a_write_that_fails(rt: HostRuntime) -> Result<(), Fail> {
     )?;
     // With one byte a write, the kth write has k - 1 bytes before it.
     for fails in 1..=77 {
-        let (end, written) = session(alloc, COUNTED, Script::new(input, 4096, 0), 1, fails);
+        let (end, written) = session(alloc, COUNTED, Script::new(input, 4096, 0), 1, fails)?;
         assert_eq!(rt; end, End::WriteFailed);
         assert_eq!(rt; written.len(), fails - 1);
         assert_eq!(rt;
@@ -232,16 +275,16 @@ fn refuses_a_faulty_text(rt: HostRuntime) -> Result<(), Fail> {
         (b"Idle [256] -> Discard;", b"4 Unexpected at 1:7"),
     ];
     for (text, wanted) in faults {
-        let mut reader = Script::new(b"READ c.count\n", 4096, 0);
-        let mut writer = Keeper::new(alloc, 4096, 0);
-        match run(alloc, &mut reader, &mut writer, text, false) {
+        let reader = Script::new(b"READ c.count\n", 4096, 0);
+        let (ended, written) = ran(alloc, text, reader, Keeper::new(alloc, 4096, 0))?;
+        match ended {
             Err(RunFault::Config(fault)) => {
                 let told = fault.text(alloc)?;
                 assert_eq!(rt; told.as_slice(), wanted);
             }
             _ => assert!(rt; false, "a faulty text is served"),
         }
-        assert_eq!(rt; writer.kept().len(), 0);
+        assert_eq!(rt; written.len(), 0);
     }
     Ok(())
 }
@@ -258,7 +301,7 @@ fn accepts_what_is_lawful(rt: HostRuntime) -> Result<(), Fail> {
         b"Idle -> d; d :: Discard",
     ];
     for text in texts {
-        let (end, written) = session(alloc, text, Script::new(b"QUIT\n", 4096, 0), 4096, 0);
+        let (end, written) = session(alloc, text, Script::new(b"QUIT\n", 4096, 0), 4096, 0)?;
         assert_eq!(rt; end, End::Quit);
         assert_eq!(rt;
             written.as_slice(),
@@ -272,13 +315,13 @@ fn accepts_what_is_lawful(rt: HostRuntime) -> Result<(), Fail> {
 fn limits_a_text(rt: HostRuntime) -> Result<(), Fail> {
     let alloc = rt.alloc();
     let mut text = vec![in alloc; b' '; 1_048_576]?;
-    let (end, written) = session(alloc, text.as_slice(), Script::new(b"", 1, 0), 4096, 0);
+    let (end, written) = session(alloc, text.as_slice(), Script::new(b"", 1, 0), 4096, 0)?;
     assert_eq!(rt; end, End::EndOfInput);
     assert_eq!(rt; written.as_slice(), GREETING);
     text.push(b' ')?;
-    let mut reader = Script::new(b"", 1, 0);
-    let mut writer = Keeper::new(alloc, 4096, 0);
-    match run(alloc, &mut reader, &mut writer, text.as_slice(), false) {
+    let reader = Script::new(b"", 1, 0);
+    let (ended, _) = ran(alloc, text.as_slice(), reader, Keeper::new(alloc, 4096, 0))?;
+    match ended {
         Err(RunFault::Config(fault)) => {
             assert_eq!(rt; fault.text(alloc)?.as_slice(), b"6 TooLarge".as_slice());
         }

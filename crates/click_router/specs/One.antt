@@ -1,21 +1,26 @@
 -- One call of a router: the state after it, and the reply (Click manual, "Handlers"; TOCS 2000, "Packet transfer").
-use Rattle.std.specs.Prelude.{ℕ, ◌-◌, ◌^◌, min, List, [], ◌∷◌, length, Bool, true, false, Option, Some, None, option_map, position, slice_get, codes, decimal, nat_eq, if◌then◌else◌}
+use Rattle.std.specs.Prelude.{ℕ, ◌-◌, ◌^◌, min, List, [], ◌∷◌, length, Bool, true, false, Option, Some, None, option_and_then, option_map, Result, Ok, Err, position, slice_get, slice_set, nat_eq, if◌then◌else◌}
 use Rattle.std.specs.List.{before_last, after_last, list_any}
+use Rattle.std.specs.Option.{ok_or}
 use Rattle.std.specs.Str.{bytes_eq}
 use Rattle.click_packet.specs.Packet.{Packet}
-use Rattle.click_classes.specs.Queues.{Queued}
-use Rattle.click_classes.specs.declared.state.State.{State}
-use Rattle.click_classes.specs.declared.state.State.TheVariants as state
+use Rattle.click_classes.specs.State.{class}
+use Rattle.click_classes.specs.declared.class.Class.{Class}
 use Rattle.click_engine.specs.Plant.{Plant}
 use Rattle.click_engine.specs.Rounds.{arrive, transmit, transmitted, source_of, sink_of, round}
 use Rattle.click_engine.specs.declared.world.Element.{Element}
+use Rattle.click_handlers.specs.Names.{has_read, has_write}
+use Rattle.click_handlers.specs.Reads.{read_value}
+use Rattle.click_handlers.specs.Writes.{write_value}
+use Rattle.click_handlers.specs.declared.fault.HandlerFault.{HandlerFault}
 use Rattle.click_ports.specs.Net.{names_of}
 use Rattle.click_router.specs.State.{RouterState}
 use Rattle.click_router.specs.declared.call.Call.{Call}
 use Rattle.click_router.specs.declared.call.Call.TheVariants as call
+use Rattle.click_router.specs.declared.call.Refusal.{Refusal}
+use Rattle.click_router.specs.declared.call.Refusal.TheVariants as refusal
 use Rattle.click_router.specs.declared.call.Reply.{Reply}
 use Rattle.click_router.specs.declared.call.Reply.TheVariants as reply
-use Rattle.click_router.specs.declared.call.Refusal.TheVariants as refusal
 
 abbrev pub is_dot : ℕ → Bool
 is_dot b = nat_eq b 46
@@ -24,49 +29,82 @@ is_dot b = nat_eq b 46
 abbrev pub place_of : RouterState → List ℕ → Option ℕ
 place_of s name = position (bytes_eq name) (names_of s.flat.elements)
 
--- what a handler reads of a counter
-abbrev pub read_counter : ℕ → ℕ → List ℕ → Reply
-read_counter count byte_count handler =
-    if bytes_eq handler (codes "count") then reply.Value (decimal count)
-    else if bytes_eq handler (codes "byte_count") then reply.Value (decimal byte_count)
-    else reply.Refused refusal.NoHandler
-
--- what a handler reads of a queue
-abbrev pub read_queue : Queued → List ℕ → Reply
-read_queue q handler =
-    if bytes_eq handler (codes "length") then reply.Value (decimal (length q.list.packets))
-    else if bytes_eq handler (codes "capacity") then reply.Value (decimal q.list.capacity)
-    else if bytes_eq handler (codes "drops") then reply.Value (decimal q.drops)
-    else if bytes_eq handler (codes "highwater_length") then reply.Value (decimal q.highest)
-    else reply.Refused refusal.NoHandler
-
--- what a handler reads of a source that has given so many packets
-abbrev pub read_source : ℕ → List ℕ → Reply
-read_source count handler = if bytes_eq handler (codes "count") then reply.Value (decimal count) else reply.Refused refusal.NoHandler
-
--- what a handler of an element reads
-abbrev pub read_state : State → List ℕ → Reply
-read_state (state.Counter count byte_count) handler = read_counter count byte_count handler
-read_state (state.Queue list drops highest) handler = read_queue (record { list = list; drops = drops; highest = highest }) handler
-read_state (state.FrontDropQueue list drops highest) handler = read_queue (record { list = list; drops = drops; highest = highest }) handler
-read_state (state.InfiniteSource bytes limit burst active count) handler = read_source count handler
-read_state _ handler = reply.Refused refusal.NoHandler
-
-abbrev pub read_at : Option State → List ℕ → Reply
-read_at None handler = reply.Refused refusal.NoElement
-read_at (Some q) handler = read_state q handler
-
--- what the element at a place holds
-abbrev pub state_at : List Element → Option ℕ → Option State
-state_at es None = None
-state_at es (Some i) = option_map (λ (e : Element). e.state) (slice_get es i)
+-- the element of a name, with its place
+abbrev pub found : RouterState → List ℕ → Option (ℕ × Element)
+found s name = option_and_then (λ at. option_map (λ (e : Element). (at, e)) (slice_get s.plant.elements at)) (place_of s name)
 
 -- A name is split at its last dot into an element and a handler. One without a dot names a handler of the router itself, which has none.
-abbrev pub read_name : RouterState → List ℕ → Reply
-read_name s name =
-    if list_any is_dot name
-    then read_at (state_at s.plant.elements (place_of s (before_last is_dot name))) (after_last is_dot name)
-    else reply.Refused refusal.NoHandler
+abbrev pub before : List ℕ → List ℕ
+before name = before_last is_dot name
+
+abbrev pub after : List ℕ → List ℕ
+after name = after_last is_dot name
+
+-- the element that a handler's name names, with its place
+abbrev pub asked : RouterState → List ℕ → Result (ℕ × Element) Refusal
+asked s name = if list_any is_dot name then ok_or (found s (before name)) refusal.NoElement else Err refusal.NoHandler
+
+-- why a class has no handler of that name for one way: it has it for the other way alone, or not at all
+abbrev pub refusal_of : Bool → Refusal
+refusal_of other = if other then refusal.WrongWay else refusal.NoHandler
+
+-- what was read
+abbrev pub read_reply : Result (List ℕ) HandlerFault → Reply
+read_reply (Ok value) = reply.Value value
+read_reply (Err f) = reply.Refused (refusal.Handler f)
+
+-- a read of a handler of an element
+abbrev pub read_element : Element → List ℕ → List ℕ → Reply
+read_element e handler text =
+    if has_read (class e.state) handler then read_reply (read_value handler e text)
+    else reply.Refused (refusal_of (has_write (class e.state) handler))
+
+abbrev pub read_asked : Result (ℕ × Element) Refusal → List ℕ → List ℕ → Reply
+read_asked (Ok found) handler text = read_element found.1 handler text
+read_asked (Err why) handler text = reply.Refused why
+
+abbrev pub read : RouterState → List ℕ → List ℕ → Reply
+read s name text = read_asked (asked s name) (after name) text
+
+-- whether a handler can be asked one way
+abbrev pub check : Bool → Bool → Reply
+check has has_other = if has then reply.Done else reply.Refused (refusal_of has_other)
+
+abbrev pub check_read_asked : Result (ℕ × Element) Refusal → List ℕ → Reply
+check_read_asked (Ok found) handler = check (has_read (class found.1.state) handler) (has_write (class found.1.state) handler)
+check_read_asked (Err why) handler = reply.Refused why
+
+abbrev pub check_read : RouterState → List ℕ → Reply
+check_read s name = check_read_asked (asked s name) (after name)
+
+abbrev pub check_write_asked : Result (ℕ × Element) Refusal → List ℕ → Reply
+check_write_asked (Ok found) handler = check (has_write (class found.1.state) handler) (has_read (class found.1.state) handler)
+check_write_asked (Err why) handler = reply.Refused why
+
+abbrev pub check_write : RouterState → List ℕ → Reply
+check_write s name = check_write_asked (asked s name) (after name)
+
+-- the plant with another element at a place
+abbrev pub with_element : Plant → ℕ → Element → Plant
+with_element v at e = record v { elements = slice_set v.elements at e }
+
+-- a write, by what it makes of the element at a place
+abbrev pub written : Plant → ℕ → Result Element HandlerFault → Plant × Reply
+written v at (Ok e) = (with_element v at e, reply.Done)
+written v at (Err f) = (v, reply.Refused (refusal.Handler f))
+
+-- a write of a handler of an element
+abbrev pub write_element : Plant → ℕ → Element → List ℕ → List ℕ → Plant × Reply
+write_element v at e handler text =
+    if has_write (class e.state) handler then written v at (write_value handler e text)
+    else (v, reply.Refused (refusal_of (has_read (class e.state) handler)))
+
+abbrev pub write_asked : Plant → Result (ℕ × Element) Refusal → List ℕ → List ℕ → Plant × Reply
+write_asked v (Ok found) handler text = write_element v found.0 found.1 handler text
+write_asked v (Err why) handler text = (v, reply.Refused why)
+
+abbrev pub write : RouterState → List ℕ → List ℕ → RouterState × Reply
+write s name text = let done : Plant × Reply = write_asked s.plant (asked s name) (after name) text in (record s { plant = done.0 }, done.1)
 
 -- packets enter from a device one after another
 abbrev pub arrivals : Plant → List ℕ → List Packet → Plant
@@ -92,16 +130,32 @@ sent s device = elim (sink_of s.plant device) [
 ]
 
 abbrev pub one : RouterState → Call → RouterState × Reply
-one s (call.Read name text) = (s, read_name s name)
+one s (call.Read name text) = (s, read s name text)
+one s (call.Write name text) = write s name text
+one s (call.CheckRead name) = (s, check_read s name)
+one s (call.CheckWrite name) = (s, check_write s name)
 one s (call.Arrive device p) = entered s device (p ∷ [])
 one s (call.Poll device ps) = entered s device ps
 one s call.Round = worked s
 one s (call.Transmit device) = sent s device
 
--- the one kind of call that needs memory for its answer
-abbrev pub is_read : Call → Bool
-is_read (call.Read name text) = true
-is_read (call.Arrive device p) = false
-is_read (call.Poll device ps) = false
-is_read call.Round = false
-is_read (call.Transmit device) = false
+-- the calls that may take memory: a read's value, and what a write makes
+abbrev pub takes_memory : Call → Bool
+takes_memory (call.Read name text) = true
+takes_memory (call.Write name text) = true
+takes_memory (call.CheckRead name) = false
+takes_memory (call.CheckWrite name) = false
+takes_memory (call.Arrive device p) = false
+takes_memory (call.Poll device ps) = false
+takes_memory call.Round = false
+takes_memory (call.Transmit device) = false
+
+-- the replies that hold memory
+abbrev pub holds_memory : Reply → Bool
+holds_memory (reply.Value value) = true
+holds_memory reply.Done = false
+holds_memory (reply.Refused why) = false
+holds_memory (reply.Entered count) = false
+holds_memory (reply.Worked count) = false
+holds_memory (reply.Sent packet) = false
+holds_memory reply.NoDevice = false

@@ -1,5 +1,6 @@
 //! What a router is asked, and what it answers.
 
+use click_handlers::HandlerFault;
 use click_packet::Packet;
 use click_text::sequence::Sequence;
 use thiserror::Error;
@@ -11,6 +12,19 @@ pub enum Call {
     Read {
         name: Sequence<u8>,
         text: Sequence<u8>,
+    },
+    /// Writes a handler, named as `element.handler`, with the text.
+    Write {
+        name: Sequence<u8>,
+        text: Sequence<u8>,
+    },
+    /// Asks whether a handler can be read.
+    CheckRead {
+        name: Sequence<u8>,
+    },
+    /// Asks whether a handler can be written.
+    CheckWrite {
+        name: Sequence<u8>,
     },
     /// A packet enters from a device.
     Arrive {
@@ -37,6 +51,12 @@ pub enum Refusal {
     NoElement,
     #[error("the element has no handler of that name")]
     NoHandler,
+    /// It can be written and not read, or read and not written.
+    #[error("the handler is for the other way alone")]
+    WrongWay,
+    /// What the handler says.
+    #[error(transparent)]
+    Handler(HandlerFault),
 }
 
 /// What a call is answered.
@@ -44,6 +64,8 @@ pub enum Refusal {
 pub enum Reply {
     /// What was read.
     Value(Sequence<u8>),
+    /// The handler was written, or can be asked so.
+    Done,
     Refused(Refusal),
     /// How many packets entered.
     Entered(u64),

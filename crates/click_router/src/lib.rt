@@ -3,11 +3,15 @@
 
 mod call;
 mod fault;
+mod handler_name;
+mod handling;
 pub mod laws;
 mod opening;
+mod packets;
 mod router;
 
 pub use call::{Call, Refusal, Reply, StepFault};
 pub use fault::{ConfigFault, FaultKind, FaultPlace, Side};
+pub use handling::Handlers;
 pub use opening::{Prepared, prepare};
 pub use router::Router;

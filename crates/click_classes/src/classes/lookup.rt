@@ -18,7 +18,9 @@ use std::alloc::Global;
 /// - Ports: one push input; push outputs, up to 256 and at least one more than the greatest OUTPUT.
 /// - The entry with the longest prefix that the packet's destination has tells the output. A GATEWAY becomes the packet's
 ///   destination. A packet without an entry is dropped.
-/// - Read handlers: lookup. Write handlers: none.
+/// - Read handlers: `lookup`, which takes an address (not an address): the output of its entry, and the gateway behind
+///   a space if the entry has one; -1 where no entry is the address's.
+/// - Write handlers: none.
 ///
 /// Example: `FromDevice(a) -> rt :: StaticIPLookup(0.0.0.0/0 0, 10.0.0.0/8 10.9.9.9 1); rt -> Discard; rt [1] -> Discard;`
 #[tactic(auto, unfolding(crate::specs::Fresh::static_ip_lookup))]

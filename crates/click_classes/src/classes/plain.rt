@@ -40,7 +40,8 @@ pub fn make_unqueue(arguments: &Arguments) -> Result<State, ArgFault>
 /// - Arguments: none.
 /// - Ports: one agnostic input, one agnostic output.
 /// - The count grows by one and the count of bytes by the packet's length, neither past 2^64 - 1; the packet passes.
-/// - Read handlers: count, byte_count. Write handlers: reset_counts.
+/// - Read handlers: `count`, the packets that passed; `byte_count`, their bytes.
+/// - Write handlers: `reset_counts`: both are 0.
 ///
 /// Example: `FromDevice(a) -> c :: Counter -> Discard;`
 pub fn make_counter(arguments: &Arguments) -> Result<State, ArgFault>

@@ -45,7 +45,11 @@ fn list(alloc: Global, capacity: u64) -> Result<PacketList, ArgFault>
 /// - Ports: one push input, one pull output.
 /// - A packet that comes is stored last; when CAPACITY packets are stored it is dropped and counted in `drops`. A pull
 ///   takes the first.
-/// - Read handlers: length, highwater_length, drops, capacity. Write handlers: capacity, reset_counts, reset.
+/// - Read handlers: `length`, the packets stored; `highwater_length`, the most since the beginning or the last
+///   `reset_counts`; `drops`, the packets dropped, at most 2^64 - 1; `capacity`.
+/// - Write handlers: `capacity`, from 1 to 10,000 (not a number, out of range): where more packets are stored the first
+///   stay, and the others count as drops; `reset_counts`: `drops` is 0 and `highwater_length` the length; `reset`: all
+///   packets go.
 ///
 /// Example: `FromDevice(a) -> q :: Queue(64) -> ToDevice(b);`
 #[tactic(auto, unfolding(crate::specs::Fresh::queue))]

@@ -89,7 +89,8 @@ pub fn has_next(bytes: &Sequence<u8>, limit: Option<u64>, active: bool, count: u
 /// - Ports: no input, one push output.
 /// - While it is active, each run of its task pushes up to BURST packets of BYTES and counts each. With a LIMIT there are
 ///   none once the count has reached it.
-/// - Read handlers: active, count. Write handlers: active, reset.
+/// - Read handlers: `active`, whether there are packets now; `count`, the packets so far.
+/// - Write handlers: `active`, a truth value (not a truth value); `reset`: `count` is 0.
 ///
 /// Example: `InfiniteSource("ab", 5, 2) -> Discard;`
 #[tactic(auto, unfolding(crate::specs::Fresh::infinite_source))]

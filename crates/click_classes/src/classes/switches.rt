@@ -31,7 +31,8 @@ fn switch_port(arguments: &Arguments) -> Result<Option<u8>, ArgFault>
 /// - Arguments: OUTPUT, a number from 0 to 255, or -1; else 0.
 /// - Ports: one push input; push outputs, up to 256 and at least OUTPUT + 1.
 /// - A packet goes to output OUTPUT; -1 drops it.
-/// - Read handlers: switch. Write handlers: switch.
+/// - Read handlers: `switch`, OUTPUT.
+/// - Write handlers: `switch`, -1 or a number below the number of outputs (not a number, out of range).
 ///
 /// Example: `FromDevice(a) -> s :: Switch(1); s -> Discard; s [1] -> Discard;`
 #[tactic(auto, unfolding(crate::specs::Fresh::switch))]
@@ -47,7 +48,8 @@ pub fn make_switch(arguments: &Arguments) -> Result<State, ArgFault>
 /// - Arguments: INPUT, a number from 0 to 255, or -1; else 0.
 /// - Ports: pull inputs, up to 256 and at least INPUT + 1; one pull output.
 /// - A pull pulls input INPUT; with -1 it gives no packet and pulls nothing.
-/// - Read handlers: switch. Write handlers: switch.
+/// - Read handlers: `switch`, INPUT.
+/// - Write handlers: `switch`, -1 or a number below the number of inputs (not a number, out of range).
 ///
 /// Example: `FromDevice(a) -> Queue -> s :: PullSwitch(0) -> ToDevice(b);`
 #[tactic(auto, unfolding(crate::specs::Fresh::pull_switch))]
@@ -78,7 +80,10 @@ pub fn make_round_robin_switch(arguments: &Arguments) -> Result<State, ArgFault>
 /// - Ports: as many agnostic outputs as agnostic inputs, 1 to 16.
 /// - A packet passes from input I to output I where I is active, as all are at first; else it is dropped, and a pull gives
 ///   none without a pull.
-/// - Read handlers: active0 to active15. Write handlers: active0 to active15.
+/// - Read handlers: `active0` to `active15`, whether packets pass at the port (out of range where the element has no
+///   such port).
+/// - Write handlers: `active0` to `active15`, a truth value (out of range, which is tested first, or not a truth
+///   value).
 ///
 /// Example: `FromDevice(a) -> s :: Suppressor -> Discard; FromDevice(b) -> [1] s [1] -> Discard;`
 pub fn make_suppressor(arguments: &Arguments) -> Result<State, ArgFault>

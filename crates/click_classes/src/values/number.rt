@@ -3,7 +3,7 @@
 ghost use Rattle.std.specs.Prelude.{◌≡◌, ◌<◌, ◌≤◌, ◌+◌, ◌*◌, IfOk, IfSome};
 ghost use Rattle.std.specs.List.{list_all};
 ghost use Rattle.click_text.specs.Pieces.{digit};
-ghost use Rattle.click_classes.specs.Values.{hex_digit, digit_value, is_run, spelled, at_most, decimal_in, hexadecimal_in, number_in, number_or_minus_one};
+ghost use Rattle.click_classes.specs.Values.{hex_digit, digit_value, is_run, spelled, at_most, decimal_in, hexadecimal_in, number_in, decimal_number, number_or_minus_one};
 
 use crate::fault::ArgFault;
 
@@ -130,6 +130,21 @@ pub fn number_in(bytes: &[u8], low: u64, high: u64) -> Result<u64, ArgFault>
         return Err(ArgFault::BadNumber);
     };
     match number {
+        Some(number) if low <= number => Ok(number),
+        _ => Err(ArgFault::OutOfRange),
+    }
+}
+
+/// A number from `low` to `high` in decimal digits alone.
+#[tactic(auto, unfolding(crate::specs::Values::decimal_number))]
+pub fn decimal_number(bytes: &[u8], low: u64, high: u64) -> Result<u64, ArgFault>
+    ensures value { result ≡ decimal_number low high bytes.now }
+    ensures bound { IfOk result (λ n. n ≤ high) }
+{
+    if !are_decimal(bytes) {
+        return Err(ArgFault::BadNumber);
+    }
+    match spelled(bytes, 10, high) {
         Some(number) if low <= number => Ok(number),
         _ => Err(ArgFault::OutOfRange),
     }

@@ -1,4 +1,4 @@
-use Rattle.std.proofs.Common.{ℕ, List, ◌≡◌, ◌++◌, ◌∷◌, [], ◌/◌, ◌%◌, length, ap, ◌∙◌, arith}
+use Rattle.std.proofs.Common.{◌≡◌, ◌∷◌, [], ◌/◌, ◌%◌, length, arith}
 use Rattle.click_classes.proofs.SixBytes.{two_of_six}
 use Rattle.click_classes.proofs.classes.encap.ether_header.Goals as goal
 

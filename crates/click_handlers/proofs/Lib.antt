@@ -1,0 +1,3 @@
+pub mod ActivePorts
+pub mod Listed
+pub mod Made

@@ -1,0 +1,4 @@
+use Rattle.click_handlers.proofs.rows.ReadRow.answer.Goals as goal
+
+pub returns : goal.returns
+returns g c = (c.args.self.now.answers c.args.alloc c.args.element c.args.text c.requires).1 c.read_through.result c.read_through.ensures

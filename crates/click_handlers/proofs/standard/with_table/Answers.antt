@@ -1,0 +1,87 @@
+use Rattle.click_handlers.proofs.Made.{told_row, told_closure, of_queue, of_front_drop_queue}
+use Rattle.click_handlers.proofs.standard.with_table.OwnLists.{own-1, own-2, at-1-1, at-1-2, at-1-3, at-1-4, at-1-5, at-1-6, at-1-7, at-1-8, at-1-9, at-1-10, at-1-11, at-1-12, at-2-1, at-2-2, at-2-3, at-2-4, at-2-5, at-2-6, at-2-7, at-2-8, at-2-9}
+use Rattle.click_handlers.proofs.standard.with_table.Goals as goal
+
+pub add_read-requires : goal.add_read-requires
+add_read-requires g c alloc element text is = told_row own-1 {at = at-1-1} c.into_dyn_box.ensures.1 _ _ (of_queue element.now.state is) (λ r p. p.1)
+
+pub add_read-requires-2 : goal.add_read-requires-2
+add_read-requires-2 g c alloc element text is = told_row own-1 {at = at-1-2} c.into_dyn_box-in_ok-new-2.ensures.1 _ _ (of_queue element.now.state is) (λ r p. p.1)
+
+pub add_read-requires-3 : goal.add_read-requires-3
+add_read-requires-3 g c alloc element text is = told_row own-1 {at = at-1-3} c.into_dyn_box-in_ok-new-3.ensures.1 _ _ (of_queue element.now.state is) (λ r p. p.1)
+
+pub add_read-requires-4 : goal.add_read-requires-4
+add_read-requires-4 g c alloc element text is = told_row own-1 {at = at-1-4} c.into_dyn_box-in_ok-new-4.ensures.1 _ _ (of_queue element.now.state is) (λ r p. p.1)
+
+pub add_read-requires-5 : goal.add_read-requires-5
+add_read-requires-5 g c alloc element text is = told_row own-1 {at = at-1-1} c.into_dyn_box-in_ok-new-5.ensures.1 _ _ (of_front_drop_queue element.now.state is) (λ r p. p.1)
+
+pub add_read-requires-6 : goal.add_read-requires-6
+add_read-requires-6 g c alloc element text is = told_row own-1 {at = at-1-2} c.into_dyn_box-in_ok-new-6.ensures.1 _ _ (of_front_drop_queue element.now.state is) (λ r p. p.1)
+
+pub add_read-requires-7 : goal.add_read-requires-7
+add_read-requires-7 g c alloc element text is = told_row own-1 {at = at-1-3} c.into_dyn_box-in_ok-new-7.ensures.1 _ _ (of_front_drop_queue element.now.state is) (λ r p. p.1)
+
+pub add_read-requires-8 : goal.add_read-requires-8
+add_read-requires-8 g c alloc element text is = told_row own-1 {at = at-1-4} c.into_dyn_box-in_ok-new-8.ensures.1 _ _ (of_front_drop_queue element.now.state is) (λ r p. p.1)
+
+pub add_read-requires-9 : goal.add_read-requires-9
+add_read-requires-9 g c alloc element text is = told_row own-1 {at = at-1-5} c.into_dyn_box-in_ok-new-9.ensures.1 _ _ is (λ r p. p.1)
+
+pub add_read-requires-10 : goal.add_read-requires-10
+add_read-requires-10 g c alloc element text is = told_row own-1 {at = at-1-6} c.into_dyn_box-in_ok-new-10.ensures.1 _ _ is (λ r p. p.1)
+
+pub add_read-requires-11 : goal.add_read-requires-11
+add_read-requires-11 g c alloc element text is = told_row own-1 {at = at-1-7} c.into_dyn_box-in_ok-new-11.ensures.1 _ _ is (λ r p. p.1)
+
+pub add_read-requires-12 : goal.add_read-requires-12
+add_read-requires-12 g c alloc element text is = told_row own-1 {at = at-1-8} c.into_dyn_box-in_ok-new-12.ensures.1 _ _ is (λ r p. p.1)
+
+pub add_read-requires-in-loop-port : goal.add_read-requires-in-loop-port
+add_read-requires-in-loop-port g c alloc element text is = told_closure own-1 {at = at-1-9} c.into_dyn_box-in_ok-new-13.ensures.1 c.in_ok-new-13.ensures.ok _ _ (is, c.loop-port-test.true) (λ r p. rw c.active_name.ensures p.1)
+
+pub add_read-requires-13 : goal.add_read-requires-13
+add_read-requires-13 g c alloc element text is = told_row own-1 {at = at-1-10} c.into_dyn_box-in_ok-new-14.ensures.1 _ _ is (λ r p. p.1)
+
+pub add_read-requires-14 : goal.add_read-requires-14
+add_read-requires-14 g c alloc element text is = told_row own-1 {at = at-1-11} c.into_dyn_box-in_ok-new-15.ensures.1 _ _ is (λ r p. p.1)
+
+pub add_read-requires-15 : goal.add_read-requires-15
+add_read-requires-15 g c alloc element text is = told_row own-1 {at = at-1-12} c.into_dyn_box-in_ok-new-16.ensures.1 _ _ is (λ r p. p.1)
+
+pub add_write-requires : goal.add_write-requires
+add_write-requires g c alloc element text is = told_row own-2 {at = at-2-1} c.into_dyn_box-in_ok-new-17.ensures.1 _ _ (of_queue element.state is) (λ r p. p.2)
+
+pub add_write-requires-2 : goal.add_write-requires-2
+add_write-requires-2 g c alloc element text is = told_row own-2 {at = at-2-2} c.into_dyn_box-in_ok-new-18.ensures.1 _ _ (of_queue element.state is) (λ r p. p.2)
+
+pub add_write-requires-3 : goal.add_write-requires-3
+add_write-requires-3 g c alloc element text is = told_row own-2 {at = at-2-3} c.into_dyn_box-in_ok-new-19.ensures.1 _ _ (of_queue element.state is) (λ r p. p.2)
+
+pub add_write-requires-4 : goal.add_write-requires-4
+add_write-requires-4 g c alloc element text is = told_row own-2 {at = at-2-1} c.into_dyn_box-in_ok-new-20.ensures.1 _ _ (of_front_drop_queue element.state is) (λ r p. p.2)
+
+pub add_write-requires-5 : goal.add_write-requires-5
+add_write-requires-5 g c alloc element text is = told_row own-2 {at = at-2-2} c.into_dyn_box-in_ok-new-21.ensures.1 _ _ (of_front_drop_queue element.state is) (λ r p. p.2)
+
+pub add_write-requires-6 : goal.add_write-requires-6
+add_write-requires-6 g c alloc element text is = told_row own-2 {at = at-2-3} c.into_dyn_box-in_ok-new-22.ensures.1 _ _ (of_front_drop_queue element.state is) (λ r p. p.2)
+
+pub add_write-requires-7 : goal.add_write-requires-7
+add_write-requires-7 g c alloc element text is = told_row own-2 {at = at-2-4} c.into_dyn_box-in_ok-new-23.ensures.1 _ _ is (λ r p. p.2)
+
+pub add_write-requires-8 : goal.add_write-requires-8
+add_write-requires-8 g c alloc element text is = told_row own-2 {at = at-2-5} c.into_dyn_box-in_ok-new-24.ensures.1 _ _ is (λ r p. p.2)
+
+pub add_write-requires-9 : goal.add_write-requires-9
+add_write-requires-9 g c alloc element text is = told_row own-2 {at = at-2-6} c.into_dyn_box-in_ok-new-25.ensures.1 _ _ is (λ r p. p.2)
+
+pub add_write-requires-in-loop-port-2 : goal.add_write-requires-in-loop-port-2
+add_write-requires-in-loop-port-2 g c alloc element text is = told_closure own-2 {at = at-2-7} c.into_dyn_box-in_ok-new-26.ensures.1 c.in_ok-new-26.ensures.ok _ _ (is, c.loop-port-2-test.true) (λ r p. rw c.active_name-in-loop-port-2.ensures p.2)
+
+pub add_write-requires-10 : goal.add_write-requires-10
+add_write-requires-10 g c alloc element text is = told_row own-2 {at = at-2-8} c.into_dyn_box-in_ok-new-27.ensures.1 _ _ is (λ r p. p.2)
+
+pub add_write-requires-11 : goal.add_write-requires-11
+add_write-requires-11 g c alloc element text is = told_row own-2 {at = at-2-9} c.into_dyn_box-in_ok-new-28.ensures.1 _ _ is (λ r p. p.2)

@@ -1,0 +1,40 @@
+-- What a handler's call promises.
+use Rattle.std.specs.Prelude.{◌≡◌, ◌≢◌, ℕ, List, Result, Ok, Err, Vec, codes}
+use Rattle.std.specs.Result.{ForOk, ForErr}
+use Rattle.std.specs.Option.{ForSome, ForNone}
+use Rattle.std.specs.Borrow.{Bor}
+use Rattle.std.specs.declared.alloc.Global.{Global}
+use Rattle.click_classes.specs.State.{class}
+use Rattle.click_classes.specs.declared.class.Class.{Class}
+use Rattle.click_engine.specs.declared.world.Element.{Element}
+use Rattle.click_handlers.specs.Reads.{read_value}
+use Rattle.click_handlers.specs.Writes.{write_value}
+use Rattle.click_handlers.specs.declared.fault.HandlerFault.{HandlerFault}
+use Rattle.click_handlers.specs.declared.fault.HandlerFault.TheVariants as fault
+use Rattle.click_handlers.specs.declared.written.Written.{Written}
+
+-- a fault as a reply tells it
+abbrev pub fault_text : HandlerFault → List ℕ
+fault_text fault.BadNumber = codes "not a number"
+fault_text fault.OutOfRange = codes "out of range"
+fault_text fault.BadFlag = codes "not a truth value"
+fault_text fault.BadAddress = codes "not an address"
+fault_text fault.NoMemory = codes "out of memory"
+
+-- the answer is that value, or memory ran out
+abbrev pub IsReadAnswer : Result (List ℕ) HandlerFault → Result (Vec ℕ Global) HandlerFault → Type 0
+IsReadAnswer value answer = ForOk answer (λ bytes. value ≡ Ok bytes.items) × ForErr answer (λ e. e ≢ fault.NoMemory → value ≡ Err e)
+
+-- the element is the new one; or it is the old one and the fault is the value's, or memory ran out
+abbrev pub IsWriteAnswer : Element → Result Element HandlerFault → Written → Type 0
+IsWriteAnswer old value written = ForNone written.fault (value ≡ Ok written.element) × ForSome written.fault (λ e. (written.element ≡ old) × (e ≢ fault.NoMemory → value ≡ Err e))
+
+-- a call may be made with every element of the class, and answers what a read of the handler answers, or that memory ran out
+abbrev pub AnswersReads : (Global → Bor Element → Bor (List ℕ) → Type 0) → (Global → Bor Element → Bor (List ℕ) → Result (Vec ℕ Global) HandlerFault → Type 0) → Class → List ℕ → Type 0
+AnswersReads may gives of handler = (alloc : Global) (element : Bor Element) (text : Bor (List ℕ)) → class element.now.state ≡ of
+    → may alloc element text × ((answer : _) → gives alloc element text answer → IsReadAnswer (read_value handler element.now text.now) answer)
+
+-- a call may be made with every element of the class, and gives back what a write of the handler makes of it, or the same element where memory ran out
+abbrev pub AnswersWrites : (Global → Element → Bor (List ℕ) → Type 0) → (Global → Element → Bor (List ℕ) → Written → Type 0) → Class → List ℕ → Type 0
+AnswersWrites may gives of handler = (alloc : Global) (element : Element) (text : Bor (List ℕ)) → class element.state ≡ of
+    → may alloc element text × ((written : _) → gives alloc element text written → IsWriteAnswer element (write_value handler element text.now) written)

@@ -1,0 +1,99 @@
+-- What becomes of an element when a handler is written (Click element reference, the handlers of each class).
+use Rattle.std.specs.Prelude.{ℕ, ◌+◌, ◌-◌, ◌^◌, min, List, [], length, take, Bool, true, false, nat_lt, nat_le, slice_set, Option, Some, None, Result, Ok, Err, codes, if◌then◌else◌}
+use Rattle.std.specs.Str.{bytes_eq}
+use Rattle.click_packet.specs.Packet.{Packet}
+use Rattle.click_classes.specs.PacketList.{PacketList}
+use Rattle.click_classes.specs.Queues.{Queued}
+use Rattle.click_classes.specs.Values.{truth, decimal_number}
+use Rattle.click_classes.specs.declared.state.State.{State}
+use Rattle.click_classes.specs.declared.state.State.TheVariants as state
+use Rattle.click_classes.specs.declared.fault.ArgFault.{ArgFault}
+use Rattle.click_classes.specs.declared.fault.ArgFault.TheVariants as arg
+use Rattle.click_engine.specs.declared.world.Element.{Element}
+use Rattle.click_handlers.specs.Blanks.{trimmed}
+use Rattle.click_handlers.specs.Names.{active_port}
+use Rattle.click_handlers.specs.declared.fault.HandlerFault.{HandlerFault}
+use Rattle.click_handlers.specs.declared.fault.HandlerFault.TheVariants as fault
+
+-- a number from low to high, in decimal digits alone
+abbrev pub as_number : Result ℕ ArgFault → Result ℕ HandlerFault
+as_number (Ok n) = Ok n
+as_number (Err arg.OutOfRange) = Err fault.OutOfRange
+as_number (Err f) = Err fault.BadNumber
+
+abbrev pub number_from : ℕ → ℕ → List ℕ → Result ℕ HandlerFault
+number_from low high text = as_number (decimal_number low high text)
+
+-- -1, or a port below a number of ports; no switch has more than 256
+abbrev pub port_below : ℕ → Result ℕ HandlerFault → Result (Option ℕ) HandlerFault
+port_below ports (Ok n) = if nat_lt n ports then Ok (Some n) else Err fault.OutOfRange
+port_below ports (Err f) = Err f
+
+abbrev pub written_port : ℕ → List ℕ → Result (Option ℕ) HandlerFault
+written_port ports text = if bytes_eq text (codes "-1") then Ok None else port_below ports (number_from 0 255 text)
+
+-- a truth value
+abbrev pub flag_of : Result Bool ArgFault → Result Bool HandlerFault
+flag_of (Ok b) = Ok b
+flag_of (Err f) = Err fault.BadFlag
+
+abbrev pub written_flag : List ℕ → Result Bool HandlerFault
+written_flag text = flag_of (truth text)
+
+-- a queue with another capacity: the first packets stay, the others go and are counted as drops
+abbrev pub resized : Queued → ℕ → Queued
+resized q capacity = record {
+  list = record { packets = take capacity q.list.packets; capacity = capacity };
+  drops = min (q.drops + (length q.list.packets - capacity)) (2 ^ 64 - 1);
+  highest = q.highest;
+}
+
+abbrev pub with_capacity : Queued → Result ℕ HandlerFault → Result Queued HandlerFault
+with_capacity q (Ok n) = Ok (resized q n)
+with_capacity q (Err f) = Err f
+
+-- no drops, and the highest length is the length
+abbrev pub without_counts : Queued → Queued
+without_counts q = record { list = q.list; drops = 0; highest = length q.list.packets }
+
+-- no packets
+abbrev pub emptied : Queued → Queued
+emptied q = record q { list = record q.list { packets = [] } }
+
+abbrev pub write_queue : Queued → List ℕ → List ℕ → Result Queued HandlerFault
+write_queue q handler text =
+    if bytes_eq handler (codes "capacity") then with_capacity q (number_from 1 10000 text)
+    else if bytes_eq handler (codes "reset_counts") then Ok (without_counts q)
+    else Ok (emptied q)
+
+abbrev pub as_state : {X : Type 0} → (X → State) → Result X HandlerFault → Result State HandlerFault
+as_state f (Ok x) = Ok (f x)
+as_state f (Err e) = Err e
+
+-- a Suppressor with so many inputs: the port has to be there, then the text has to be a truth value
+abbrev pub write_active : ℕ → List Bool → ℕ → List ℕ → Result State HandlerFault
+write_active inputs active port text =
+    if nat_lt port inputs then as_state (λ b. state.Suppressor (slice_set active port b)) (written_flag text) else Err fault.OutOfRange
+
+-- the state after a write of the text, without blanks at its ends, at an element with so many ports
+abbrev pub write_state : ℕ → ℕ → State → List ℕ → List ℕ → Result State HandlerFault
+write_state inputs outputs (state.Queue list drops highest) handler text =
+    as_state (λ (q : Queued). state.Queue q.list q.drops q.highest) (write_queue (record { list = list; drops = drops; highest = highest }) handler text)
+write_state inputs outputs (state.FrontDropQueue list drops highest) handler text =
+    as_state (λ (q : Queued). state.FrontDropQueue q.list q.drops q.highest) (write_queue (record { list = list; drops = drops; highest = highest }) handler text)
+write_state inputs outputs (state.Counter count byte_count) handler text = Ok (state.Counter 0 0)
+write_state inputs outputs (state.Switch output) handler text = as_state state.Switch (written_port outputs text)
+write_state inputs outputs (state.PullSwitch input) handler text = as_state state.PullSwitch (written_port inputs text)
+write_state inputs outputs (state.Suppressor active) handler text = write_active inputs active (active_port handler) text
+write_state inputs outputs (state.InfiniteSource bytes limit burst active count) handler text =
+    if bytes_eq handler (codes "active") then as_state (λ b. state.InfiniteSource bytes limit burst b count) (written_flag text)
+    else Ok (state.InfiniteSource bytes limit burst active 0)
+write_state inputs outputs s handler text = Ok s
+
+abbrev pub with_state : Element → Result State HandlerFault → Result Element HandlerFault
+with_state element (Ok s) = Ok (record element { state = s })
+with_state element (Err f) = Err f
+
+-- The element after a handler of it was written with a text, or why it is as it was. The class has that handler (`has_write`).
+abbrev pub write_value : List ℕ → Element → List ℕ → Result Element HandlerFault
+write_value handler element text = with_state element (write_state element.inputs element.outputs element.state handler (trimmed text))

@@ -1,0 +1,21 @@
+//! Handlers: what elements are asked and told by name, and rows that store a call of each with the promise that it answers so
+//! (Click manual, "Handlers").
+#![tactic(auto)]
+
+mod blanks;
+mod fault;
+mod names;
+pub mod plain;
+pub mod rows;
+mod standard;
+mod table;
+mod texts;
+mod written;
+
+pub use blanks::trimmed;
+pub use fault::{HandlerFault, TableFault};
+pub use rows::{ReadCall, ReadRow, WriteCall, WriteRow};
+pub use standard::{TakesTable, with_table};
+pub use table::Table;
+pub use texts::push_dotted;
+pub use written::Written;

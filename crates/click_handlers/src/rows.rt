@@ -1,0 +1,134 @@
+//! Rows: handlers' calls, stored with the promise of what they answer.
+
+ghost use Rattle.std.specs.Prelude.{◌≡◌, ◌++◌, ◌∷◌, [], map, OnOk};
+ghost use Rattle.click_handlers.specs.Names.{of_class};
+ghost use Rattle.click_classes.specs.State.{class};
+ghost use Rattle.click_handlers.specs.Answers.{IsReadAnswer, AnswersReads, IsWriteAnswer, AnswersWrites};
+ghost use Rattle.click_handlers.specs.Reads.{read_value};
+ghost use Rattle.click_handlers.specs.Writes.{write_value};
+
+use crate::fault::HandlerFault;
+use crate::written::Written;
+use click_classes::Class;
+use click_engine::Element;
+use std::alloc::{AllocError, Global};
+
+/// A call that reads: it lends the element and a text.
+pub type ReadCall = Box<dyn Fn(Global, &Element, &[u8]) -> Result<Vec<u8>, HandlerFault> + Send>;
+
+/// A read handler of a class.
+#[derive(Drop)]
+pub struct ReadRow {
+    pub class: Class,
+    pub name: Vec<u8>,
+    call: ReadCall,
+    ghost answers: { AnswersReads (pre call) (post call) class name.items },
+}
+
+impl ReadRow {
+    /// Stores a call, which answers the handler of that name on every element of the class.
+    pub fn new(class: Class, name: Vec<u8>, call: ReadCall) -> ReadRow
+        requires { AnswersReads (pre call) (post call) class name.items }
+        ensures class { result.class ≡ class }
+        ensures name { result.name ≡ name }
+    {
+        ReadRow { class, name, call }
+    }
+
+    /// Reads the handler of an element of the class.
+    pub fn answer(
+        &self,
+        alloc: Global,
+        element: &Element,
+        text: &[u8],
+    ) -> Result<Vec<u8>, HandlerFault>
+        requires { class element.now.state ≡ self.now.class }
+        ensures { IsReadAnswer (read_value self.now.name.items element.now text.now) result }
+    {
+        read_through(&self.call, alloc, element, text)
+    }
+}
+
+/// Makes the stored call.
+fn read_through(
+    call: &ReadCall,
+    alloc: Global,
+    element: &Element,
+    text: &[u8],
+) -> Result<Vec<u8>, HandlerFault>
+    requires { pre call.now alloc element text }
+    ensures { post call.now alloc element.entry text.entry result }
+{
+    call(alloc, element, text)
+}
+
+/// A call that writes: it takes the element with a text, and gives it back.
+pub type WriteCall = Box<dyn Fn(Global, Element, &[u8]) -> Written + Send>;
+
+/// A write handler of a class.
+#[derive(Drop)]
+pub struct WriteRow {
+    pub class: Class,
+    pub name: Vec<u8>,
+    call: WriteCall,
+    ghost answers: { AnswersWrites (pre call) (post call) class name.items },
+}
+
+impl WriteRow {
+    /// Stores a call, which does what the handler of that name does on every element of the class.
+    pub fn new(class: Class, name: Vec<u8>, call: WriteCall) -> WriteRow
+        requires { AnswersWrites (pre call) (post call) class name.items }
+        ensures class { result.class ≡ class }
+        ensures name { result.name ≡ name }
+    {
+        WriteRow { class, name, call }
+    }
+
+    /// Writes the handler of an element of the class.
+    pub fn answer(&self, alloc: Global, element: Element, text: &[u8]) -> Written
+        requires { class element.state ≡ self.now.class }
+        ensures { IsWriteAnswer element (write_value self.now.name.items element text.now) result }
+    {
+        write_through(&self.call, alloc, element, text)
+    }
+}
+
+/// Makes the stored call.
+fn write_through(call: &WriteCall, alloc: Global, element: Element, text: &[u8]) -> Written
+    requires { pre call.now alloc element text }
+    ensures { post call.now alloc element text.entry result }
+{
+    call(alloc, element, text)
+}
+
+/// Stores a call as the next read row.
+pub fn add_read(
+    rows: &mut Vec<ReadRow>,
+    alloc: Global,
+    class: Class,
+    name: &[u8],
+    call: ReadCall,
+) -> Result<(), AllocError>
+    requires { AnswersReads (pre call) (post call) class name.now }
+    ensures { OnOk result (map (λ r. of_class r.class r.name.items) rows.new.items ≡ map (λ r. of_class r.class r.name.items) rows.old.items ++ of_class class name.now ∷ []) }
+{
+    let name = Vec::from_slice(alloc, name)?;
+    rows.push(ReadRow::new(class, name, call))?;
+    Ok(())
+}
+
+/// Stores a call as the next write row.
+pub fn add_write(
+    rows: &mut Vec<WriteRow>,
+    alloc: Global,
+    class: Class,
+    name: &[u8],
+    call: WriteCall,
+) -> Result<(), AllocError>
+    requires { AnswersWrites (pre call) (post call) class name.now }
+    ensures { OnOk result (map (λ r. of_class r.class r.name.items) rows.new.items ≡ map (λ r. of_class r.class r.name.items) rows.old.items ++ of_class class name.now ∷ []) }
+{
+    let name = Vec::from_slice(alloc, name)?;
+    rows.push(WriteRow::new(class, name, call))?;
+    Ok(())
+}

@@ -1,0 +1,254 @@
+//! The table of all handlers of the thirty classes, made once and handed on.
+
+ghost use Rattle.std.specs.Prelude.{◌≡◌, ◌<◌};
+ghost use Rattle.click_classes.specs.State.{class};
+ghost use Rattle.click_classes.specs.declared.class.Class.TheVariants as is;
+ghost use Rattle.click_handlers.specs.Answers.{IsReadAnswer, IsWriteAnswer};
+ghost use Rattle.click_handlers.specs.Names.{active_name};
+ghost use Rattle.click_handlers.specs.Reads.{read_value};
+ghost use Rattle.click_handlers.specs.Writes.{write_value};
+
+use crate::fault::{HandlerFault, TableFault};
+use crate::names::active_name;
+use crate::plain;
+use crate::rows::{add_read, add_write};
+use crate::table::Table;
+use crate::written::Written;
+use click_classes::Class;
+use click_engine::Element;
+use std::alloc::{AllocError, Global};
+
+/// Goes on with the table of all handlers. What holds a table in its type cannot be named where a table is made, so the table is handed down.
+pub trait TakesTable {
+    type Out;
+
+    fn take(self, table: Table) -> Self::Out;
+}
+
+/// Makes the table of all handlers, and hands it to `then`.
+pub fn with_table<U: TakesTable + Drop>(
+    alloc: Global,
+    then: U,
+) -> Result<Result<U::Out, TableFault>, AllocError> {
+    let mut reads = Vec::new(alloc);
+    add_read(
+        &mut reads,
+        alloc,
+        Class::Queue,
+        b"length",
+        Box::new(alloc, plain::read_length)?,
+    )?;
+    add_read(
+        &mut reads,
+        alloc,
+        Class::Queue,
+        b"highwater_length",
+        Box::new(alloc, plain::read_highwater_length)?,
+    )?;
+    add_read(
+        &mut reads,
+        alloc,
+        Class::Queue,
+        b"drops",
+        Box::new(alloc, plain::read_drops)?,
+    )?;
+    add_read(
+        &mut reads,
+        alloc,
+        Class::Queue,
+        b"capacity",
+        Box::new(alloc, plain::read_capacity)?,
+    )?;
+    add_read(
+        &mut reads,
+        alloc,
+        Class::FrontDropQueue,
+        b"length",
+        Box::new(alloc, plain::read_length)?,
+    )?;
+    add_read(
+        &mut reads,
+        alloc,
+        Class::FrontDropQueue,
+        b"highwater_length",
+        Box::new(alloc, plain::read_highwater_length)?,
+    )?;
+    add_read(
+        &mut reads,
+        alloc,
+        Class::FrontDropQueue,
+        b"drops",
+        Box::new(alloc, plain::read_drops)?,
+    )?;
+    add_read(
+        &mut reads,
+        alloc,
+        Class::FrontDropQueue,
+        b"capacity",
+        Box::new(alloc, plain::read_capacity)?,
+    )?;
+    add_read(
+        &mut reads,
+        alloc,
+        Class::Counter,
+        b"count",
+        Box::new(alloc, plain::read_count)?,
+    )?;
+    add_read(
+        &mut reads,
+        alloc,
+        Class::Counter,
+        b"byte_count",
+        Box::new(alloc, plain::read_byte_count)?,
+    )?;
+    add_read(
+        &mut reads,
+        alloc,
+        Class::Switch,
+        b"switch",
+        Box::new(alloc, plain::read_switch)?,
+    )?;
+    add_read(
+        &mut reads,
+        alloc,
+        Class::PullSwitch,
+        b"switch",
+        Box::new(alloc, plain::read_pull_switch)?,
+    )?;
+    for port in 0..16u16 {
+        add_read(
+            &mut reads,
+            alloc,
+            Class::Suppressor,
+            active_name(port),
+            Box::new(
+                alloc,
+                move |alloc: Global, element: &Element, text: &[u8]| -> Result<
+                    Vec<u8>,
+                    HandlerFault,
+                >
+                    requires { (class element.now.state ≡ is.Suppressor) × (port < 16) }
+                    ensures { IsReadAnswer (read_value (active_name port) element.entry.now text.entry.now) result }
+                { plain::read_active(alloc, element, text, port) },
+            )?,
+        )?;
+    }
+    add_read(
+        &mut reads,
+        alloc,
+        Class::InfiniteSource,
+        b"active",
+        Box::new(alloc, plain::read_source_active)?,
+    )?;
+    add_read(
+        &mut reads,
+        alloc,
+        Class::InfiniteSource,
+        b"count",
+        Box::new(alloc, plain::read_source_count)?,
+    )?;
+    add_read(
+        &mut reads,
+        alloc,
+        Class::StaticIPLookup,
+        b"lookup",
+        Box::new(alloc, plain::read_lookup)?,
+    )?;
+    let mut writes = Vec::new(alloc);
+    add_write(
+        &mut writes,
+        alloc,
+        Class::Queue,
+        b"capacity",
+        Box::new(alloc, plain::write_capacity)?,
+    )?;
+    add_write(
+        &mut writes,
+        alloc,
+        Class::Queue,
+        b"reset_counts",
+        Box::new(alloc, plain::reset_queue_counts)?,
+    )?;
+    add_write(
+        &mut writes,
+        alloc,
+        Class::Queue,
+        b"reset",
+        Box::new(alloc, plain::reset_queue)?,
+    )?;
+    add_write(
+        &mut writes,
+        alloc,
+        Class::FrontDropQueue,
+        b"capacity",
+        Box::new(alloc, plain::write_capacity)?,
+    )?;
+    add_write(
+        &mut writes,
+        alloc,
+        Class::FrontDropQueue,
+        b"reset_counts",
+        Box::new(alloc, plain::reset_queue_counts)?,
+    )?;
+    add_write(
+        &mut writes,
+        alloc,
+        Class::FrontDropQueue,
+        b"reset",
+        Box::new(alloc, plain::reset_queue)?,
+    )?;
+    add_write(
+        &mut writes,
+        alloc,
+        Class::Counter,
+        b"reset_counts",
+        Box::new(alloc, plain::reset_counter)?,
+    )?;
+    add_write(
+        &mut writes,
+        alloc,
+        Class::Switch,
+        b"switch",
+        Box::new(alloc, plain::write_switch)?,
+    )?;
+    add_write(
+        &mut writes,
+        alloc,
+        Class::PullSwitch,
+        b"switch",
+        Box::new(alloc, plain::write_pull_switch)?,
+    )?;
+    for port in 0..16u16 {
+        add_write(
+            &mut writes,
+            alloc,
+            Class::Suppressor,
+            active_name(port),
+            Box::new(
+                alloc,
+                move |_alloc: Global, element: Element, text: &[u8]| -> Written
+                    requires { (class element.state ≡ is.Suppressor) × (port < 16) }
+                    ensures { IsWriteAnswer element (write_value (active_name port) element text.entry.now) result }
+                { plain::write_active(element, text, port) },
+            )?,
+        )?;
+    }
+    add_write(
+        &mut writes,
+        alloc,
+        Class::InfiniteSource,
+        b"active",
+        Box::new(alloc, plain::write_source_active)?,
+    )?;
+    add_write(
+        &mut writes,
+        alloc,
+        Class::InfiniteSource,
+        b"reset",
+        Box::new(alloc, plain::reset_source)?,
+    )?;
+    match Table::new(reads, writes) {
+        Ok(table) => Ok(Ok(then.take(table))),
+        Err(fault) => Ok(Err(fault)),
+    }
+}

@@ -1,0 +1,282 @@
+//! Calls of handlers, answered through the rows of a table.
+
+ghost use Rattle.std.specs.Prelude.{◌≡◌, ◌≢◌, ◌<◌, ◌≤◌, ℕ, List, Result, length, Ok, Err, None, Some, slice_get, slice_index_or, true, IfOk, IfErr, IfSome, MatchOption, MatchResult};
+ghost use Rattle.click_classes.specs.State.{class};
+ghost use Rattle.click_engine.specs.World.{blank};
+ghost use Rattle.click_handlers.specs.Answers.{IsReadAnswer, IsWriteAnswer};
+ghost use Rattle.click_handlers.specs.Reads.{read_value};
+ghost use Rattle.click_handlers.specs.Writes.{write_value};
+ghost use Rattle.click_router.specs.One.{refusal_of};
+ghost use Rattle.click_router.specs.One as spec;
+
+use crate::call::{Call, Refusal, Reply, StepFault};
+use crate::handler_name::last_dot;
+use crate::opening::Prepared;
+use click_engine::{Element, Plant};
+use click_handlers::{HandlerFault, ReadRow, Table, WriteRow};
+use click_text::sequence::Sequence;
+use std::alloc::Global;
+
+/// What answers the calls of a router: a table of handlers. All that stands above a router is generic in it.
+pub trait Handlers {
+    ghost use Rattle.std.specs.Prelude.{◌≡◌, true, IfOk, IfErr, MatchResult};
+    ghost use Rattle.click_router.specs.One.{one, takes_memory, holds_memory};
+
+    /// Answers one call, as `Router::step` says it.
+    fn step(&self, running: &mut Prepared, alloc: Global, call: &Call) -> Result<Reply, StepFault>
+        ensures answer { MatchResult result (λ reply. one running.old call.now ≡ (running.new, reply)) (λ _. running.new ≡ running.old) }
+        ensures refused { IfErr result (λ _. takes_memory call.now ≡ true) }
+        ensures light { IfOk result (λ reply. holds_memory reply ≡ true → running.new ≡ running.old) };
+}
+
+/// What a handler's name names: an element with its place, and the handler.
+#[derive(Clone, Copy)]
+struct Asked<'a, 'n> {
+    at: usize,
+    element: &'a Element,
+    handler: &'n [u8],
+}
+
+impl Prepared {
+    ghost use Rattle.std.specs.Prelude.{◌≡◌, Ok, Err, None, Some, slice_get, IfOk, IfSome, MatchOption, MatchResult};
+    ghost use Rattle.click_router.specs.One as spec;
+
+    /// The element of a name, with its place.
+    fn find(&self, name: &[u8]) -> Option<(usize, &Element)>
+        ensures found { MatchOption result (spec.found self.now name.now ≡ None) (λ found. spec.found self.now name.now ≡ Some (found.0, found.1.now)) }
+        ensures there { IfSome result (λ found. slice_get self.now.plant.elements found.0 ≡ Some found.1.now) }
+    {
+        let at = self.names.place(name)?;
+        if at < self.plant.len() {
+            Some((at, self.plant.element(at)))
+        } else {
+            None
+        }
+    }
+
+    /// What a handler's name names.
+    fn asked<'a, 'n>(&'a self, name: &'n [u8]) -> Result<Asked<'a, 'n>, Refusal>
+        ensures found { MatchResult result (λ a. spec.asked self.now name.now ≡ Ok (a.at, a.element.now)) (λ why. spec.asked self.now name.now ≡ Err why) }
+        ensures handler { IfOk result (λ a. a.handler.now ≡ spec.after name.now) }
+        ensures there { IfOk result (λ a. slice_get self.now.plant.elements a.at ≡ Some a.element.now) }
+    {
+        let Some(dot) = last_dot(name) else {
+            return Err(Refusal::NoHandler);
+        };
+        match self.find(&name[..dot]) {
+            Some((at, element)) => Ok(Asked {
+                at,
+                element,
+                handler: &name[dot + 1..],
+            }),
+            None => Err(Refusal::NoElement),
+        }
+    }
+}
+
+/// Why a class has no handler of that name for one way.
+fn refusal_of(has_other: bool) -> Refusal
+    ensures { result ≡ refusal_of has_other }
+{
+    if has_other {
+        Refusal::WrongWay
+    } else {
+        Refusal::NoHandler
+    }
+}
+
+/// The reply to what a read handler answers.
+fn read_reply(answer: Result<Vec<u8>, HandlerFault>) -> Result<Reply, StepFault>
+    ensures { (value : Result (List ℕ) HandlerFault) → IsReadAnswer value answer → IfOk result (λ reply. reply ≡ spec.read_reply value) }
+{
+    match answer {
+        Ok(value) => Ok(Reply::Value(Sequence::of(value))),
+        Err(HandlerFault::NoMemory) => Err(StepFault::NoMemory),
+        Err(fault) => Ok(Reply::Refused(Refusal::Handler(fault))),
+    }
+}
+
+/// Reads a handler of an element through its row.
+fn read_row(
+    row: &ReadRow,
+    element: &Element,
+    alloc: Global,
+    text: &[u8],
+) -> Result<Reply, StepFault>
+    requires { class element.now.state ≡ row.now.class }
+    ensures { IfOk result (λ reply. reply ≡ spec.read_reply (read_value row.now.name.items element.now text.now)) }
+{
+    read_reply(row.answer(alloc, element, text))
+}
+
+/// Reads a handler of an element.
+fn read_element(
+    table: &Table,
+    element: &Element,
+    alloc: Global,
+    handler: &[u8],
+    text: &[u8],
+) -> Result<Reply, StepFault>
+    ensures { IfOk result (λ reply. reply ≡ spec.read_element element.now handler.now text.now) }
+{
+    let class = element.state.class();
+    match table.read(class, handler) {
+        Some(row) => read_row(row, element, alloc, text),
+        None => Ok(Reply::Refused(refusal_of(table.write(class, handler).is_some()))),
+    }
+}
+
+/// Reads a handler.
+fn read(
+    table: &Table,
+    running: &Prepared,
+    alloc: Global,
+    name: &[u8],
+    text: &[u8],
+) -> Result<Reply, StepFault>
+    ensures { IfOk result (λ reply. reply ≡ spec.read running.now name.now text.now) }
+{
+    match running.asked(name) {
+        Ok(asked) => read_element(table, asked.element, alloc, asked.handler, text),
+        Err(why) => Ok(Reply::Refused(why)),
+    }
+}
+
+/// Whether a handler can be asked one way.
+fn check(has: bool, has_other: bool) -> Reply
+    ensures { result ≡ spec.check has has_other }
+{
+    if has {
+        Reply::Done
+    } else {
+        Reply::Refused(refusal_of(has_other))
+    }
+}
+
+/// Whether a handler can be read.
+fn check_read(table: &Table, running: &Prepared, name: &[u8]) -> Reply
+    ensures { result ≡ spec.check_read running.now name.now }
+{
+    match running.asked(name) {
+        Ok(asked) => {
+            let class = asked.element.state.class();
+            let reads = table.read(class, asked.handler).is_some();
+            let writes = table.write(class, asked.handler).is_some();
+            check(reads, writes)
+        }
+        Err(why) => Reply::Refused(why),
+    }
+}
+
+/// Whether a handler can be written.
+fn check_write(table: &Table, running: &Prepared, name: &[u8]) -> Reply
+    ensures { result ≡ spec.check_write running.now name.now }
+{
+    match running.asked(name) {
+        Ok(asked) => {
+            let class = asked.element.state.class();
+            let reads = table.read(class, asked.handler).is_some();
+            let writes = table.write(class, asked.handler).is_some();
+            check(writes, reads)
+        }
+        Err(why) => Reply::Refused(why),
+    }
+}
+
+/// What a write handler says; `Err` where memory ran out.
+fn write_reply(fault: Option<HandlerFault>) -> Result<Reply, StepFault>
+    ensures { MatchOption fault (result ≡ Ok Reply.Done) (λ f. MatchResult result (λ reply. (reply ≡ Reply.Refused (Refusal.Handler f)) × (f ≢ HandlerFault.NoMemory)) (λ _. Unit {0})) }
+{
+    match fault {
+        None => Ok(Reply::Done),
+        Some(HandlerFault::NoMemory) => Err(StepFault::NoMemory),
+        Some(fault) => Ok(Reply::Refused(Refusal::Handler(fault))),
+    }
+}
+
+/// Writes a handler of the element at a place, through its row. `Err`: memory ran out, and nothing has changed.
+fn write_row(
+    row: &WriteRow,
+    plant: &mut Plant,
+    at: usize,
+    alloc: Global,
+    text: &[u8],
+) -> Result<Reply, StepFault>
+    requires there { at < length plant.old.elements }
+    requires class { class (slice_index_or plant.old.elements at blank).state ≡ row.now.class }
+    ensures { MatchResult result
+        (λ reply. spec.written plant.old at (write_value row.now.name.items (slice_index_or plant.old.elements at blank) text.now) ≡ (plant.new, reply))
+        (λ _. plant.new ≡ plant.old) }
+{
+    let fault = plant.change(
+        at,
+        |element: Element| -> (Element, Option<HandlerFault>)
+            requires { class element.state ≡ row.now.class }
+            ensures { IsWriteAnswer element (write_value row.entry.now.name.items element text.entry.now) (record { element = result.0; fault = result.1 }) }
+        {
+            let written = row.answer(alloc, element, text);
+            (written.element, written.fault)
+        },
+    );
+    write_reply(fault)
+}
+
+/// Writes a handler of the element at a place.
+fn write_element(
+    table: &Table,
+    plant: &mut Plant,
+    at: usize,
+    alloc: Global,
+    handler: &[u8],
+    text: &[u8],
+) -> Result<Reply, StepFault>
+    requires { at < length plant.old.elements }
+    ensures { MatchResult result
+        (λ reply. spec.write_element plant.old at (slice_index_or plant.old.elements at blank) handler.now text.now ≡ (plant.new, reply))
+        (λ _. plant.new ≡ plant.old) }
+{
+    let class = plant.element(at).state.class();
+    match table.write(class, handler) {
+        Some(row) => write_row(row, plant, at, alloc, text),
+        None => Ok(Reply::Refused(refusal_of(table.read(class, handler).is_some()))),
+    }
+}
+
+/// Writes a handler.
+fn write(
+    table: &Table,
+    running: &mut Prepared,
+    alloc: Global,
+    name: &[u8],
+    text: &[u8],
+) -> Result<Reply, StepFault>
+    ensures { MatchResult result (λ reply. spec.write running.old name.now text.now ≡ (running.new, reply)) (λ _. running.new ≡ running.old) }
+{
+    match running.asked(name) {
+        Ok(asked) => {
+            let at = asked.at;
+            let handler = asked.handler;
+            write_element(table, &mut running.plant, at, alloc, handler, text)
+        }
+        Err(why) => Ok(Reply::Refused(why)),
+    }
+}
+
+impl Handlers for Table {
+    fn step(&self, running: &mut Prepared, alloc: Global, call: &Call) -> Result<Reply, StepFault> {
+        match call {
+            Call::Read { name, text } => {
+                read(self, running, alloc, name.as_slice(), text.as_slice())
+            }
+            Call::Write { name, text } => {
+                write(self, running, alloc, name.as_slice(), text.as_slice())
+            }
+            Call::CheckRead { name } => Ok(check_read(self, running, name.as_slice())),
+            Call::CheckWrite { name } => Ok(check_write(self, running, name.as_slice())),
+            Call::Arrive { device, packet } => Ok(running.arrive(device.as_slice(), packet)),
+            Call::Poll { device, taken } => Ok(running.poll(device.as_slice(), taken.as_slice())),
+            Call::Round => Ok(running.round()),
+            Call::Transmit { device } => Ok(running.transmit(device.as_slice())),
+        }
+    }
+}

@@ -1,0 +1,141 @@
+//! Handlers through `Router::step`, and the rows of a table.
+
+use click_handlers::{HandlerFault, Table, TakesTable, with_table};
+use click_packet::Packet;
+use click_router::{Call, Handlers, Refusal, Reply, Router, prepare};
+use click_text::sequence::Sequence;
+use std::alloc::{AllocError, Global};
+use std::test::Fail;
+
+/// What is asked of a router, and what it has to answer.
+#[derive(Clone, Copy)]
+enum Row<'a> {
+    /// A packet of one byte enters from this device.
+    Arrive(&'a [u8]),
+    Read(&'a [u8], &'a [u8], Wanted<'a>),
+    Write(&'a [u8], &'a [u8], Wanted<'a>),
+}
+
+#[derive(Clone, Copy)]
+enum Wanted<'a> {
+    Value(&'a [u8]),
+    Done,
+    Refused(Refusal),
+}
+
+const BAD_NUMBER: Wanted<'static> = Wanted::Refused(Refusal::Handler(HandlerFault::BadNumber));
+
+const OUT_OF_RANGE: Wanted<'static> = Wanted::Refused(Refusal::Handler(HandlerFault::OutOfRange));
+
+const BAD_ADDRESS: Wanted<'static> = Wanted::Refused(Refusal::Handler(HandlerFault::BadAddress));
+
+fn kept(alloc: Global, bytes: &[u8]) -> Result<Sequence<u8>, AllocError> {
+    Ok(Sequence::of(Vec::from_slice(alloc, bytes)?))
+}
+
+/// The call of a row.
+fn call_of(alloc: Global, row: Row<'_>) -> Result<Call, AllocError> {
+    match row {
+        Row::Arrive(device) => Ok(Call::Arrive {
+            device: kept(alloc, device)?,
+            packet: Packet::empty(),
+        }),
+        Row::Read(name, text, _) => Ok(Call::Read {
+            name: kept(alloc, name)?,
+            text: kept(alloc, text)?,
+        }),
+        Row::Write(name, text, _) => Ok(Call::Write {
+            name: kept(alloc, name)?,
+            text: kept(alloc, text)?,
+        }),
+    }
+}
+
+fn is_wanted(reply: &Reply, wanted: Wanted<'_>) -> bool {
+    match (reply, wanted) {
+        (Reply::Value(value), Wanted::Value(bytes)) => value.as_slice() == bytes,
+        (Reply::Done, Wanted::Done) => true,
+        (Reply::Refused(refusal), Wanted::Refused(why)) => *refusal == why,
+        _ => false,
+    }
+}
+
+fn is_answer(reply: &Reply, row: Row<'_>) -> bool {
+    match row {
+        Row::Arrive(_) => matches!(reply, Reply::Entered(1)),
+        Row::Read(_, _, wanted) => is_wanted(reply, wanted),
+        Row::Write(_, _, wanted) => is_wanted(reply, wanted),
+    }
+}
+
+/// Rows that one router answers one after another.
+#[derive(Drop)]
+struct Asks<'a> {
+    alloc: Global,
+    text: &'a [u8],
+    rows: &'a [Row<'a>],
+}
+
+/// How many of the rows are answered as wanted, up to the first that is not.
+fn answered<T: Handlers + Drop>(table: T, asks: &Asks<'_>) -> Result<usize, AllocError> {
+    let Ok(prepared) = prepare(asks.alloc, asks.text) else {
+        return Ok(0);
+    };
+    let mut router = Router::open(table, prepared);
+    for (at, row) in asks.rows.iter().enumerate() {
+        let call = call_of(asks.alloc, *row)?;
+        match router.step(asks.alloc, &call) {
+            Ok(reply) if is_answer(&reply, *row) => {}
+            _ => return Ok(at),
+        }
+    }
+    Ok(asks.rows.len())
+}
+
+impl<'a> TakesTable for Asks<'a> {
+    type Out = Result<usize, AllocError>;
+
+    fn take(self, table: Table) -> Result<usize, AllocError> {
+        answered(table, &self)
+    }
+}
+
+#[test]
+fn handlers_answer(rt: HostRuntime) -> Result<(), Fail> {
+    let alloc = rt.alloc();
+    // A queue that gets a smaller capacity counts what does not fit as drops.
+    let queue: [Row<'_>; 9] = [
+        Row::Arrive(b"a"),
+        Row::Arrive(b"a"),
+        Row::Arrive(b"a"),
+        Row::Write(b"q.capacity", b"2", Wanted::Done),
+        Row::Read(b"q.length", b"", Wanted::Value(b"2")),
+        Row::Read(b"q.drops", b"", Wanted::Value(b"1")),
+        Row::Read(b"q.highwater_length", b"", Wanted::Value(b"3")),
+        Row::Write(b"q.capacity", b"0", OUT_OF_RANGE),
+        Row::Write(b"q.capacity", b"x", BAD_NUMBER),
+    ];
+    let text = b"FromDevice(a) -> q :: Queue(3) -> ToDevice(b);";
+    let queue = Asks {
+        alloc,
+        text,
+        rows: &queue,
+    };
+    assert!(&rt; matches!(with_table(alloc, queue)?, Ok(Ok(9))));
+    // The longest prefix of an address, with its gateway.
+    let lookup: [Row<'_>; 4] = [
+        Row::Read(b"rt.lookup", b"10.1.2.3", Wanted::Value(b"2 10.9.9.9")),
+        Row::Read(b"rt.lookup", b"10.2.0.1", Wanted::Value(b"1")),
+        Row::Read(b"rt.lookup", b"255.255.255.255", Wanted::Value(b"0")),
+        Row::Read(b"rt.lookup", b"1.2", BAD_ADDRESS),
+    ];
+    let text =
+        b"Idle -> rt :: StaticIPLookup(0.0.0.0/0 0, 10.0.0.0/8 1, 10.1.0.0/16 10.9.9.9 2); rt -> Discard; rt [1] -> Discard; rt [2] -> Discard;";
+    let lookup = Asks {
+        alloc,
+        text,
+        rows: &lookup,
+    };
+    assert!(&rt; matches!(with_table(alloc, lookup)?, Ok(Ok(4))));
+    Ok(())
+}

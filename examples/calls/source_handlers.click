@@ -1,0 +1,1 @@
+i :: InfiniteSource("ab", 3, 2, false) -> c :: Counter -> Discard;
