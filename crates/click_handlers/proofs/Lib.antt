@@ -1,3 +1,4 @@
 pub mod ActivePorts
 pub mod Listed
 pub mod Made
+pub mod Writing

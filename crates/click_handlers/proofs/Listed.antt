@@ -1,13 +1,10 @@
 -- Rows of a table, and the list that they must be.
-use Rattle.std.proofs.Common.{◌≡◌, ◌≢◌, ℕ, ◌+◌, ◌<◌, ◌≤◌, zero, suc, List, [], ◌∷◌, map, length, take, get_or, Bool, true, false, ◌||◌, ◌&&◌, Some, None, Option, slice_get, eqb, option_map, refl, sym, ◌∙◌, ap, subst, arith, rules}
-use Rattle.std.specs.Prelude.{if◌then◌else◌, IsTrue}
+use Rattle.std.proofs.Common.{◌≡◌, ℕ, ◌<◌, ◌≤◌, zero, suc, List, [], ◌∷◌, map, length, take, get_or, Bool, true, false, ◌||◌, ◌&&◌, Some, slice_get, option_map, refl, sym, ◌∙◌, ap, arith, rules}
+use Rattle.std.specs.Prelude.{IsTrue}
 use Rattle.std.specs.List.{list_any}
 use Rattle.std.specs.Str.{bytes_eq}
-use Rattle.std.proofs.lemmas.Bool.Decides.{nat_tests}
 use Rattle.std.proofs.lemmas.Slice.Eq.{bytes_eq-Decides}
-use Rattle.std.proofs.lemmas.List.Folds.{list_any_more}
 use Rattle.std.proofs.lemmas.Option.{slice_get-map, slice_get-get_or}
-use Rattle.std.proofs.lemmas.Grind.{common_steps}
 use Rattle.click_classes.specs.Classes.{name as class_name}
 use Rattle.click_classes.specs.declared.class.Class.{Class}
 use Rattle.click_classes.proofs.Names.{named}

@@ -1,7 +1,7 @@
 -- What a boxed call asks and answers, from what was boxed.
-use mathlib.Core.Path.{refl, ap, subst}
+use mathlib.Core.Path.{refl, subst}
 use mir.Syntax.{Dict}
-use denote.Param.Table.{Table, Entry}
+use denote.Param.Table.{Table}
 use denote.Param.Object.{Made}
 use denote.Param.Members.{Mut}
 use borrow.Pointer.Called.{made_asks, made_tells}

@@ -1,5 +1,5 @@
 -- What a handler answers that is read: bytes, or a fault (Click element reference, the handlers of each class).
-use Rattle.std.specs.Prelude.{ℕ, List, [], ◌∷◌, ◌++◌, length, Bool, true, false, nat_lt, slice_index, slice_index_or, Option, Some, None, Result, Ok, Err, codes, decimal, if◌then◌else◌}
+use Rattle.std.specs.Prelude.{ℕ, List, [], ◌++◌, length, Bool, false, nat_lt, slice_index, slice_index_or, Option, Some, None, Result, Ok, Err, codes, decimal, if◌then◌else◌}
 use Rattle.std.specs.Str.{bytes_eq}
 use Rattle.click_classes.specs.Queues.{Queued}
 use Rattle.click_classes.specs.Routes.{route}

@@ -1,8 +1,6 @@
 -- What becomes of an element when a handler is written (Click element reference, the handlers of each class).
-use Rattle.std.specs.Prelude.{ℕ, ◌+◌, ◌-◌, ◌^◌, min, List, [], length, take, Bool, true, false, nat_lt, nat_le, slice_set, Option, Some, None, Result, Ok, Err, codes, if◌then◌else◌}
+use Rattle.std.specs.Prelude.{ℕ, ◌+◌, ◌-◌, ◌^◌, min, List, [], length, take, Bool, nat_lt, slice_set, Option, Some, None, Result, Ok, Err, codes, if◌then◌else◌}
 use Rattle.std.specs.Str.{bytes_eq}
-use Rattle.click_packet.specs.Packet.{Packet}
-use Rattle.click_classes.specs.PacketList.{PacketList}
 use Rattle.click_classes.specs.Queues.{Queued}
 use Rattle.click_classes.specs.Values.{truth, decimal_number}
 use Rattle.click_classes.specs.declared.state.State.{State}

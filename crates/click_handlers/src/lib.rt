@@ -4,6 +4,7 @@
 
 mod blanks;
 mod fault;
+pub mod laws;
 mod names;
 pub mod plain;
 pub mod rows;

@@ -1,4 +1,4 @@
-use Rattle.std.proofs.Common.{sym, ◌∙◌, arith, below_more, ◌≡◌, length}
+use Rattle.std.proofs.Common.{sym, ◌∙◌, arith, below_more}
 use Rattle.click_handlers.specs.Names.{of_class}
 use Rattle.click_handlers.proofs.Listed.{read_names_len, never, always, other_length, listed_all, got_row, other_row}
 use Rattle.click_handlers.proofs.table.are_reads.Goals as goal

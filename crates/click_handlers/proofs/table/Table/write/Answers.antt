@@ -1,4 +1,4 @@
-use Rattle.std.proofs.Common.{sym, ◌∙◌, arith}
+use Rattle.std.proofs.Common.{sym, ◌∙◌}
 use Rattle.click_handlers.specs.Names.{of_class}
 use Rattle.click_handlers.proofs.Listed.{found_row, no_row}
 use Rattle.click_handlers.proofs.table.Table.write.Goals as goal

@@ -1,0 +1,7 @@
+use Rattle.click_handlers.proofs.Writing.{read_back, switch_at}
+use Rattle.click_handlers.specs.Blanks.{trimmed}
+use Rattle.std.specs.Prelude.{codes}
+use Rattle.click_handlers.proofs.laws.written_switch_is_read.Goals as goal
+
+pub returns : goal.returns
+returns c e f text any port is number done = read_back (codes "switch") (codes "switch") e f text any _ (λ t made. switch_at e.inputs e.outputs e.state (trimmed text) any port t is number made) done

@@ -1,0 +1,50 @@
+//! What holds of the definitions of handlers.
+
+ghost use Rattle.std.specs.Prelude.{◌≡◌, ◌+◌, ◌<◌, ◌≤◌, ◌^◌, ℕ, List, Bool, Ok, Option, length, codes, decimal, take, IsSome};
+ghost use Rattle.click_classes.specs.Queues.{Queued, queue_of};
+ghost use Rattle.click_classes.specs.State.{class};
+ghost use Rattle.click_classes.specs.Values.{decimal_number, truth};
+ghost use Rattle.click_classes.specs.declared.state.State.TheVariants as state;
+ghost use Rattle.click_handlers.specs.Names.{active_name};
+ghost use Rattle.click_classes.specs.declared.class.Class.TheVariants as is;
+ghost use Rattle.click_engine.specs.declared.world.Element.{Element};
+ghost use Rattle.click_handlers.specs.Blanks.{trimmed};
+ghost use Rattle.click_handlers.specs.Reads.{read_value, port_text, truth_text};
+ghost use Rattle.click_handlers.specs.Writes.{write_value, resized, written_port};
+
+/// A queue's capacity that was written is read back.
+pub fn written_capacity_is_read()
+    ensures { (e f : Element) (text any : List ℕ) (n : ℕ) → IsSome (queue_of e.state) → decimal_number 1 10000 (trimmed text) ≡ Ok n
+        → write_value (codes "capacity") e text ≡ Ok f → read_value (codes "capacity") f any ≡ Ok (decimal n) }
+{}
+
+/// A Switch's output that was written is read back.
+pub fn written_switch_is_read()
+    ensures { (e f : Element) (text any : List ℕ) (port : Option ℕ) → class e.state ≡ is.Switch → written_port e.outputs (trimmed text) ≡ Ok port
+        → write_value (codes "switch") e text ≡ Ok f → read_value (codes "switch") f any ≡ Ok (port_text port) }
+{}
+
+/// A PullSwitch's input that was written is read back.
+pub fn written_pull_switch_is_read()
+    ensures { (e f : Element) (text any : List ℕ) (port : Option ℕ) → class e.state ≡ is.PullSwitch → written_port e.inputs (trimmed text) ≡ Ok port
+        → write_value (codes "switch") e text ≡ Ok f → read_value (codes "switch") f any ≡ Ok (port_text port) }
+{}
+
+/// Whether packets pass at a Suppressor's port is read back as it was written.
+pub fn written_active_is_read()
+    ensures { (e f : Element) (active : List Bool) (text any : List ℕ) (port : ℕ) (b : Bool) → e.state ≡ state.Suppressor active → port < 16 → port < e.inputs
+        → port < length active → truth (trimmed text) ≡ Ok b → write_value (active_name port) e text ≡ Ok f → read_value (active_name port) f any ≡ Ok (truth_text b) }
+{}
+
+/// A Counter's counts are 0 once they are reset.
+pub fn reset_counts_are_zero()
+    ensures { (e f : Element) (text any : List ℕ) → class e.state ≡ is.Counter → write_value (codes "reset_counts") e text ≡ Ok f
+        → (read_value (codes "count") f any ≡ Ok (decimal 0)) × (read_value (codes "byte_count") f any ≡ Ok (decimal 0)) }
+{}
+
+/// A queue that gets another capacity keeps its first packets in order, and loses none silently: length plus drops is as it was.
+pub fn another_capacity_loses_nothing()
+    ensures first { (q : Queued) (n : ℕ) → (resized q n).list.packets ≡ take n q.list.packets }
+    ensures counted { (q : Queued) (n : ℕ) → length q.list.packets + q.drops < 2 ^ 64
+        → length (resized q n).list.packets + (resized q n).drops ≡ length q.list.packets + q.drops }
+{}
