@@ -4,7 +4,8 @@ use Rattle.std.specs.List.{prefix_len, suffix_len, before_last}
 use Rattle.std.proofs.lemmas.Bool.{cases_Bool, not_from_false, not_from_true}
 use Rattle.std.proofs.lemmas.List.Sums.{suffix_len_is}
 use Rattle.click_router.specs.One.{is_dot}
-use Rattle.click_control.specs.Commands.{is_blank, from_blank}
+use Rattle.click_handlers.specs.Blanks.{is_blank}
+use Rattle.click_control.specs.Commands.{from_blank}
 
 -- the bytes that are no blanks
 abbrev pub no_blank : ℕ → Bool

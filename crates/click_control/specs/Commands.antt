@@ -1,21 +1,9 @@
 -- The commands of a stream of bytes (Click manual, "ControlSocket").
 use Rattle.std.specs.Prelude.{ℕ, List, [], ◌∷◌, ◌++◌, length, take_while, reverse, Bool, not, ◌||◌, nat_eq, nat_le, Option, Some, None, codes, if◌then◌else◌}
 use Rattle.std.specs.Str.{str_eq_ignore_ascii_case}
+use Rattle.click_handlers.specs.Blanks.{is_blank, without_front, trimmed}
 use Rattle.click_control.specs.declared.command.Command.{Command}
 use Rattle.click_control.specs.declared.command.Command.TheVariants as command
-
--- a space or a tab
-abbrev pub is_blank : ℕ → Bool
-is_blank b = nat_eq b 32 || nat_eq b 9
-
--- the bytes from the first that is no blank on
-abbrev pub without_front : List ℕ → List ℕ
-without_front [] = []
-without_front (b ∷ bs) = if is_blank b then without_front bs else b ∷ bs
-
--- the bytes without blanks at their ends
-abbrev pub trimmed : List ℕ → List ℕ
-trimmed bs = reverse (without_front (reverse (without_front bs)))
 
 -- the bytes from the first blank on
 abbrev pub from_blank : List ℕ → List ℕ

@@ -3,10 +3,12 @@
 ghost use Rattle.std.specs.Prelude.{◌≡◌, ◌<◌, ◌≤◌, ℕ, List, length, take, not, reverse, true, slice_index, IfOk, MatchOption, IsTrue};
 ghost use Rattle.std.specs.List.{prefix_len};
 ghost use Rattle.std.specs.Str.{str_eq_ignore_ascii_case};
-ghost use Rattle.click_control.specs.Commands.{is_blank, is_end, without_front, trimmed, from_blank, read_command, command_of};
+ghost use Rattle.click_control.specs.Commands.{is_end, from_blank, read_command, command_of};
+ghost use Rattle.click_handlers.specs.Blanks.{is_blank};
 ghost use Rattle.click_control.specs.kept.Lines.{HasNoEnd, IsFound};
 
 use crate::command::Command;
+use click_handlers::{is_blank, trimmed, without_front};
 use click_text::sequence::Sequence;
 use memchr::memchr2;
 use std::alloc::{AllocError, Global};
@@ -105,12 +107,6 @@ fn is_word(word: &[u8], known: &[u8]) -> bool
     word.eq_ignore_ascii_case(known)
 }
 
-fn is_blank(byte: u8) -> bool
-    ensures { result ≡ is_blank byte }
-{
-    byte == b' ' || byte == b'\t'
-}
-
 /// How many bytes stand before the first blank.
 fn word_len(bytes: &[u8]) -> usize
     ensures len { result ≡ prefix_len (λ b. not (is_blank b)) bytes.now }
@@ -122,28 +118,4 @@ fn word_len(bytes: &[u8]) -> usize
         }
     }
     bytes.len()
-}
-
-/// The bytes from the first that is no blank on.
-fn without_front(bytes: &[u8]) -> &[u8]
-    ensures { result.now ≡ without_front bytes.now }
-{
-    for (i, byte) in bytes.iter().enumerate() {
-        if !is_blank(*byte) {
-            return &bytes[i..];
-        }
-    }
-    &bytes[bytes.len()..]
-}
-
-/// The bytes without blanks at their ends.
-fn trimmed(bytes: &[u8]) -> &[u8]
-    ensures { result.now ≡ trimmed bytes.now }
-{
-    let front = without_front(bytes);
-    let mut len = front.len();
-    while len > 0 && is_blank(front[len - 1]) {
-        len -= 1;
-    }
-    &front[..len]
 }

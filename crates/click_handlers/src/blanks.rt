@@ -4,14 +4,14 @@ ghost use Rattle.std.specs.Prelude.{◌≡◌};
 ghost use Rattle.click_handlers.specs.Blanks.{is_blank, without_front, trimmed};
 
 /// Whether the byte is a space or a tab.
-fn is_blank(byte: u8) -> bool
+pub fn is_blank(byte: u8) -> bool
     ensures { result ≡ is_blank byte }
 {
     byte == b' ' || byte == b'\t'
 }
 
 /// The bytes from the first that is no blank on.
-fn without_front(bytes: &[u8]) -> &[u8]
+pub fn without_front(bytes: &[u8]) -> &[u8]
     ensures { result.now ≡ without_front bytes.now }
 {
     for (i, byte) in bytes.iter().enumerate() {

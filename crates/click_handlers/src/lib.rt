@@ -13,7 +13,7 @@ mod table;
 mod texts;
 mod written;
 
-pub use blanks::trimmed;
+pub use blanks::{is_blank, trimmed, without_front};
 pub use fault::{HandlerFault, TableFault};
 pub use rows::{ReadCall, ReadRow, WriteCall, WriteRow};
 pub use standard::{TakesTable, with_table};
