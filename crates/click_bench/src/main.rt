@@ -5,6 +5,7 @@
 //! - `input` parses what stands on standard input, `flat` expands it too, and `router` prepares a router from it;
 //! - `lookup COUNT`, `classifier COUNT` make an element of that many arguments;
 //! - `engine CASE COUNT` drives a plant that many times (bench/engine);
+//! - `read ELEMENTS COUNT` reads a Counter's count that many times in a router of so many elements (bench/handlers);
 //! - `make CLASS` makes an element of the class with the configuration string on standard input.
 #![tactic(auto)]
 
@@ -12,6 +13,7 @@ mod engine;
 mod expanding;
 mod making;
 mod preparing;
+mod reading;
 
 use click_classes::Class;
 use click_text::{LONGEST_TEXT, parse};
@@ -147,6 +149,10 @@ fn run(rt: &HostRuntime) -> io::Result<()> {
     if let [_, word, case, count] = words.as_slice() {
         if word.as_str() == "engine" {
             return engine::run(rt, case.as_str(), count.parse::<usize>().unwrap_or(0));
+        }
+        if word.as_str() == "read" {
+            let elements = case.parse::<usize>().unwrap_or(0);
+            return reading::run(rt, elements, count.parse::<usize>().unwrap_or(0));
         }
     }
     for kind in KINDS {

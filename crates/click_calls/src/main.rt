@@ -63,8 +63,8 @@ fn program(rt: &HostRuntime) -> Status {
         Ok(text) => {
             let bytes = text.unwrap().as_bytes();
             match with_table(alloc, Answers { rt, text: bytes }) {
-                Ok(Ok(status)) => status,
-                Ok(Err(_)) | Err(_) => Status::NoMemory,
+                Ok(status) => status,
+                Err(_) => Status::NoMemory,
             }
         }
         Err(error) if error.kind() == ErrorKind::OutOfMemory => Status::NoMemory,

@@ -1,4 +1,5 @@
 pub mod ActivePorts
+pub mod Growing
 pub mod Listed
 pub mod Made
 pub mod Writing

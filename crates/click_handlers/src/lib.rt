@@ -16,7 +16,7 @@ mod written;
 pub use blanks::{is_blank, trimmed, without_front};
 pub use fault::{HandlerFault, TableFault};
 pub use rows::{ReadCall, ReadRow, WriteCall, WriteRow};
-pub use standard::{TakesTable, with_table};
+pub use standard::{TakesTable, with_counted_table, with_table};
 pub use table::Table;
 pub use texts::push_dotted;
 pub use written::Written;

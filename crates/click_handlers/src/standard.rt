@@ -1,6 +1,6 @@
 //! The table of all handlers of the thirty classes, made once and handed on.
 
-ghost use Rattle.std.specs.Prelude.{◌≡◌, ◌<◌};
+ghost use Rattle.std.specs.Prelude.{◌≡◌, ◌<◌, codes};
 ghost use Rattle.click_classes.specs.State.{class};
 ghost use Rattle.click_classes.specs.declared.class.Class.TheVariants as is;
 ghost use Rattle.click_handlers.specs.Answers.{IsReadAnswer, IsWriteAnswer};
@@ -8,7 +8,7 @@ ghost use Rattle.click_handlers.specs.Names.{active_name};
 ghost use Rattle.click_handlers.specs.Reads.{read_value};
 ghost use Rattle.click_handlers.specs.Writes.{write_value};
 
-use crate::fault::{HandlerFault, TableFault};
+use crate::fault::HandlerFault;
 use crate::names::active_name;
 use crate::plain;
 use crate::rows::{add_read, add_write};
@@ -17,6 +17,8 @@ use crate::written::Written;
 use click_classes::Class;
 use click_engine::Element;
 use std::alloc::{AllocError, Global};
+use std::sync::Arc;
+use std::sync::atomic::{AtomicU64, Ordering};
 
 /// Goes on with the table of all handlers. What holds a table in its type cannot be named where a table is made, so the table is handed down.
 pub trait TakesTable {
@@ -26,10 +28,16 @@ pub trait TakesTable {
 }
 
 /// Makes the table of all handlers, and hands it to `then`.
-pub fn with_table<U: TakesTable + Drop>(
+pub fn with_table<U: TakesTable + Drop>(alloc: Global, then: U) -> Result<U::Out, AllocError> {
+    with_counted_table(alloc, None, then)
+}
+
+/// The same. Where there is a number, it grows by one whenever the row of a Counter's `count` is asked, which shows that whoever has the table asks its rows.
+pub fn with_counted_table<U: TakesTable + Drop>(
     alloc: Global,
+    asked: Option<Arc<AtomicU64>>,
     then: U,
-) -> Result<Result<U::Out, TableFault>, AllocError> {
+) -> Result<U::Out, AllocError> {
     let mut reads = Vec::new(alloc);
     add_read(
         &mut reads,
@@ -92,7 +100,18 @@ pub fn with_table<U: TakesTable + Drop>(
         alloc,
         Class::Counter,
         b"count",
-        Box::new(alloc, plain::read_count)?,
+        Box::new(
+            alloc,
+            move |alloc: Global, element: &Element, text: &[u8]| -> Result<Vec<u8>, HandlerFault>
+                requires { class element.now.state ≡ is.Counter }
+                ensures { IsReadAnswer (read_value (codes "count") element.entry.now text.entry.now) result }
+            {
+                if let Some(asked) = &asked {
+                    asked.fetch_add(1, Ordering::Relaxed);
+                }
+                plain::read_count(alloc, element, text)
+            },
+        )?,
     )?;
     add_read(
         &mut reads,
@@ -247,8 +266,5 @@ pub fn with_table<U: TakesTable + Drop>(
         b"reset",
         Box::new(alloc, plain::reset_source)?,
     )?;
-    match Table::new(reads, writes) {
-        Ok(table) => Ok(Ok(then.take(table))),
-        Err(fault) => Ok(Err(fault)),
-    }
+    Ok(then.take(Table::of_all(reads, writes)))
 }

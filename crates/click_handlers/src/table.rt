@@ -76,6 +76,14 @@ impl Table {
         }
     }
 
+    /// The table of rows that are known to be those of the list.
+    pub(crate) fn of_all(reads: Vec<ReadRow>, writes: Vec<WriteRow>) -> Table
+        requires reads { map (λ r. of_class r.class r.name.items) reads.items ≡ read_names }
+        requires writes { map (λ r. of_class r.class r.name.items) writes.items ≡ write_names }
+    {
+        Table { reads, writes }
+    }
+
     /// The row of a class's read handler.
     pub fn read(&self, class: Class, name: &[u8]) -> Option<&ReadRow>
         ensures there { is_some result ≡ has_read class name.now }

@@ -64,8 +64,8 @@ fn program(rt: &HostRuntime) -> Status {
         Ok(text) => {
             let text = text.unwrap().as_bytes();
             match with_table(alloc, Serving { rt, text }) {
-                Ok(Ok(status)) => status,
-                Ok(Err(_)) | Err(_) => Status::NoMemory,
+                Ok(status) => status,
+                Err(_) => Status::NoMemory,
             }
         }
         Err(error) if error.kind() == ErrorKind::OutOfMemory => Status::NoMemory,

@@ -76,10 +76,7 @@ fn ran(
         reader,
         writer,
     };
-    match with_table(alloc, asked)? {
-        Ok(ran) => Ok(ran),
-        Err(_) => Err(Fail::from("a table")),
-    }
+    Ok(with_table(alloc, asked)?)
 }
 
 /// A session over the router of a text, and what it wrote.

@@ -1,10 +1,12 @@
 //! Handlers through `Router::step`, and the rows of a table.
 
-use click_handlers::{HandlerFault, Table, TakesTable, with_table};
+use click_handlers::{HandlerFault, Table, TakesTable, with_counted_table, with_table};
 use click_packet::Packet;
 use click_router::{Call, Handlers, Refusal, Reply, Router, prepare};
 use click_text::sequence::Sequence;
 use std::alloc::{AllocError, Global};
+use std::sync::Arc;
+use std::sync::atomic::{AtomicU64, Ordering};
 use std::test::Fail;
 
 /// What is asked of a router, and what it has to answer.
@@ -121,7 +123,7 @@ fn handlers_answer(rt: HostRuntime) -> Result<(), Fail> {
         text,
         rows: &queue,
     };
-    assert!(&rt; matches!(with_table(alloc, queue)?, Ok(Ok(9))));
+    assert!(&rt; matches!(with_table(alloc, queue)?, Ok(9)));
     // The longest prefix of an address, with its gateway.
     let lookup: [Row<'_>; 4] = [
         Row::Read(b"rt.lookup", b"10.1.2.3", Wanted::Value(b"2 10.9.9.9")),
@@ -136,6 +138,27 @@ fn handlers_answer(rt: HostRuntime) -> Result<(), Fail> {
         text,
         rows: &lookup,
     };
-    assert!(&rt; matches!(with_table(alloc, lookup)?, Ok(Ok(4))));
+    assert!(&rt; matches!(with_table(alloc, lookup)?, Ok(4)));
+    Ok(())
+}
+
+/// What answers a read without asking the row of the table fails this.
+#[test]
+fn step_asks_the_row(rt: HostRuntime) -> Result<(), Fail> {
+    let alloc = rt.alloc();
+    let asked = Arc::new(alloc, AtomicU64::new(0))?;
+    let seen = asked.clone()?;
+    let rows: [Row<'_>; 3] = [
+        Row::Read(b"c.count", b"", Wanted::Value(b"0")),
+        Row::Read(b"c.byte_count", b"", Wanted::Value(b"0")),
+        Row::Read(b"c.count", b"", Wanted::Value(b"0")),
+    ];
+    let asks = Asks {
+        alloc,
+        text: b"Idle -> c :: Counter -> Discard;",
+        rows: &rows,
+    };
+    assert!(&rt; matches!(with_counted_table(alloc, Some(asked), asks)?, Ok(3)));
+    assert!(&rt; seen.load(Ordering::Relaxed) == 2);
     Ok(())
 }
