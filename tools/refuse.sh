@@ -75,8 +75,8 @@ refuse_program() {
 }
 
 refuse_calls() {
-    # The table of handlers, reads and writes: the replies before the refused request stand.
-    for config in capacity lookup suppressor switches source_handlers; do
+    # The table of handlers, reads and writes, of elements and of the router itself: the replies before the refused request stand.
+    for config in capacity lookup suppressor switches source_handlers globals globals_of_compounds; do
         example=$top/examples/calls/$config
         in_turn "the calls of $config" "$example.calls" "$example.out" none 3 "$example.out" "$calls" -e "$(cat "$example.click")"
     done

@@ -138,7 +138,7 @@ fn tells_what_is_wrong(rt: HostRuntime) -> Result<(), Fail> {
             b"READ Discard@3.count\n",
             b"511 No handler named 'Discard@3.count'\r\n",
         ),
-        (b"READ version\n", b"511 No handler named 'version'\r\n"),
+        (b"READ nodot\n", b"511 No handler named 'nodot'\r\n"),
         (b"READ a.b.c\n", b"510 No element named 'a.b'\r\n"),
         (b"READ .count\n", b"510 No element named ''\r\n"),
         (b"FOO\n", b"501 Unimplemented command 'FOO'\r\n"),

@@ -3,7 +3,6 @@ use Rattle.std.proofs.Common.{◌≡◌, ℕ, List, [], ◌∷◌, ◌++◌, map
 use Rattle.std.specs.List.{list_any, find}
 use Rattle.std.specs.Str.{bytes_eq}
 use Rattle.std.proofs.lemmas.Slice.Eq.{bytes_eq-Decides}
-use Rattle.click_text.specs.declared.syntax.Span.{Span}
 use Rattle.click_text.specs.declared.syntax.Class.{Class}
 use Rattle.click_text.specs.declared.syntax.Class.TheVariants as class
 use Rattle.click_text.specs.declared.syntax.Statement.{Statement}
@@ -14,17 +13,16 @@ use Rattle.click_classes.specs.declared.class.TheConstants.{CLASSES}
 use Rattle.click_classes.specs.declared.class.Class.{Class as ElementClass}
 use Rattle.click_classes.specs.Classes.{name, class_of}
 use Rattle.click_expand.specs.Scopes.{Scope, whole, inside, is_body}
-use Rattle.click_expand.specs.Classes.{Meaning, primitive, compound, class_names, primitive_of, meaning, class_meaning}
-use Rattle.click_expand.specs.Elements.{Placed, head_class, element_meaning, Local}
+use Rattle.click_expand.specs.Classes.{Meaning, primitive, compound, class_names, meaning, class_meaning}
+use Rattle.click_expand.specs.Elements.{head_class, Local}
 use Rattle.click_expand.specs.Faults.{scope_declared, scope_placed, scope_locals}
 use Rattle.click_expand.specs.Parameters.{Bindings}
 use Rattle.click_expand.specs.Instances.{Leaf, AreLeaves, no_elements, leaf, branch}
 use Rattle.click_expand.specs.Flat.{flat_element, IsFlat}
-use Rattle.click_expand.specs.declared.flat.FlatElement.{FlatElement}
 use Rattle.click_expand.specs.declared.flat.Flat.{Flat}
 use Rattle.click_expand.proofs.Contained.{contains-here, contains-behind}
 use Rattle.click_expand.proofs.Founded.{local-made}
-use Rattle.click_router.specs.Opened.{IsKnown, AreKnown}
+use Rattle.click_router.specs.Opened.{AreKnown}
 
 -- a word is the name of one of the classes
 abbrev pub IsListed : List ℕ → Type 0

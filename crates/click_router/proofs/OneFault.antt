@@ -1,5 +1,5 @@
 -- A text has one first fault, and none where it opens.
-use Rattle.std.proofs.Common.{◌≡◌, ◌⊎◌, ℕ, ◌≤◌, List, [], ◌∷◌, ◌++◌, length, Ok, Err, refl, sym, ap, ◌∙◌, subst, inl, inr, arith}
+use Rattle.std.proofs.Common.{◌≡◌, ◌⊎◌, ℕ, ◌≤◌, List, [], ◌∷◌, ◌++◌, length, Err, refl, sym, ap, ◌∙◌, subst, inl, inr, arith}
 use Rattle.click_text.specs.declared.syntax.Config.{Config}
 use Rattle.click_text.specs.declared.syntax.TextFault.{TextFault}
 use Rattle.click_text.specs.Spelling.{longest_text, Spells, IsAnswered}
@@ -8,17 +8,15 @@ use Rattle.click_classes.specs.declared.fault.ArgFault.{ArgFault}
 use Rattle.click_classes.specs.declared.state.State.{State}
 use Rattle.click_expand.specs.declared.flat.FlatElement.{FlatElement}
 use Rattle.click_expand.specs.declared.flat.Flat.{Flat}
-use Rattle.click_expand.specs.Flat.{IsFlat}
 use Rattle.click_expand.proofs.Nesting.{spelled-nested}
 use Rattle.click_expand.proofs.FlatOnce.{flat-no-fault}
 use Rattle.click_expand.proofs.FaultOnce.{spelled-fault-once}
 use Rattle.click_ports.specs.Breaches.{IsFirstBreach}
 use Rattle.click_ports.specs.Net.{net_of}
-use Rattle.click_ports.specs.declared.fault.PortFault.{PortFault}
 use Rattle.click_ports.proofs.Lawfulness.{one-first}
 use Rattle.click_router.specs.declared.fault.ConfigFault.{ConfigFault}
 use Rattle.click_router.specs.State.{RouterState}
-use Rattle.click_router.specs.Opened.{IsBegun, AreFresh, OpensAs, IsOpened, of_text, of_expand, of_arguments, of_ports, IsFirstFault, unreadable, not_flat, unfit, unlawful}
+use Rattle.click_router.specs.Opened.{IsBegun, AreFresh, IsOpened, of_text, of_expand, of_arguments, of_ports, IsFirstFault, unreadable, not_flat, unfit, unlawful}
 use Rattle.click_router.specs.kept.Refused.{IsUnfit, IsUnlawful, IsConfigFault}
 use Rattle.click_router.proofs.Begun.{begun_once, same_states, refused_state}
 use Rattle.click_router.proofs.Opens.{same_flat, refused}

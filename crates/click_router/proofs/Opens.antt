@@ -1,11 +1,9 @@
 -- A configuration opens one state at most, and none where it has a fault.
-use Rattle.std.proofs.Common.{◌≡◌, ℕ, ◌≤◌, List, ◌∷◌, ◌++◌, length, Result, Ok, Err, refl, sym, ap, ◌∙◌, subst, inl, inr}
+use Rattle.std.proofs.Common.{◌≡◌, ℕ, ◌≤◌, List, ◌∷◌, ◌++◌, length, Result, Ok, Err, sym, ap, ◌∙◌, subst, inl, inr}
 use Rattle.std.specs.Result.{IfOk, IfErr}
 use Rattle.click_text.specs.declared.syntax.Config.{Config}
 use Rattle.click_text.specs.Spelling.{longest_text, Spells}
 use Rattle.click_text.proofs.Given.{spells_once}
-use Rattle.click_classes.specs.declared.state.State.{State}
-use Rattle.click_expand.specs.declared.flat.FlatElement.{FlatElement}
 use Rattle.click_expand.specs.declared.flat.Flat.{Flat}
 use Rattle.click_expand.specs.Flat.{IsFlat}
 use Rattle.click_expand.proofs.Nesting.{spelled-nested}

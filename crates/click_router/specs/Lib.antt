@@ -1,4 +1,5 @@
 pub mod FaultText
+pub mod Globals
 pub mod One
 pub mod Opened
 pub mod State

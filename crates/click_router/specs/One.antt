@@ -1,11 +1,9 @@
 -- One call of a router: the state after it, and the reply (Click manual, "Handlers"; TOCS 2000, "Packet transfer").
-use Rattle.std.specs.Prelude.{ℕ, ◌-◌, ◌^◌, min, List, [], ◌∷◌, length, Bool, true, false, Option, Some, None, option_and_then, option_map, Result, Ok, Err, position, slice_get, slice_set, nat_eq, if◌then◌else◌}
+use Rattle.std.specs.Prelude.{ℕ, ◌-◌, ◌^◌, min, List, [], ◌∷◌, length, Bool, true, false, Option, Some, None, is_some, option_and_then, option_map, Result, Ok, Err, position, slice_get, slice_set, nat_eq, if◌then◌else◌}
 use Rattle.std.specs.List.{before_last, after_last, list_any}
-use Rattle.std.specs.Option.{ok_or}
 use Rattle.std.specs.Str.{bytes_eq}
 use Rattle.click_packet.specs.Packet.{Packet}
 use Rattle.click_classes.specs.State.{class}
-use Rattle.click_classes.specs.declared.class.Class.{Class}
 use Rattle.click_engine.specs.Plant.{Plant}
 use Rattle.click_engine.specs.Rounds.{arrive, transmit, transmitted, source_of, sink_of, round}
 use Rattle.click_engine.specs.declared.world.Element.{Element}
@@ -14,6 +12,7 @@ use Rattle.click_handlers.specs.Reads.{read_value}
 use Rattle.click_handlers.specs.Writes.{write_value}
 use Rattle.click_handlers.specs.declared.fault.HandlerFault.{HandlerFault}
 use Rattle.click_ports.specs.Net.{names_of}
+use Rattle.click_router.specs.Globals.{global_value}
 use Rattle.click_router.specs.State.{RouterState}
 use Rattle.click_router.specs.declared.call.Call.{Call}
 use Rattle.click_router.specs.declared.call.Call.TheVariants as call
@@ -33,18 +32,14 @@ place_of s name = position (bytes_eq name) (names_of s.flat.elements)
 abbrev pub found : RouterState → List ℕ → Option (ℕ × Element)
 found s name = option_and_then (λ at. option_map (λ (e : Element). (at, e)) (slice_get s.plant.elements at)) (place_of s name)
 
--- A name is split at its last dot into an element and a handler. One without a dot names a handler of the router itself, which has none.
+-- A name is split at its last dot into an element and a handler. One without a dot names a handler of the router itself.
 abbrev pub before : List ℕ → List ℕ
 before name = before_last is_dot name
 
 abbrev pub after : List ℕ → List ℕ
 after name = after_last is_dot name
 
--- the element that a handler's name names, with its place
-abbrev pub asked : RouterState → List ℕ → Result (ℕ × Element) Refusal
-asked s name = if list_any is_dot name then ok_or (found s (before name)) refusal.NoElement else Err refusal.NoHandler
-
--- why a class has no handler of that name for one way: it has it for the other way alone, or not at all
+-- why there is no handler of that name for one way: there is one for the other way alone, or none
 abbrev pub refusal_of : Bool → Refusal
 refusal_of other = if other then refusal.WrongWay else refusal.NoHandler
 
@@ -59,30 +54,37 @@ read_element e handler text =
     if has_read (class e.state) handler then read_reply (read_value handler e text)
     else reply.Refused (refusal_of (has_write (class e.state) handler))
 
-abbrev pub read_asked : Result (ℕ × Element) Refusal → List ℕ → List ℕ → Reply
-read_asked (Ok found) handler text = read_element found.1 handler text
-read_asked (Err why) handler text = reply.Refused why
+abbrev pub read_found : Option (ℕ × Element) → List ℕ → List ℕ → Reply
+read_found (Some found) handler text = read_element found.1 handler text
+read_found None handler text = reply.Refused refusal.NoElement
+
+-- a read of a handler of the router itself
+abbrev pub read_global : Option (List ℕ) → Reply
+read_global (Some value) = reply.Value value
+read_global None = reply.Refused refusal.NoHandler
 
 abbrev pub read : RouterState → List ℕ → List ℕ → Reply
-read s name text = read_asked (asked s name) (after name) text
+read s name text = if list_any is_dot name then read_found (found s (before name)) (after name) text else read_global (global_value s name)
 
 -- whether a handler can be asked one way
 abbrev pub check : Bool → Bool → Reply
 check has has_other = if has then reply.Done else reply.Refused (refusal_of has_other)
 
-abbrev pub check_read_asked : Result (ℕ × Element) Refusal → List ℕ → Reply
-check_read_asked (Ok found) handler = check (has_read (class found.1.state) handler) (has_write (class found.1.state) handler)
-check_read_asked (Err why) handler = reply.Refused why
+abbrev pub check_read_found : Option (ℕ × Element) → List ℕ → Reply
+check_read_found (Some found) handler = check (has_read (class found.1.state) handler) (has_write (class found.1.state) handler)
+check_read_found None handler = reply.Refused refusal.NoElement
 
+-- the router's own handlers can be read
 abbrev pub check_read : RouterState → List ℕ → Reply
-check_read s name = check_read_asked (asked s name) (after name)
+check_read s name = if list_any is_dot name then check_read_found (found s (before name)) (after name) else check (is_some (global_value s name)) false
 
-abbrev pub check_write_asked : Result (ℕ × Element) Refusal → List ℕ → Reply
-check_write_asked (Ok found) handler = check (has_write (class found.1.state) handler) (has_read (class found.1.state) handler)
-check_write_asked (Err why) handler = reply.Refused why
+abbrev pub check_write_found : Option (ℕ × Element) → List ℕ → Reply
+check_write_found (Some found) handler = check (has_write (class found.1.state) handler) (has_read (class found.1.state) handler)
+check_write_found None handler = reply.Refused refusal.NoElement
 
+-- and not written
 abbrev pub check_write : RouterState → List ℕ → Reply
-check_write s name = check_write_asked (asked s name) (after name)
+check_write s name = if list_any is_dot name then check_write_found (found s (before name)) (after name) else check false (is_some (global_value s name))
 
 -- the plant with another element at a place
 abbrev pub with_element : Plant → ℕ → Element → Plant
@@ -99,12 +101,17 @@ write_element v at e handler text =
     if has_write (class e.state) handler then written v at (write_value handler e text)
     else (v, reply.Refused (refusal_of (has_read (class e.state) handler)))
 
-abbrev pub write_asked : Plant → Result (ℕ × Element) Refusal → List ℕ → List ℕ → Plant × Reply
-write_asked v (Ok found) handler text = write_element v found.0 found.1 handler text
-write_asked v (Err why) handler text = (v, reply.Refused why)
+abbrev pub write_found : Plant → Option (ℕ × Element) → List ℕ → List ℕ → Plant × Reply
+write_found v (Some found) handler text = write_element v found.0 found.1 handler text
+write_found v None handler text = (v, reply.Refused refusal.NoElement)
+
+abbrev pub with_plant : RouterState → Plant × Reply → RouterState × Reply
+with_plant s done = (record s { plant = done.0 }, done.1)
 
 abbrev pub write : RouterState → List ℕ → List ℕ → RouterState × Reply
-write s name text = let done : Plant × Reply = write_asked s.plant (asked s name) (after name) text in (record s { plant = done.0 }, done.1)
+write s name text =
+    if list_any is_dot name then with_plant s (write_found s.plant (found s (before name)) (after name) text)
+    else (s, reply.Refused (refusal_of (is_some (global_value s name))))
 
 -- packets enter from a device one after another
 abbrev pub arrivals : Plant → List ℕ → List Packet → Plant

@@ -19,7 +19,7 @@ use Rattle.click_classes.specs.declared.state.State.{State}
 use Rattle.click_engine.specs.Plant.{Plant, IsStarted}
 use Rattle.click_ports.specs.Breaches.{IsFirstBreach}
 use Rattle.click_ports.specs.Lawful.{Lawful}
-use Rattle.click_ports.specs.Net.{Net, net_of}
+use Rattle.click_ports.specs.Net.{net_of}
 use Rattle.click_ports.specs.declared.fault.FaultKind.TheVariants as port_kind
 use Rattle.click_ports.specs.declared.fault.PortFault.{PortFault}
 use Rattle.click_router.specs.State.{RouterState}

@@ -1,2 +1,3 @@
 -- What the code keeps on its way; no public contract cites it.
+pub mod GlobalNames
 pub mod Refused

@@ -8,7 +8,7 @@ use thiserror::Error;
 /// One call of a router.
 #[derive(Drop)]
 pub enum Call {
-    /// Reads a handler, named as `element.handler`. The text goes to the handler.
+    /// Reads a handler, named as `element.handler`, or without a dot one of the router itself. The text goes to the handler.
     Read {
         name: Sequence<u8>,
         text: Sequence<u8>,

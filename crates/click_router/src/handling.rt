@@ -10,7 +10,8 @@ ghost use Rattle.click_router.specs.One.{refusal_of};
 ghost use Rattle.click_router.specs.One as spec;
 
 use crate::call::{Call, Refusal, Reply, StepFault};
-use crate::handler_name::last_dot;
+use crate::globals::has_global;
+use crate::handler_name::split;
 use crate::opening::Prepared;
 use click_engine::{Element, Plant};
 use click_handlers::{HandlerFault, ReadRow, Table, WriteRow};
@@ -29,14 +30,6 @@ pub trait Handlers {
         ensures light { IfOk result (λ reply. holds_memory reply ≡ true → running.new ≡ running.old) };
 }
 
-/// What a handler's name names: an element with its place, and the handler.
-#[derive(Clone, Copy)]
-struct Asked<'a, 'n> {
-    at: usize,
-    element: &'a Element,
-    handler: &'n [u8],
-}
-
 impl Prepared {
     ghost use Rattle.std.specs.Prelude.{◌≡◌, Ok, Err, None, Some, slice_get, IfOk, IfSome, MatchOption, MatchResult};
     ghost use Rattle.click_router.specs.One as spec;
@@ -53,28 +46,9 @@ impl Prepared {
             None
         }
     }
-
-    /// What a handler's name names.
-    fn asked<'a, 'n>(&'a self, name: &'n [u8]) -> Result<Asked<'a, 'n>, Refusal>
-        ensures found { MatchResult result (λ a. spec.asked self.now name.now ≡ Ok (a.at, a.element.now)) (λ why. spec.asked self.now name.now ≡ Err why) }
-        ensures handler { IfOk result (λ a. a.handler.now ≡ spec.after name.now) }
-        ensures there { IfOk result (λ a. slice_get self.now.plant.elements a.at ≡ Some a.element.now) }
-    {
-        let Some(dot) = last_dot(name) else {
-            return Err(Refusal::NoHandler);
-        };
-        match self.find(&name[..dot]) {
-            Some((at, element)) => Ok(Asked {
-                at,
-                element,
-                handler: &name[dot + 1..],
-            }),
-            None => Err(Refusal::NoElement),
-        }
-    }
 }
 
-/// Why a class has no handler of that name for one way.
+/// Why there is no handler of that name for one way.
 fn refusal_of(has_other: bool) -> Refusal
     ensures { result ≡ refusal_of has_other }
 {
@@ -136,9 +110,12 @@ fn read(
 ) -> Result<Reply, StepFault>
     ensures { IfOk result (λ reply. reply ≡ spec.read running.now name.now text.now) }
 {
-    match running.asked(name) {
-        Ok(asked) => read_element(table, asked.element, alloc, asked.handler, text),
-        Err(why) => Ok(Reply::Refused(why)),
+    let Some((element, handler)) = split(name) else {
+        return running.read_global(alloc, name);
+    };
+    match running.find(element) {
+        Some((_, found)) => read_element(table, found, alloc, handler, text),
+        None => Ok(Reply::Refused(Refusal::NoElement)),
     }
 }
 
@@ -157,14 +134,17 @@ fn check(has: bool, has_other: bool) -> Reply
 fn check_read(table: &Table, running: &Prepared, name: &[u8]) -> Reply
     ensures { result ≡ spec.check_read running.now name.now }
 {
-    match running.asked(name) {
-        Ok(asked) => {
-            let class = asked.element.state.class();
-            let reads = table.read(class, asked.handler).is_some();
-            let writes = table.write(class, asked.handler).is_some();
+    let Some((element, handler)) = split(name) else {
+        return check(has_global(name), false);
+    };
+    match running.find(element) {
+        Some((_, found)) => {
+            let class = found.state.class();
+            let reads = table.read(class, handler).is_some();
+            let writes = table.write(class, handler).is_some();
             check(reads, writes)
         }
-        Err(why) => Reply::Refused(why),
+        None => Reply::Refused(Refusal::NoElement),
     }
 }
 
@@ -172,14 +152,17 @@ fn check_read(table: &Table, running: &Prepared, name: &[u8]) -> Reply
 fn check_write(table: &Table, running: &Prepared, name: &[u8]) -> Reply
     ensures { result ≡ spec.check_write running.now name.now }
 {
-    match running.asked(name) {
-        Ok(asked) => {
-            let class = asked.element.state.class();
-            let reads = table.read(class, asked.handler).is_some();
-            let writes = table.write(class, asked.handler).is_some();
+    let Some((element, handler)) = split(name) else {
+        return check(false, has_global(name));
+    };
+    match running.find(element) {
+        Some((_, found)) => {
+            let class = found.state.class();
+            let reads = table.read(class, handler).is_some();
+            let writes = table.write(class, handler).is_some();
             check(writes, reads)
         }
-        Err(why) => Reply::Refused(why),
+        None => Reply::Refused(Refusal::NoElement),
     }
 }
 
@@ -252,14 +235,13 @@ fn write(
 ) -> Result<Reply, StepFault>
     ensures { MatchResult result (λ reply. spec.write running.old name.now text.now ≡ (running.new, reply)) (λ _. running.new ≡ running.old) }
 {
-    match running.asked(name) {
-        Ok(asked) => {
-            let at = asked.at;
-            let handler = asked.handler;
-            write_element(table, &mut running.plant, at, alloc, handler, text)
-        }
-        Err(why) => Ok(Reply::Refused(why)),
-    }
+    let Some((element, handler)) = split(name) else {
+        return Ok(Reply::Refused(refusal_of(has_global(name))));
+    };
+    let Some((at, _)) = running.find(element) else {
+        return Ok(Reply::Refused(Refusal::NoElement));
+    };
+    write_element(table, &mut running.plant, at, alloc, handler, text)
 }
 
 impl Handlers for Table {

@@ -3,6 +3,7 @@
 
 mod call;
 mod fault;
+mod globals;
 mod handler_name;
 mod handling;
 pub mod laws;

@@ -1,4 +1,4 @@
-use Rattle.std.proofs.Common.{◌+◌, ◌∙◌, sym, ap, subst, drop, take}
+use Rattle.std.proofs.Common.{◌+◌, ◌∙◌, subst, drop, take}
 use Rattle.click_expand.specs.Flat.{AreDistinct}
 use Rattle.click_ports.specs.Net.{names_of}
 use Rattle.click_router.proofs.Begun.{taken, between}

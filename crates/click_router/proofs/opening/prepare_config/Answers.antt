@@ -1,7 +1,3 @@
-use Rattle.std.proofs.Common.{ap, ◌∙◌, inl, inr}
-use Rattle.std.proofs.lemmas.Result.{IfErr-weaker}
-use Rattle.click_router.specs.Opened.{of_expand, IsMemoryOr}
-use Rattle.click_router.specs.kept.Refused.{IsUnfit, IsUnlawful, IsConfigFault}
 use Rattle.click_router.proofs.Known.{flat-known}
 use Rattle.click_router.proofs.Names.{flat-distinct}
 use Rattle.click_router.proofs.opening.prepare_config.Goals as goal

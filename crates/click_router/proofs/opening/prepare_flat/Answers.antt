@@ -1,5 +1,3 @@
-use Rattle.std.proofs.Common.{sym, subst}
-use Rattle.click_ports.specs.Net.{AreStatesOf}
 use Rattle.click_router.proofs.Begun.{states_of}
 use Rattle.click_router.proofs.opening.prepare_flat.Goals as goal
 

@@ -1,7 +1,6 @@
-use Rattle.std.proofs.Common.{◌≡◌, ◌+◌, ◌∷◌, [], ◌++◌, take, drop, IfErr, inl, inr, subst}
+use Rattle.std.proofs.Common.{◌+◌, take, drop, subst}
 use Rattle.std.proofs.lemmas.Result.{err_from_is_err_and}
-use Rattle.click_router.specs.Opened.{AreKnown, IsMemoryOr}
-use Rattle.click_router.specs.kept.Refused.{IsUnfit}
+use Rattle.click_router.specs.Opened.{AreKnown}
 use Rattle.click_router.proofs.Begun.{AreFresh-push, unfit, taken, dropped, between}
 use Rattle.click_router.proofs.opening.states_of.Goals as goal
 

@@ -1,0 +1,1 @@
+FromDevice(a) -> t :: Tee -> c :: Counter -> Discard; t [1] -> t;

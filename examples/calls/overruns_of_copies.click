@@ -1,0 +1,1 @@
+FromDevice(a) -> t :: Tee -> t; t [1] -> c :: Counter -> Discard;
