@@ -1,6 +1,10 @@
 //! What holds of the definitions, in the router's words.
 
-ghost use Rattle.std.specs.Prelude.{◌≡◌, ℕ, List};
+ghost use Rattle.std.specs.Prelude.{◌≡◌, ℕ, List, Some, true};
+ghost use Rattle.std.specs.List.{list_any};
+ghost use Rattle.click_engine.specs.declared.world.Element.{Element};
+ghost use Rattle.click_router.specs.declared.call.Call.TheVariants as call;
+ghost use Rattle.click_router.specs.One.{one, read, before, place_of, is_dot, with_element};
 ghost use Rattle.click_router.specs.State.{RouterState};
 ghost use Rattle.click_router.specs.declared.fault.ConfigFault.{ConfigFault};
 ghost use Rattle.click_router.specs.Opened.{IsOpened, IsFirstFault};
@@ -18,4 +22,15 @@ pub fn opened_has_no_fault()
 /// A text has one first fault at most.
 pub fn faults_once()
     ensures { (text : List ℕ) (f g : ConfigFault) → IsFirstFault text f → IsFirstFault text g → f ≡ g }
+{}
+
+/// A read changes nothing, and neither does asking whether a handler can be read or written.
+pub fn reads_change_nothing()
+    ensures { (s : RouterState) (name text : List ℕ) → ((one s (call.Read name text)).0 ≡ s) × ((one s (call.CheckRead name)).0 ≡ s) × ((one s (call.CheckWrite name)).0 ≡ s) }
+{}
+
+/// What a handler of one element answers does not depend on what stands in the place of another.
+pub fn reads_ask_one_element()
+    ensures { (s : RouterState) (at : ℕ) (other : Element) (name text : List ℕ) → list_any is_dot name ≡ true → (place_of s (before name) ≡ Some at → ⊥)
+        → read (record s { plant = with_element s.plant at other }) name text ≡ read s name text }
 {}
