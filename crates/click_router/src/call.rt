@@ -49,7 +49,7 @@ pub enum Call {
 pub enum Refusal {
     #[error("no element has that name")]
     NoElement,
-    #[error("the element has no handler of that name")]
+    #[error("there is no handler of that name")]
     NoHandler,
     /// It can be written and not read, or read and not written.
     #[error("the handler is for the other way alone")]
