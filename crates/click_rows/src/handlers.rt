@@ -124,6 +124,22 @@ fn handlers_answer(rt: HostRuntime) -> Result<(), Fail> {
         rows: &queue,
     };
     assert!(&rt; matches!(with_table(alloc, queue)?, Ok(9)));
+    // A Suppressor's port that is turned off, and one that it does not have.
+    let suppressor: [Row<'_>; 5] = [
+        Row::Write(b"s.active1", b"false", Wanted::Done),
+        Row::Arrive(b"b"),
+        Row::Read(b"d.count", b"", Wanted::Value(b"0")),
+        Row::Read(b"s.active1", b"", Wanted::Value(b"false")),
+        Row::Write(b"s.active2", b"true", OUT_OF_RANGE),
+    ];
+    let text =
+        b"FromDevice(a) -> s :: Suppressor -> c :: Counter -> Discard; FromDevice(b) -> [1] s [1] -> d :: Counter -> Discard;";
+    let suppressor = Asks {
+        alloc,
+        text,
+        rows: &suppressor,
+    };
+    assert!(&rt; matches!(with_table(alloc, suppressor)?, Ok(5)));
     // The longest prefix of an address, with its gateway.
     let lookup: [Row<'_>; 4] = [
         Row::Read(b"rt.lookup", b"10.1.2.3", Wanted::Value(b"2 10.9.9.9")),
