@@ -1,14 +1,21 @@
 #!/usr/bin/env bash
-# Counts the instructions of a read of a Counter's count by a router's step, in routers of 3 and of 4,095 elements, in Rattle and in plain Rust (plain.rs),
-# and compares what both print. Needs rt, rustc and valgrind. It is no part of the gate.
+# Counts the instructions of a read of a Counter's count, in Rattle and in plain Rust (router.rs), and compares what both write: by a router's step (read.rs),
+# in routers of 3 and of 4,095 elements; and as a line of a control session (session.rs). Then those of long sessions beside sessions of half the length.
+# Needs rt, rustc and valgrind. It is no part of the gate.
 set -eu
 here="$(cd "$(dirname "$0")" && pwd)"
 work="$(mktemp -d)"
 trap 'rm -rf "$work"' EXIT
 
-bench="$here/../../crates/click_bench"
-(cd "$bench" && rt run > "$work/log" 2>&1) || { tail -20 "$work/log"; exit 1; }
-rustc --edition 2024 -C opt-level=3 -C codegen-units=1 -C target-cpu=x86-64-v2 -o "$work/plain" "$here/plain.rs"
+crates="$here/../../crates"
+for name in click_bench click_prog; do
+    (cd "$crates/$name" && rt run > "$work/log" 2>&1) || { tail -20 "$work/log"; exit 1; }
+done
+for name in read session; do
+    rustc --edition 2024 -C opt-level=3 -C codegen-units=1 -C target-cpu=x86-64-v2 -o "$work/$name" "$here/$name.rs"
+done
+ours=("$crates/click_prog/out/click_prog" -e 'Idle -> c :: Counter -> Discard;')
+plain=("$work/session")
 times=1024
 
 instructions() { # program and arguments; what it prints goes to "$work/printed"
@@ -24,11 +31,57 @@ each() { # program and the number of elements
     echo "$(((many - few) / times))"
 }
 
+# The same of a session's lines.
+each_line() { # program and its arguments
+    local few many
+    few="$(instructions "$@" < "$work/few")"
+    many="$(instructions "$@" < "$work/many")"
+    echo "$(((many - few) / times))"
+}
+
+same() { # what is compared
+    cmp -s "$work/answer" "$work/printed" || { echo "$1: the answers differ" >&2; exit 1; }
+}
+
 echo 'instructions a read: elements, ours, plain Rust'
 for elements in 3 4095; do
-    ours="$(each "$bench/out/click_bench" "$elements")"
+    first="$(each "$crates/click_bench/out/click_bench" "$elements")"
     cp "$work/printed" "$work/answer"
-    plain="$(each "$work/plain" "$elements")"
-    cmp -s "$work/answer" "$work/printed" || { echo 'the answers differ' >&2; exit 1; }
-    echo "$elements $ours $plain"
+    second="$(each "$work/read" "$elements")"
+    same "$elements"
+    echo "$elements $first $second"
+done
+
+for count in $times $((2 * times)); do
+    for _ in $(seq "$count"); do echo 'READ c.count'; done > "$work/lines"
+    if [ "$count" = "$times" ]; then mv "$work/lines" "$work/few"; else mv "$work/lines" "$work/many"; fi
+done
+echo 'instructions a READ of a session: ours, plain Rust'
+first="$(each_line "${ours[@]}")"
+cp "$work/printed" "$work/answer"
+second="$(each_line "${plain[@]}")"
+same session
+echo "$first $second"
+
+# A payload, a line, and many short lines, each beside twice as much.
+payload() { # bytes
+    echo "WRITEDATA c.reset_counts $1"
+    head -c "$1" /dev/zero | tr '\0' x
+}
+line() { # bytes
+    printf 'WRITE c.reset_counts '
+    head -c "$1" /dev/zero | tr '\0' x
+    echo
+}
+short() { # lines
+    yes QUI | head -n "$1"
+}
+echo 'instructions of a session: what, how much, these, beside half as much'
+for what in 'payload 524288' 'line 32000' 'short 50000'; do
+    set -- $what
+    "$1" "$2" > "$work/few"
+    "$1" "$((2 * $2))" > "$work/many"
+    half="$(instructions "${ours[@]}" < "$work/few")"
+    whole="$(instructions "${ours[@]}" < "$work/many")"
+    echo "$1 $((2 * $2)) $whole $(awk "BEGIN { printf \"%.2f\", $whole / $half }")"
 done

@@ -1,4 +1,4 @@
-//! The same reads in plain Rust, as its own authors would write them: names and rows in hash maps, boxed closures, replies that hold a value or a packet.
+//! A router's handlers in plain Rust, as its own authors would write them: names and rows in hash maps, boxed closures, replies that hold a value or a packet.
 
 use std::collections::HashMap;
 
@@ -26,18 +26,18 @@ struct Element {
 }
 
 #[allow(dead_code)]
-struct Packet {
+pub struct Packet {
     len: usize,
     bytes: [u8; ROOM],
 }
 
 #[allow(dead_code)]
-enum Fault {
+pub enum Fault {
     BadAddress,
 }
 
 #[allow(dead_code)]
-enum Refusal {
+pub enum Refusal {
     NoElement,
     NoHandler,
     WrongWay,
@@ -45,7 +45,7 @@ enum Refusal {
 }
 
 #[allow(dead_code)]
-enum Reply {
+pub enum Reply {
     Value(Vec<u8>),
     Done,
     Refused(Refusal),
@@ -56,7 +56,7 @@ enum Reply {
 }
 
 #[allow(dead_code)]
-enum Call {
+pub enum Call {
     Read { name: Vec<u8>, text: Vec<u8> },
     Write { name: Vec<u8>, text: Vec<u8> },
     Arrive { device: Vec<u8>, packet: Packet },
@@ -74,7 +74,7 @@ struct Table {
     writes: [Rows; 4],
 }
 
-struct Router {
+pub struct Router {
     names: HashMap<Vec<u8>, usize>,
     elements: Vec<Element>,
     table: Table,
@@ -117,7 +117,7 @@ fn table() -> Table {
 }
 
 impl Router {
-    fn open(elements: usize) -> Router {
+    pub fn open(elements: usize) -> Router {
         let mut router = Router {
             names: HashMap::new(),
             elements: Vec::new(),
@@ -166,29 +166,11 @@ impl Router {
         }
     }
 
-    fn step(&mut self, call: &Call) -> Reply {
+    pub fn step(&mut self, call: &Call) -> Reply {
         match call {
             Call::Read { name, text } => self.read(name, text),
             Call::Write { .. } | Call::Arrive { .. } => Reply::NoDevice,
             Call::Round => Reply::Worked(0),
         }
     }
-}
-
-fn main() {
-    let words: Vec<String> = std::env::args().collect();
-    let elements = words[2].parse().unwrap_or(0);
-    let times: usize = words[3].parse().unwrap_or(0);
-    let mut router = Router::open(elements);
-    let call = Call::Read {
-        name: b"c.count".to_vec(),
-        text: Vec::new(),
-    };
-    let mut bytes: usize = 0;
-    for _ in 0..times {
-        if let Reply::Value(value) = std::hint::black_box(&mut router).step(std::hint::black_box(&call)) {
-            bytes += std::hint::black_box(&value).len();
-        }
-    }
-    println!("{bytes}");
 }
