@@ -76,6 +76,16 @@ pub(crate) fn push_along(wires: &Wires, work: &mut Work, sender: &mut Sender)
     sender.count = 0;
 }
 
+/// The same, as a call: what a step needs stays in registers, whatever its caller keeps there.
+#[inline(never)]
+pub(crate) fn push_slot(wires: &Wires, work: &mut Work, sender: &mut Sender)
+    ensures along { Along (wiring_of wires.now) (world_of work.old) (world_of work.new) sender.old.at sender.old.first sender.old.count sender.old.packet
+        sender.new.at sender.new.first sender.new.count sender.new.packet }
+    ensures ends { (sender.new.count ≡ 0) ⊎ (1 < sender.new.count) }
+{
+    push_along(wires, work, sender);
+}
+
 /// Pulls over the connection at an input. Where it is answered, `packet` is the answer.
 #[inline(always)]
 pub(crate) fn pull_over(

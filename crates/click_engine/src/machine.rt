@@ -2,7 +2,7 @@
 ghost use Rattle.std.specs.Prelude.{◌≡◌, ℕ, ◌+◌, ◌-◌, ◌<◌, ◌≤◌, ◌^◌, List, [], ◌∷◌, ◌++◌, length};
 
 use crate::copies::serve_above;
-use crate::hops::{Reply, pull_over, push_along, push_over};
+use crate::hops::{Reply, pull_over, push_over, push_slot};
 use crate::slots::{copy_up, make_above, tries};
 use crate::wires::Wires;
 use crate::world::Work;
@@ -198,19 +198,9 @@ impl Machine {
         self.answered
     }
 
-    /// Pushes on where a push is on top, as far as no copy has several ways to go.
+    /// Pushes on where a push is on top, as far as no copy has several ways to go. It goes into its callers, which know mostly what is on top.
     #[inline(always)]
     pub(crate) fn follow(&mut self, wires: &Wires, work: &mut Work)
-        requires room { length self.old.frames + work.old.left ≤ self.old.room }
-        ensures { Follows (wiring_of wires.now) (world_of work.old) self.old (world_of work.new) self.new }
-    {
-        if self.sending > 0 {
-            self.push_on(wires, work);
-        }
-    }
-
-    #[inline(never)]
-    fn push_on(&mut self, wires: &Wires, work: &mut Work)
         requires room { length self.old.frames + work.old.left ≤ self.old.room }
         ensures { Follows (wiring_of wires.now) (world_of work.old) self.old (world_of work.new) self.new }
     {
@@ -267,7 +257,7 @@ impl Machine {
             return;
         }
         let sender = &mut self.senders[top];
-        push_along(wires, work, sender);
+        push_slot(wires, work, sender);
         if sender.count == 0 {
             self.sending = top;
         }
