@@ -18,6 +18,15 @@ pub struct Reply {
     pub first: u16,
 }
 
+/// No answer, and nobody else to ask.
+pub(crate) const NO_REPLY: Reply = Reply {
+    held: false,
+    at: 0,
+    inputs: 0,
+    count: 0,
+    first: 0,
+};
+
 /// Pushes the packet of `sender` over the connection at an output, and leaves in `sender` what goes on from there.
 #[inline(always)]
 pub(crate) fn push_over(
@@ -97,20 +106,13 @@ pub(crate) fn pull_over(
 ) -> Reply
     ensures { Reached (wiring_of wires.now) (world_of work.old) (world_of work.new) at input packet.new result }
 {
-    let none = Reply {
-        held: false,
-        at: 0,
-        inputs: 0,
-        count: 0,
-        first: 0,
-    };
     if work.left == 0 {
         work.overrun();
-        return none;
+        return NO_REPLY;
     }
     work.spend();
     let Some(far) = wires.source(at, input) else {
-        return none;
+        return NO_REPLY;
     };
     let held = work.take_stored(far.element, packet);
     if held {
