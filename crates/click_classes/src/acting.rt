@@ -387,6 +387,7 @@ impl State {
 
     /// A packet was pulled through an input of an element with so many ports.
     #[tactic(auto, unfolding(crate::specs::Acts::gives))]
+    #[inline(always)]
     pub fn gives(&mut self, inputs: u16, outputs: u16, input: u16, packet: &mut Packet) -> Outcome
         ensures { gives inputs outputs self.old input packet.old
             ≡ record { state = self.new; packet = packet.new; copies = result.copies; answers = result.answers } }

@@ -1,6 +1,5 @@
 -- The plant that a net and first states begin.
-use Rattle.std.proofs.Common.{◌≡◌, ◌≢◌, ◌⊎◌, inl, inr, ℕ, zero, suc, ◌+◌, refl, sym, ap, ◌∙◌, arith, List, [], ◌∷◌, Bool, true, false, cond, position, Option, Some, None}
-use Rattle.std.specs.Prelude.{if◌then◌else◌}
+use Rattle.std.proofs.Common.{◌≡◌, ◌≢◌, ◌⊎◌, inl, inr, ℕ, ◌+◌, refl, sym, ap, ◌∙◌, List, [], ◌∷◌, Bool, true, false, cond, position, Option, Some}
 use Rattle.std.specs.List.{position_from}
 use Rattle.std.specs.Str.{bytes_eq}
 use Rattle.std.proofs.lemmas.Iterator.Adapters.{position_from-zero}
@@ -12,7 +11,7 @@ use Rattle.click_ports.specs.declared.shape.Shape.{Shape}
 use Rattle.click_engine.specs.declared.world.Element.{Element}
 use Rattle.click_engine.specs.declared.devices.Way.{Way}
 use Rattle.click_engine.specs.declared.devices.Way.TheVariants as way
-use Rattle.click_engine.specs.Devices.{Device, device_of, without, first_with, devices_from, element_with}
+use Rattle.click_engine.specs.Devices.{Device, without, devices_from, element_with}
 use Rattle.click_engine.specs.Plant.{Plant, IsStarted}
 use Rattle.click_engine.specs.Rounds.{source_of, sink_of}
 use Rattle.click_engine.specs.Tasks.{AreTasks, over, task, idle}

@@ -1,12 +1,12 @@
 -- A push that has as many crossings left as it costs has no overrun.
-use Rattle.std.proofs.Common.{◌≡◌, ℕ, zero, suc, ◌+◌, ◌-◌, ◌<◌, ◌≤◌, refl, sym, ap, ◌∙◌, List, get_or, Option, Some, None, arith}
+use Rattle.std.proofs.Common.{◌≡◌, ℕ, zero, suc, ◌+◌, ◌<◌, ◌≤◌, refl, ap, ◌∙◌, List, get_or, Option, Some, None, arith}
 use Rattle.click_packet.specs.Packet.{Packet}
 use Rattle.click_engine.specs.declared.world.Element.{Element}
 use Rattle.click_engine.specs.declared.world.Port.{Port}
 use Rattle.click_engine.specs.Costs.{crossing_cost, outputs_cost, IsCost}
 use Rattle.click_engine.specs.Keeps.{fixed}
-use Rattle.click_engine.specs.Plant.{Plant, most_crossings, wiring, begin, end}
-use Rattle.click_engine.specs.Rounds.{arrive, emitted, source_of}
+use Rattle.click_engine.specs.Plant.{Plant, most_crossings, wiring, begin}
+use Rattle.click_engine.specs.Rounds.{arrive, source_of}
 use Rattle.click_engine.specs.Run.{push, sent}
 use Rattle.click_engine.specs.World.{Wiring, World, element_at, with_state, acted_at, spent, blank}
 use Rattle.click_engine.proofs.Keeping.{Anywhere, SameFixed, fixed-relates, whole}

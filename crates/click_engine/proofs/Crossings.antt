@@ -10,7 +10,7 @@ use Rattle.click_engine.specs.Run.{push, sent, Pulled, nothing, Answers}
 use Rattle.click_engine.specs.kept.Hops.{with_left, Along, Pushed, Reached}
 use Rattle.click_engine.specs.kept.Tables.{far_of}
 use Rattle.click_engine.specs.declared.hops.Reply.{Reply}
-use Rattle.click_engine.proofs.Steps.{push-none, push-unconnected, push-made, pull-none, pull-unconnected, pull-asks, pull-held, stored-no, spread-suc, spread-zero}
+use Rattle.click_engine.proofs.Steps.{push-none, push-unconnected, push-made, pull-none, pull-unconnected, pull-asks, pull-held, stored-no, spread-zero}
 use Rattle.click_engine.proofs.Past.{acts_past}
 
 pub answers_whole : (r : Pulled) (w : World) (got : Bool) (p : Packet) → Answers r w got p → ◌≡◌ {A = Pulled} (record { world = w; packet = if got then Some p else None }) r
@@ -130,13 +130,35 @@ stored-left (Some s) at w v p held h = ap (λ (u : World). u.left) h.2
 pub acts_left : (w v : World) (at input : ℕ) (p q : Packet) (to : PortRange) → Acts w v at input p q to → (n : ℕ) → Acts (with_left w n) (with_left v n) at input p q to
 acts_left w v at input p q to a n = record { world = ap (λ u. with_left u n) a.world; packet = a.packet; outputs = a.outputs }
 
+-- a packet that was pushed on is pushed on by one step more
+pub along_next : (net : Wiring) (w v u : World) (at first count : ℕ) (p : Packet) (far next : ℕ) (q : Packet) (to output still : ℕ) (r : Packet)
+    → Along net w v at first count p far next 1 q → Pushed net v u far next q to output still r → Along net w u at first count p to output still r
+along_next net w v u at first count p far next q to output zero r over step = record {
+  made = step.made ∙ over.made;
+  fewer = omega (arith, over.fewer, step.fewer);
+  falls = omega (arith, over.falls, step.fewer);
+  more = λ h e. absurd (omega arith);
+}
+along_next net w v u at first count p far next q to output (suc still) r over step =
+    let spends : u.left < v.left = step.spends (omega arith) in
+    record {
+      made = step.made ∙ over.made;
+      fewer = omega (arith, over.fewer, spends);
+      falls = omega (arith, over.falls, spends, step.few);
+      more = λ h e. omega (arith, over.falls, over.fewer, spends, step.few, e);
+    }
+
+pub along_one : (net : Wiring) (w v u : World) (at first count : ℕ) (p : Packet) (far next : ℕ) (q : Packet) (to output still : ℕ) (r : Packet)
+    → Along net w v at first count p far next 1 q → Pushed net v u far next q to output still r → still ≡ 1 → Along net w u at first count p to output 1 r
+along_one net w v u at first count p far next q to output still r over step one = rw one at (along_next net w v u at first count p far next q to output still r over step)
+
 -- a packet that was pushed on finds no crossing left
-pub along_lost : (net : Wiring) (w v u : World) (at first count : ℕ) (p : Packet) (far next still : ℕ) (q : Packet) → Along net w v at first count p far next still q
-    → still ≡ 1 → v.left ≡ 0 → u ≡ overrun v → Along net w u at first count p far next 0 q
-along_lost net w v u at first count p far next still q over one none lost =
+pub along_lost : (net : Wiring) (w v u : World) (at first count : ℕ) (p : Packet) (far next : ℕ) (q : Packet) (to output : ℕ) → Along net w v at first count p far next 1 q
+    → v.left ≡ 0 → u ≡ overrun v → Along net w u at first count p to output 0 q
+along_lost net w v u at first count p far next q to output over none lost =
     let left = ap (λ (x : World). x.left) lost in
     record {
-      made = lost ∙ sym (push-none net v far next v.left q (inr none)) ∙ sym (spread-suc (λ x o. push net v.left x far o q) still 0 next v one) ∙ over.made;
+      made = lost ∙ sym (push-none net v far next v.left q (inr none)) ∙ over.made;
       fewer = omega (arith, over.fewer, left);
       falls = omega (arith, over.falls, left);
       more = λ h e. absurd (omega arith);

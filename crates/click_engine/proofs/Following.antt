@@ -4,7 +4,7 @@ use Rattle.std.proofs.lemmas.List.{take-set}
 use Rattle.click_packet.specs.Packet.{Packet}
 use Rattle.click_engine.specs.World.{Wiring, World}
 use Rattle.click_engine.specs.Run.{push}
-use Rattle.click_engine.specs.Frames.{Frame, Sends, Machine, Follows, finish, resume, to_do, sends_first}
+use Rattle.click_engine.specs.Frames.{Frame, Machine, Follows, finish, to_do}
 use Rattle.click_engine.specs.kept.Hops.{Along}
 use Rattle.click_engine.specs.kept.Slots.{sends_of, frames_of, last_of}
 use Rattle.click_engine.specs.declared.machine.Sender.{Sender}

@@ -1,10 +1,10 @@
 -- A packet that is pushed at several outputs, from the slot on top by the one above it.
-use Rattle.std.proofs.Common.{◌≡◌, ℕ, zero, suc, ◌+◌, ◌*◌, ◌-◌, ◌<◌, ◌≤◌, ◌⊎◌, inl, inr, refl, sym, ap, ◌∙◌, Bool, if◌then◌else◌, Option, Some, None, List, [], ◌∷◌, ◌++◌, length, take, set, get_or, arith}
+use Rattle.std.proofs.Common.{◌≡◌, ℕ, zero, suc, ◌+◌, ◌-◌, ◌<◌, ◌≤◌, ◌⊎◌, inl, inr, refl, sym, ap, ◌∙◌, Bool, if◌then◌else◌, Some, None, List, [], ◌∷◌, ◌++◌, length, take, set, get_or, arith}
 use Rattle.std.proofs.lemmas.List.{take-set, take-take, take-append-le, get_or-set_same, get_or_default, get_or-take, get_or_append_left, length-set, length-append, get_or-append-add}
 use Rattle.click_packet.specs.Packet.{Packet}
 use Rattle.click_engine.specs.World.{Wiring, World}
 use Rattle.click_engine.specs.Run.{push, sent, Pulled}
-use Rattle.click_engine.specs.Frames.{Frame, Sends, Machine, Follows, finish, resume, to_do}
+use Rattle.click_engine.specs.Frames.{Frame, Machine, Follows, finish}
 use Rattle.click_engine.specs.kept.Hops.{Along, Served}
 use Rattle.click_engine.specs.kept.Slots.{sends_of, frames_of, last_of, ServedAbove}
 use Rattle.click_engine.specs.declared.machine.Sender.{Sender}

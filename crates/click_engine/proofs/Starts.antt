@@ -1,5 +1,5 @@
 -- The first frame of a run, and what the whole run made.
-use Rattle.std.proofs.Common.{◌≡◌, ℕ, ◌<◌, ◌≤◌, refl, sym, ap, ◌∙◌, Bool, true, false, if◌then◌else◌, Option, MatchOption, Some, None, IfSome, List, [], ◌∷◌, ◌++◌, length, take, set, get_or, arith}
+use Rattle.std.proofs.Common.{◌≡◌, ℕ, ◌<◌, ◌≤◌, refl, sym, ap, ◌∙◌, Bool, true, false, if◌then◌else◌, Option, MatchOption, Some, None, IfSome, List, [], ◌∷◌, length, take, set, get_or, arith}
 use Rattle.click_packet.specs.Packet.{Packet}
 use Rattle.click_classes.specs.Acts.{Stored}
 use Rattle.click_engine.specs.World.{Wiring, World}
@@ -8,26 +8,26 @@ use Rattle.click_engine.specs.Frames.{Sends, Pulls, Asks, Machine, IsTurn, Follo
 use Rattle.click_engine.specs.kept.Slots.{frames_of, last_of}
 use Rattle.click_engine.specs.declared.machine.Sender.{Sender}
 use Rattle.click_engine.specs.declared.machine.Ask.{Ask}
-use Rattle.click_engine.specs.declared.machine.Ask.TheVariants.{Tries}
 use Rattle.click_engine.specs.declared.hops.Reply.{Reply}
 use Rattle.click_engine.specs.kept.Hops.{Reached}
+use Rattle.click_engine.proofs.Serving.{follows_on}
 use Rattle.click_engine.proofs.Turns.{machine, left_with, pulls_ended, pulls_asks}
 use Rattle.click_engine.proofs.Slack.{push-slack}
 use Rattle.click_engine.proofs.Slot_lists.{no_asks, no_senders, one_send, some_packet, last-none}
 
-last_set : (xs : List Sender) (s : Sender) (b : Bool) → 0 < length xs → last_of b (set xs 0 s) ≡ (if b then Some s.packet else None)
+pub last_set : (xs : List Sender) (s : Sender) (b : Bool) → 0 < length xs → last_of b (set xs 0 s) ≡ (if b then Some s.packet else None)
 last_set [] s b l = absurd (omega (arith, l))
 last_set (x ∷ xs) s b l = refl
 
-of_turn : (net : Wiring) (w v : World) (a b : Machine) → IsTurn net w a v b → Follows net w a v b
+pub of_turn : (net : Wiring) (w v : World) (a b : Machine) → IsTurn net w a v b → Follows net w a v b
 of_turn net w v a b t = record { keeps = t.keeps; fewer = t.fewer; room = t.room; fits = t.fits; falls = omega (arith, t.falls) }
 
 module _ (old : Machine) (d : ℕ) (xs : List Sender) (ys : List Ask) (got : Bool) (r : ℕ)
     (view : machine (frames_of (take d xs) ys) (last_of got xs) r ≡ old) (done : old.frames ≡ []) where
-  empty : frames_of (take d xs) ys ≡ []
+  pub empty : frames_of (take d xs) ys ≡ []
   empty = ap (λ (m : Machine). m.frames) view ∙ done
 
-  same_room : r ≡ old.room
+  pub same_room : r ≡ old.room
   same_room = ap (λ (m : Machine). m.room) view
 
   pub started_push : 0 < length xs → (s : Sender) (at : ℕ) (p : Packet) → s.at ≡ at → s.first ≡ 0 → s.count ≡ 1 → s.packet ≡ p
@@ -59,14 +59,14 @@ module _ (old : Machine) (d : ℕ) (xs : List Sender) (ys : List Ask) (got : Boo
         → Follows net w (machine (Pulls at 0 ∷ []) None old.room) v (machine (frames_of (take d (set xs 0 s)) ys) (last_of rep.held (set xs 0 s)) r)
     pulled_ended none = rw (held inside first s rep.held) (of_turn net w v _ _ (pulls_ended net w v [] old.room s.packet rep None at 0 over none (omega (arith, fits))))
 
-    pub pulled_asks : (zs : List Ask) (x : Ask) → zs ≡ ys ++ x ∷ [] → x ≡ Tries rep.at rep.inputs rep.count rep.first 0 → 0 < rep.count
-        → Follows net w (machine (Pulls at 0 ∷ []) None old.room) v (machine (frames_of (take d (set xs 0 s)) zs) (last_of rep.held (set xs 0 s)) r)
-    pulled_asks zs x e f more =
-        let none = no_asks (take d xs) ys empty in
-        let zero = no_senders d xs ys inside empty in
-        let frames : frames_of (take d (set xs 0 s)) zs ≡ Asks rep.at rep.inputs rep.count rep.first 0 ∷ [] = rw (e, none, zero, f) refl in
-        let last : last_of rep.held (set xs 0 s) ≡ None = ap (λ b. last_of b (set xs 0 s)) (over.alone more) ∙ last-none (set xs 0 s) in
-        rw (frames, last, same_room) (of_turn net w v _ _ (pulls_asks net w v [] old.room s.packet rep None at 0 0 over more (omega (arith, fits))))
+    -- the inputs of the element that it led to are asked at once
+    pub pulled_further : (u : World) (new : Machine) → 0 < rep.count → Follows net v (machine (Asks rep.at rep.inputs rep.count rep.first 0 ∷ []) None r) u new
+        → Follows net w (machine (Pulls at 0 ∷ []) None old.room) u new
+    pulled_further u new more later =
+        follows_on net w v u _ _ _ (of_turn net w v _ _ (pulls_asks net w v [] old.room s.packet rep None at 0 0 over more (omega (arith, fits)))) (rw same_room at later)
+
+  pub still_done : d ≤ length xs → (s : Sender) → frames_of (take d (set xs 0 s)) ys ≡ []
+  still_done inside s = rw (no_asks (take d xs) ys empty, no_senders d xs ys inside empty) refl
 
 -- what a source gave is the answer
 pub taken : (b : Bool) (q : Packet) (m : Machine) (room : ℕ) → m ≡ machine [] (if b then Some q else None) room → (w v : World) (X : Stored → Type 0) (o : Option Stored)

@@ -1,4 +1,5 @@
 -- What the code keeps on its way; no public contract cites it.
+pub mod Asked
 pub mod Hops
 pub mod Slots
 pub mod Tables

@@ -18,39 +18,14 @@ pub struct Reply {
     pub first: u16,
 }
 
-/// Outputs of an element that are to get a packet.
-#[derive(Clone, Copy)]
-pub struct Outputs {
-    pub at: usize,
-    pub first: usize,
-    pub count: usize,
-    ghost small: { first + count < 2 ^ 32 },
-}
-
-/// Pushes a packet over the connection at an output, and tells which outputs are to get it then. The crossings left are those of `left`.
-#[inline(always)]
-fn cross(
-    wires: &Wires,
-    work: &mut Work,
-    left: &mut usize,
-    at: usize,
-    output: usize,
-    packet: &mut Packet,
-) -> Outputs
-    requires { 0 < left.old }
-    ensures pushed { Pushed (wiring_of wires.now) (with_left (world_of work.old) left.old) (with_left (world_of work.new) left.new) at output packet.old
-        result.at result.first result.count packet.new }
-    ensures spent { left.new < left.old }
-{
-    *left -= 1;
-    let far = wires.target(at, output);
-    let outputs = work.act(far.element, far.port, packet);
-    Outputs {
-        at: far.element,
-        first: outputs.first as usize,
-        count: outputs.count as usize,
-    }
-}
+/// No answer, and nobody else to ask.
+pub(crate) const NO_REPLY: Reply = Reply {
+    held: false,
+    at: 0,
+    inputs: 0,
+    count: 0,
+    first: 0,
+};
 
 /// Pushes the packet of `sender` over the connection at an output, and leaves in `sender` what goes on from there.
 #[inline(always)]
@@ -68,39 +43,56 @@ pub(crate) fn push_over(
         sender.count = 0;
         return;
     }
-    let mut left = work.left;
-    let to = cross(wires, work, &mut left, at, output, &mut sender.packet);
-    work.left = left;
-    sender.at = to.at;
-    sender.first = to.first;
-    sender.count = to.count;
+    work.spend();
+    let far = wires.target(at, output);
+    let outputs = work.act(far.element, far.port, &mut sender.packet);
+    sender.at = far.element;
+    sender.first = outputs.first as usize;
+    sender.count = outputs.count as usize;
 }
 
-/// Pushes the packet of `sender` on while just one output is to get it. The place and the crossings left stay in locals, so that a step costs what its
-/// element does.
+/// Pushes the packet of `sender` on while just one output is to get it. The crossings left stay in a local, and where the next step leads is looked up at
+/// the end of this one: most classes have one output, so that from there on nothing is to be tested.
 #[inline(always)]
 pub(crate) fn push_along(wires: &Wires, work: &mut Work, sender: &mut Sender)
     ensures along { Along (wiring_of wires.now) (world_of work.old) (world_of work.new) sender.old.at sender.old.first sender.old.count sender.old.packet
         sender.new.at sender.new.first sender.new.count sender.new.packet }
     ensures ends { (sender.new.count ≡ 0) ⊎ (1 < sender.new.count) }
 {
-    let mut to = Outputs {
-        at: sender.at,
-        first: sender.first,
-        count: sender.count,
-    };
+    if sender.count != 1 {
+        return;
+    }
+    let mut at = sender.at;
+    let mut output = sender.first;
+    let mut far = wires.target(at, output);
     let mut left = work.left;
-    while to.count == 1 && left > 0 {
-        to = cross(wires, work, &mut left, to.at, to.first, &mut sender.packet);
+    while left > 0 {
+        left -= 1;
+        let outputs = work.act(far.element, far.port, &mut sender.packet);
+        at = far.element;
+        output = outputs.first as usize;
+        if outputs.count != 1 {
+            work.left = left;
+            sender.at = at;
+            sender.first = output;
+            sender.count = outputs.count as usize;
+            return;
+        }
+        far = wires.target(at, output);
     }
     work.left = left;
-    if to.count == 1 {
-        work.overrun();
-        to.count = 0;
-    }
-    sender.at = to.at;
-    sender.first = to.first;
-    sender.count = to.count;
+    work.overrun();
+    sender.count = 0;
+}
+
+/// The same, as a call: what a step needs stays in registers, whatever its caller keeps there.
+#[inline(never)]
+pub(crate) fn push_slot(wires: &Wires, work: &mut Work, sender: &mut Sender)
+    ensures along { Along (wiring_of wires.now) (world_of work.old) (world_of work.new) sender.old.at sender.old.first sender.old.count sender.old.packet
+        sender.new.at sender.new.first sender.new.count sender.new.packet }
+    ensures ends { (sender.new.count ≡ 0) ⊎ (1 < sender.new.count) }
+{
+    push_along(wires, work, sender);
 }
 
 /// Pulls over the connection at an input. Where it is answered, `packet` is the answer.
@@ -114,20 +106,13 @@ pub(crate) fn pull_over(
 ) -> Reply
     ensures { Reached (wiring_of wires.now) (world_of work.old) (world_of work.new) at input packet.new result }
 {
-    let none = Reply {
-        held: false,
-        at: 0,
-        inputs: 0,
-        count: 0,
-        first: 0,
-    };
     if work.left == 0 {
         work.overrun();
-        return none;
+        return NO_REPLY;
     }
     work.spend();
     let Some(far) = wires.source(at, input) else {
-        return none;
+        return NO_REPLY;
     };
     let held = work.take_stored(far.element, packet);
     if held {

@@ -1,6 +1,7 @@
 //! The push and pull engine: packets go from element to element over a reserved stack (TOCS 2000, "Packet transfer").
 #![tactic(auto)]
 
+mod asking;
 mod copies;
 mod device_names;
 mod devices;

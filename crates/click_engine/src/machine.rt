@@ -1,8 +1,9 @@
 //! The pushes and pulls of a run that are under way: frames whose slots are written in place.
 ghost use Rattle.std.specs.Prelude.{◌≡◌, ℕ, ◌+◌, ◌-◌, ◌<◌, ◌≤◌, ◌^◌, List, [], ◌∷◌, ◌++◌, length};
 
+use crate::asking::{Asking, ask_along, waits};
 use crate::copies::serve_above;
-use crate::hops::{Reply, pull_over, push_along, push_over};
+use crate::hops::{Reply, pull_over, push_over, push_slot};
 use crate::slots::{copy_up, make_above, tries};
 use crate::wires::Wires;
 use crate::world::Work;
@@ -69,7 +70,7 @@ impl Model for Machine {
 
 impl Machine {
     ghost use Rattle.std.specs.Prelude.{◌≡◌, ℕ, ◌+◌, ◌-◌, ◌<◌, ◌≤◌, ◌^◌, List, [], ◌∷◌, ◌++◌, length, IfOk, IfSome, IsSome, IsTrue, ◌↔◌, None, Some, true, false};
-    ghost use Rattle.click_engine.specs.Frames.{Frame, Sends, Pulls, IsTurn, Follows, sends_first};
+    ghost use Rattle.click_engine.specs.Frames.{Frame, Sends, Pulls, Asks, IsTurn, Follows, sends_first};
     ghost use Rattle.click_engine.specs.Wires.{world_of, wiring_of};
     ghost use Rattle.click_engine.specs.World.{element_at, with_state};
     ghost use Rattle.click_classes.specs.Acts.{emission};
@@ -168,7 +169,7 @@ impl Machine {
         self.answered = false;
     }
 
-    /// Begins with a pull at input 0 of an element, whose first turn is made at once: mostly a queue is there, and nothing is left to do.
+    /// Begins with a pull at input 0 of an element, and asks at once what that leads to: mostly a queue is there, and nothing is left to do.
     #[inline(always)]
     pub(crate) fn start_pull(&mut self, wires: &Wires, work: &mut Work, at: usize)
         requires done { self.old.frames ≡ [] }
@@ -178,9 +179,45 @@ impl Machine {
     {
         let sender = &mut self.senders[0];
         let reply = pull_over(wires, work, at, 0, &mut sender.packet);
-        self.answered = reply.held;
-        if reply.count > 0 {
-            let _made = self.asks.push(tries(reply));
+        if reply.count == 0 {
+            self.answered = reply.held;
+            return;
+        }
+        self.ask_on(wires, work, reply);
+    }
+
+    /// Asks the inputs of an element that a pull led to. Only an element further on that asks inputs of its own takes frames.
+    #[inline(always)]
+    fn ask_on(&mut self, wires: &Wires, work: &mut Work, reply: Reply)
+        requires done { self.old.frames ≡ [] }
+        requires room { work.old.left < self.old.room }
+        ensures { Follows (wiring_of wires.now) (world_of work.old)
+            (record { frames = Asks reply.at reply.inputs reply.count reply.first 0 ∷ []; last = None; room = self.old.room }) (world_of work.new) self.new }
+    {
+        let mut asking = Asking {
+            at: reply.at,
+            inputs: reply.inputs,
+            count: reply.count,
+            input: reply.first,
+            back: 0,
+        };
+        let sender = &mut self.senders[0];
+        let further = ask_along(wires, work, &mut asking, &mut sender.packet);
+        if further.held {
+            let given = work.gives(asking.at, asking.back, &mut sender.packet);
+            self.answered = given.answers;
+            if given.copies.count > 0 {
+                sender.at = asking.at;
+                sender.first = given.copies.first as usize;
+                sender.count = given.copies.count as usize;
+                self.sending = 1;
+            }
+            return;
+        }
+        self.answered = false;
+        if further.count > 0 {
+            let _waiting = self.asks.push(waits(asking));
+            let _made = self.asks.push(tries(further));
         }
     }
 
@@ -198,19 +235,9 @@ impl Machine {
         self.answered
     }
 
-    /// Pushes on where a push is on top, as far as no copy has several ways to go.
+    /// Pushes on where a push is on top, as far as no copy has several ways to go. It goes into its callers, which know mostly what is on top.
     #[inline(always)]
     pub(crate) fn follow(&mut self, wires: &Wires, work: &mut Work)
-        requires room { length self.old.frames + work.old.left ≤ self.old.room }
-        ensures { Follows (wiring_of wires.now) (world_of work.old) self.old (world_of work.new) self.new }
-    {
-        if self.sending > 0 {
-            self.push_on(wires, work);
-        }
-    }
-
-    #[inline(never)]
-    fn push_on(&mut self, wires: &Wires, work: &mut Work)
         requires room { length self.old.frames + work.old.left ≤ self.old.room }
         ensures { Follows (wiring_of wires.now) (world_of work.old) self.old (world_of work.new) self.new }
     {
@@ -267,7 +294,7 @@ impl Machine {
             return;
         }
         let sender = &mut self.senders[top];
-        push_along(wires, work, sender);
+        push_slot(wires, work, sender);
         if sender.count == 0 {
             self.sending = top;
         }

@@ -120,6 +120,7 @@ impl Work {
         }
     }
 
+    #[inline(always)]
     pub(crate) fn gives(&mut self, at: usize, input: u16, packet: &mut Packet) -> Outcome
         ensures { GivesOut (world_of self.old) (world_of self.new) at input packet.old packet.new result.copies result.answers }
     {

@@ -1,4 +1,3 @@
-use Rattle.std.proofs.Common.{◌+◌, ◌<◌}
 use Rattle.click_engine.specs.Wires.{world_of, wiring_of}
 use Rattle.click_engine.specs.kept.Hops.{Served}
 use Rattle.click_engine.proofs.copies.push_copies.Given as goal

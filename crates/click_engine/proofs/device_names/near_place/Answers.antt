@@ -1,4 +1,4 @@
-use Rattle.std.proofs.Common.{◌≡◌, ap, ◌∙◌, sym, true, false, rules}
+use Rattle.std.proofs.Common.{◌≡◌, true, false, rules}
 use Rattle.std.specs.Str.{bytes_eq}
 use Rattle.click_engine.specs.kept.Tables.{texts}
 use Rattle.click_engine.proofs.Near_names.{found_first, found_here, found_later}

@@ -1,16 +1,20 @@
-use Rattle.std.proofs.Common.{◌≡◌, inl, refl, arith}
-use Rattle.click_engine.proofs.Crossings.{along_lost, not_one}
-use Rattle.click_engine.proofs.hops.push_along.Goals.{then-to-eq1, else-to-eq1, then-loop-to-test+else-left-gt0, else-loop-to-test}
+use Rattle.std.proofs.Common.{refl, arith}
+use Rattle.click_engine.proofs.Crossings.{acts_left, along_lost, along_next, along_one, pushed_on}
 use Rattle.click_engine.proofs.hops.push_along.Goals as goal
 
-pub returns : goal.returns
-returns c =
-    elim c.if-to-eq1.branch [
-      | then-to-eq1 w ↦
-          let none : c.loop-to.left ≡ 0 = elim c.loop-to-test.branch [
-            | then-loop-to-test+else-left-gt0 u ↦ omega (arith, u.if-left-gt0.false)
-            | else-loop-to-test u ↦ absurd (omega (arith, u.loop-to-test.false, w.if-to-eq1.true))
-          ] in
-          rw (w.work-is, w.to-is) (record { along = along_lost _ _ _ _ _ _ _ _ _ _ _ _ c.loop-to.invariant.along w.if-to-eq1.true none w.overrun.ensures; ends = inl refl })
-      | else-to-eq1 w ↦ rw (w.work-is, w.to-is) (record { along = c.loop-to.invariant.along; ends = not_one c.loop-to.to.1.1.0 w.if-to-eq1.false })
-    ]
+pub returns-then-outputs-ne1-clause-along : goal.returns-then-outputs-ne1-clause-along
+returns-then-outputs-ne1-clause-along c =
+    along_next _ _ _ _ _ _ _ _ _ _ _ _ _ _ _ c.loop-left.invariant.along
+    (pushed_on _ _ _ _ _ _ _ _ _ c.act-outputs.result (omega (arith, c.loop-left-test.true)) c.loop-left.invariant.joined (omega arith) refl (acts_left _ _ _ _ _ _ _ c.act-outputs.ensures _) (omega arith))
+
+pub loop-left-preserved : goal.loop-left-preserved
+loop-left-preserved c = record {
+  along =
+      along_one _ _ _ _ _ _ _ _ _ _ _ _ _ _ _ c.loop-left.invariant.along
+      (pushed_on _ _ _ _ _ _ _ _ _ c.act-outputs.result (omega (arith, c.loop-left-test.true)) c.loop-left.invariant.joined (omega arith) refl (acts_left _ _ _ _ _ _ _ c.act-outputs.ensures _) (omega arith))
+      (omega (arith, c.if-outputs-ne1.false));
+  joined = c.target-far-in-loop-left.ensures;
+}
+
+pub returns-clause-along : goal.returns-clause-along
+returns-clause-along c = along_lost _ _ _ _ _ _ _ _ _ _ _ _ _ c.loop-left.invariant.along (omega (arith, c.loop-left-test.false)) c.overrun.ensures

@@ -1,4 +1,3 @@
-use Rattle.click_engine.specs.declared.devices.Way.TheVariants as way
 use Rattle.click_engine.proofs.Beginnings.{enters_first, leaves_first}
 use Rattle.click_engine.proofs.laws.devices_are_first.Goals as goal
 
