@@ -1,4 +1,5 @@
 pub mod Going
+pub mod Saying
 pub mod Sessions
 pub mod Streams
 pub mod Words

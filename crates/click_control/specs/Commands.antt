@@ -76,19 +76,23 @@ data_said w handler count (b ∷ third) = whole command.Syntax
 
 -- what a line says, whose first word is this, and which goes on so; case does not matter in that word
 abbrev pub said_by : List ℕ → List ℕ → Said
-said_by [] rest = blank
-said_by (b ∷ word) rest =
-    if str_eq_ignore_ascii_case (b ∷ word) (codes "READ") then text_said way.Read (first_word rest) (trimmed (after_word rest))
-    else if str_eq_ignore_ascii_case (b ∷ word) (codes "WRITE") then text_said way.Write (first_word rest) (trimmed (after_word rest))
-    else if str_eq_ignore_ascii_case (b ∷ word) (codes "READDATA") then data_said way.Read (first_word rest) (second_word rest) (third_word rest)
-    else if str_eq_ignore_ascii_case (b ∷ word) (codes "WRITEDATA") then data_said way.Write (first_word rest) (second_word rest) (third_word rest)
-    else if str_eq_ignore_ascii_case (b ∷ word) (codes "CHECKREAD") then check_said way.Read (first_word rest) (second_word rest)
-    else if str_eq_ignore_ascii_case (b ∷ word) (codes "CHECKWRITE") then check_said way.Write (first_word rest) (second_word rest)
-    else if str_eq_ignore_ascii_case (b ∷ word) (codes "QUIT") then whole command.Quit
-    else whole (command.Unknown (b ∷ word))
+said_by word rest =
+    if str_eq_ignore_ascii_case word (codes "READ") then text_said way.Read (first_word rest) (trimmed (after_word rest))
+    else if str_eq_ignore_ascii_case word (codes "WRITE") then text_said way.Write (first_word rest) (trimmed (after_word rest))
+    else if str_eq_ignore_ascii_case word (codes "READDATA") then data_said way.Read (first_word rest) (second_word rest) (third_word rest)
+    else if str_eq_ignore_ascii_case word (codes "WRITEDATA") then data_said way.Write (first_word rest) (second_word rest) (third_word rest)
+    else if str_eq_ignore_ascii_case word (codes "CHECKREAD") then check_said way.Read (first_word rest) (second_word rest)
+    else if str_eq_ignore_ascii_case word (codes "CHECKWRITE") then check_said way.Write (first_word rest) (second_word rest)
+    else if str_eq_ignore_ascii_case word (codes "QUIT") then whole command.Quit
+    else whole (command.Unknown word)
+
+-- a line without a word is blank
+abbrev pub said_unless_blank : List ℕ → List ℕ → Said
+said_unless_blank [] rest = blank
+said_unless_blank (b ∷ word) rest = said_by (b ∷ word) rest
 
 abbrev pub said_of : List ℕ → Said
-said_of line = said_by (first_word line) (after_word line)
+said_of line = said_unless_blank (first_word line) (after_word line)
 
 -- ---- the commands of a stream
 

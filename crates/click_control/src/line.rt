@@ -1,8 +1,8 @@
 //! The first line of some bytes, with the payload that it announces.
 
 ghost use Rattle.std.specs.Prelude.{◌≡◌, ◌<◌, ◌≤◌, ℕ, List, length, take, true, slice_index, IfOk, MatchOption};
-ghost use Rattle.click_control.specs.Commands.{is_end};
-ghost use Rattle.click_control.specs.kept.Lines.{HasNoEnd, IsFound};
+ghost use Rattle.click_control.specs.Commands.{is_end, said_of, announces};
+ghost use Rattle.click_control.specs.kept.Lines.{HasNoEnd, IsEnded, IsFound, end_length};
 
 use crate::command::Command;
 use crate::said::{Said, said_of, text_command};
@@ -38,7 +38,7 @@ pub fn first_line(alloc: Global, bytes: &[u8], searched: usize) -> Result<Found,
     ensures { IfOk result (λ found. IsFound bytes.now found) }
 {
     match line_len(bytes, searched) {
-        Some(length) if length <= LONGEST_LINE => ended_line(alloc, bytes, length),
+        Some(len) if len <= LONGEST_LINE => ended_line(alloc, bytes, len),
         None if bytes.len() <= LONGEST_LINE => Ok(Found::Partial {
             searched: bytes.len(),
             wanted: 0,
@@ -52,19 +52,22 @@ pub fn first_line(alloc: Global, bytes: &[u8], searched: usize) -> Result<Found,
 }
 
 /// The same, where the first line has so many bytes before its end.
-fn ended_line(alloc: Global, bytes: &[u8], length: usize) -> Result<Found, AllocError> {
-    let last = bytes[length];
-    match said_of(alloc, &bytes[..length])? {
+fn ended_line(alloc: Global, bytes: &[u8], len: usize) -> Result<Found, AllocError>
+    requires { IsEnded bytes.now len }
+    ensures { IfOk result (λ found. IsFound bytes.now found) }
+{
+    let last = bytes[len];
+    match said_of(alloc, &bytes[..len])? {
         Said::Blank => Ok(Found::Taken {
             command: None,
-            length: length + 1,
+            length: len + 1,
             start: after_end(last),
         }),
         Said::Whole(command) => {
             let start = start_after(&command, last);
             Ok(Found::Taken {
                 command: Some(command),
-                length: length + 1,
+                length: len + 1,
                 start,
             })
         }
@@ -72,7 +75,7 @@ fn ended_line(alloc: Global, bytes: &[u8], length: usize) -> Result<Found, Alloc
             way,
             handler,
             count,
-        } => payload(alloc, bytes, length, way, handler, count),
+        } => payload(alloc, bytes, len, way, handler, count),
     }
 }
 
@@ -80,16 +83,22 @@ fn ended_line(alloc: Global, bytes: &[u8], length: usize) -> Result<Found, Alloc
 fn payload(
     alloc: Global,
     bytes: &[u8],
-    length: usize,
+    len: usize,
     way: Way,
     handler: Sequence<u8>,
     count: usize,
-) -> Result<Found, AllocError> {
-    let begin = length + end_len(&bytes[length..]);
+) -> Result<Found, AllocError>
+    requires ended { IsEnded bytes.now len }
+    requires says { announces way handler count ≡ said_of (take len bytes.now) }
+    requires some { 0 < count }
+    requires small { count ≤ 1048576 }
+    ensures { IfOk result (λ found. IsFound bytes.now found) }
+{
+    let begin = len + end_len(&bytes[len..]);
     let wanted = begin + count;
     if bytes.len() < wanted {
         return Ok(Found::Partial {
-            searched: length,
+            searched: len,
             wanted,
         });
     }
@@ -102,7 +111,9 @@ fn payload(
 }
 
 /// How many of these bytes are the end of a line, the first of them at least: an LF after a CR belongs to the same end.
-fn end_len(bytes: &[u8]) -> usize {
+fn end_len(bytes: &[u8]) -> usize
+    ensures { result ≡ end_length bytes.now }
+{
     if bytes.len() > 1 && bytes[0] == b'\r' && bytes[1] == b'\n' {
         2
     } else {

@@ -1,11 +1,11 @@
 //! What a line says.
 
-ghost use Rattle.std.specs.Prelude.{◌≡◌, ◌≤◌, length, not, IfOk};
+ghost use Rattle.std.specs.Prelude.{◌≡◌, ◌≤◌, length, not, IfOk, Some};
 ghost use Rattle.std.specs.List.{prefix_len};
 ghost use Rattle.std.specs.Str.{str_eq_ignore_ascii_case};
-ghost use Rattle.click_handlers.specs.Blanks.{is_blank};
-ghost use Rattle.click_control.specs.Commands.{first_word, after_word, second_word, third_word, said_of, text_said, check_said, data_said, text_command, check_command};
-ghost use Rattle.click_control.specs.kept.Lines.{says};
+ghost use Rattle.click_handlers.specs.Blanks.{is_blank, trimmed};
+ghost use Rattle.click_control.specs.Commands.{first_word, after_word, second_word, third_word, said_of, text_said, check_said, data_said, announced, text_command, check_command};
+ghost use Rattle.click_control.specs.kept.Lines.{says, uncounted};
 
 use crate::command::Command;
 use crate::way::Way;
@@ -98,13 +98,30 @@ fn data_said(alloc: Global, way: Way, rest: &[u8]) -> Result<Said, AllocError>
     }
     match decimal_number(count, 0, LONGEST_PAYLOAD) {
         Ok(count) => announced(alloc, way, handler, count as usize),
-        Err(ArgFault::OutOfRange) => Ok(Said::Whole(Command::DataTooLong)),
-        Err(_) => Ok(Said::Whole(Command::Syntax)),
+        Err(fault) => Ok(Said::Whole(uncounted(fault))),
+    }
+}
+
+/// What a line is whose payload has no length.
+fn uncounted(fault: ArgFault) -> Command
+    ensures { result ≡ uncounted fault }
+{
+    match fault {
+        ArgFault::OutOfRange => Command::DataTooLong,
+        ArgFault::NoMemory
+        | ArgFault::ArgumentCount
+        | ArgFault::BadNumber
+        | ArgFault::BadText
+        | ArgFault::BadAddress
+        | ArgFault::BadEntry => Command::Syntax,
     }
 }
 
 /// A payload of so many bytes; of none, the command is whole.
-fn announced(alloc: Global, way: Way, handler: &[u8], count: usize) -> Result<Said, AllocError> {
+fn announced(alloc: Global, way: Way, handler: &[u8], count: usize) -> Result<Said, AllocError>
+    requires { count ≤ 1048576 }
+    ensures { IfOk result (λ said. says said ≡ announced way handler.now (Some count)) }
+{
     let handler = copy(alloc, handler)?;
     if count == 0 {
         let command = text_command(way, handler, Sequence::new(alloc));

@@ -1,6 +1,9 @@
 -- How a session takes its bytes line by line.
-use Rattle.std.specs.Prelude.{◌≡◌, ℕ, ◌+◌, ◌≤◌, ◌<◌, List, [], ◌∷◌, ◌++◌, length, take, drop, true, false, Option, Some, None}
+use Rattle.std.specs.Prelude.{◌≡◌, ℕ, ◌+◌, ◌≤◌, ◌<◌, List, [], ◌∷◌, ◌++◌, length, take, drop, true, false, nat_eq, slice_index, ◌&&◌, Option, Some, None, if◌then◌else◌}
+use Rattle.click_classes.specs.declared.fault.ArgFault.{ArgFault}
+use Rattle.click_classes.specs.declared.fault.ArgFault.TheVariants as fault
 use Rattle.click_control.specs.declared.command.Command.{Command}
+use Rattle.click_control.specs.declared.command.Command.TheVariants as command
 use Rattle.click_control.specs.declared.start.Start.{Start}
 use Rattle.click_control.specs.declared.start.Start.TheVariants as start
 use Rattle.click_control.specs.declared.session.Line.{Line}
@@ -8,7 +11,7 @@ use Rattle.click_control.specs.declared.session.Line.TheVariants as line
 use Rattle.click_control.specs.declared.said.Said.TheVariants as said
 use Rattle.click_control.specs.declared.line.Found.{Found}
 use Rattle.click_control.specs.declared.line.Found.TheVariants as found
-use Rattle.click_control.specs.Commands.{Reading, in_line, after_return, over, Said, blank, whole, announces, is_end, is_last, commands_from}
+use Rattle.click_control.specs.Commands.{Reading, in_line, after_return, over, Said, blank, whole, announces, is_end, is_last, longest_line, commands_from}
 use Rattle.click_control.specs.Taking.{Pending, to_come, Gives, GivesOne}
 
 -- no byte of these ends a line
@@ -25,6 +28,22 @@ abbrev pub says : Rattle.click_control.specs.declared.said.Said.Said → Said
 says said.Blank = blank
 says (said.Whole c) = whole c
 says (said.Announces w handler n) = announces w handler n
+
+-- the command of a line whose payload has no length, or one that is too long
+abbrev pub uncounted : ArgFault → Command
+uncounted fault.NoMemory = command.Syntax
+uncounted fault.ArgumentCount = command.Syntax
+uncounted fault.BadNumber = command.Syntax
+uncounted fault.BadText = command.Syntax
+uncounted fault.OutOfRange = command.DataTooLong
+uncounted fault.BadAddress = command.Syntax
+uncounted fault.BadEntry = command.Syntax
+
+-- how many bytes the end of a line has that begins these bytes
+abbrev pub end_length : List ℕ → ℕ
+end_length [] = 1
+end_length (e ∷ []) = 1
+end_length (e ∷ b ∷ bs) = if nat_eq e 13 && nat_eq b 10 then 2 else 1
 
 -- With fewer bytes in all than are wanted, no command is whole.
 abbrev pub Waits : Reading → List ℕ → ℕ → Type 0
@@ -46,6 +65,13 @@ pub record IsTaken (bytes : List ℕ) (c : Option Command) (n : ℕ) (r : Readin
   pub within : n ≤ length bytes
   pub gives : (more : List ℕ) → commands_from (in_line []) (bytes ++ more) ≡ optional c ++ commands_from r (drop n bytes ++ more)
   pub last : (d : Command) → c ≡ Some d → is_last d ≡ true → r ≡ over
+
+-- So many bytes are a line, and the byte after them is its end.
+pub record IsEnded (bytes : List ℕ) (n : ℕ) : Type 0 where
+  pub within : n < length bytes
+  pub short : n ≤ longest_line
+  pub no_end : HasNoEnd (take n bytes)
+  pub end : is_end (slice_index bytes n) ≡ true
 
 -- No command is whole, and none is with fewer bytes than are wanted.
 pub record IsPartial (bytes : List ℕ) (searched wanted : ℕ) : Type 0 where

@@ -3,7 +3,7 @@ use Rattle.click_control.proofs.serving.answer_whole.Goals as goal
 
 pub returns-in-Err-clause-goes : goal.returns-in-Err-clause-goes
 returns-in-Err-clause-goes g c = λ first had left held reads h.
-    Serves-no_memory g.P.Port.asks first _ had left held _ _ reads (c.loop-command.invariant first had left held reads h)
+    Serves-no_memory g.P.Port.asks c.args.readonly first _ had left held _ _ reads (c.loop-command.invariant first had left held reads h)
 
 pub returns-in-Ok-Some-clause-goes : goal.returns-in-Ok-Some-clause-goes
 returns-in-Ok-Some-clause-goes g c = λ first had left held reads h.
