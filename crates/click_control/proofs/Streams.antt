@@ -152,14 +152,16 @@ HasNoEnd-all bytes h = subst HasNoEnd (take_all (length bytes) bytes (omega arit
 
 -- ---- a session that takes a piece
 
+fed_from : (r : Reading) (bytes piece more : List ℕ)
+    → to_come (fed (record { from = r; bytes = bytes }) piece) more ≡ commands_from r (bytes ++ (piece ++ more))
+fed_from (in_line line) bytes piece more = ap (λ l. commands_from (in_line line) l) (append_assoc bytes piece more)
+fed_from after_return bytes piece more = ap (λ l. commands_from after_return l) (append_assoc bytes piece more)
+fed_from (before_payload w handler n) bytes piece more = ap (λ l. commands_from (before_payload w handler n) l) (append_assoc bytes piece more)
+fed_from (in_payload w handler n came) bytes piece more = ap (λ l. commands_from (in_payload w handler n came) l) (append_assoc bytes piece more)
+fed_from over bytes piece more = commands_from-over (bytes ++ more) ∙ sym (commands_from-over (bytes ++ (piece ++ more)))
+
 pub to_come-fed : (s : Pending) (piece more : List ℕ) → to_come (fed s piece) more ≡ to_come s (piece ++ more)
-to_come-fed (record { from = in_line line; bytes = bytes }) piece more = ap (λ l. commands_from (in_line line) l) (append_assoc bytes piece more)
-to_come-fed (record { from = after_return; bytes = bytes }) piece more = ap (λ l. commands_from after_return l) (append_assoc bytes piece more)
-to_come-fed (record { from = before_payload w handler n; bytes = bytes }) piece more =
-    ap (λ l. commands_from (before_payload w handler n) l) (append_assoc bytes piece more)
-to_come-fed (record { from = in_payload w handler n came; bytes = bytes }) piece more =
-    ap (λ l. commands_from (in_payload w handler n came) l) (append_assoc bytes piece more)
-to_come-fed (record { from = over; bytes = bytes }) piece more = commands_from-over (bytes ++ more) ∙ sym (commands_from-over (bytes ++ piece ++ more))
+to_come-fed s piece more = fed_from s.from s.bytes piece more
 
 -- ---- a payload
 

@@ -1,8 +1,11 @@
 //! The first line of some bytes, with the payload that it announces.
 
-ghost use Rattle.std.specs.Prelude.{◌≡◌, ◌<◌, ◌≤◌, ℕ, List, length, take, true, slice_index, IfOk, MatchOption};
+ghost use Rattle.std.specs.Prelude.{◌≡◌, ◌<◌, ◌≤◌, ℕ, List, length, take, true, slice_index, IfOk, MatchOption, Some};
 ghost use Rattle.click_control.specs.Commands.{is_end, said_of, announces};
 ghost use Rattle.click_control.specs.kept.Lines.{HasNoEnd, IsEnded, IsFound, end_length};
+ghost use Rattle.click_control.specs.declared.command.Command.TheVariants as command;
+ghost use Rattle.click_control.specs.declared.start.Start.TheVariants as start;
+ghost use Rattle.click_control.specs.declared.line.Found.TheVariants as found;
 
 use crate::command::Command;
 use crate::said::{Said, said_of, text_command};
@@ -38,16 +41,24 @@ pub fn first_line(alloc: Global, bytes: &[u8], searched: usize) -> Result<Found,
     ensures { IfOk result (λ found. IsFound bytes.now found) }
 {
     match line_len(bytes, searched) {
-        Some(len) if len <= LONGEST_LINE => ended_line(alloc, bytes, len),
-        None if bytes.len() <= LONGEST_LINE => Ok(Found::Partial {
+        None if bytes.len() > LONGEST_LINE => Ok(too_long(bytes)),
+        None => Ok(Found::Partial {
             searched: bytes.len(),
             wanted: 0,
         }),
-        Some(_) | None => Ok(Found::Taken {
-            command: Some(Command::LineTooLong),
-            length: bytes.len(),
-            start: Start::Over,
-        }),
+        Some(len) if len > LONGEST_LINE => Ok(too_long(bytes)),
+        Some(len) => ended_line(alloc, bytes, len),
+    }
+}
+
+/// The same, where the first line is too long.
+fn too_long(bytes: &[u8]) -> Found
+    ensures { result ≡ found.Taken (Some command.LineTooLong) (length bytes.now) start.Over }
+{
+    Found::Taken {
+        command: Some(Command::LineTooLong),
+        length: bytes.len(),
+        start: Start::Over,
     }
 }
 
