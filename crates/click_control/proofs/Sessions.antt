@@ -1,6 +1,7 @@
 -- Lemmas on the lines that a session takes.
 use Rattle.std.proofs.Common.{◌≡◌, ℕ, ◌+◌, ◌≤◌, ◌<◌, List, [], ◌∷◌, ◌++◌, Bool, true, false, length, get_or, take, drop, ◌-◌, Option, Some, None, refl, sym, ap, ◌∙◌, subst, append_assoc, append-nil, drop-drop, length-drop, length-append, take_all, arith}
-use Rattle.std.proofs.lemmas.List.{take_rest, drop_more}
+use Rattle.std.specs.Prelude.{if◌then◌else◌}
+use Rattle.std.proofs.lemmas.List.{take_rest, drop_more, drop-append-le, take-append-le}
 use Rattle.click_control.specs.declared.way.Way.{Way}
 use Rattle.click_control.specs.declared.way.Way.TheVariants as way
 use Rattle.click_control.specs.declared.command.Command.{Command}
@@ -172,4 +173,35 @@ gives_command items start at n len c r old view skips taken = record {
   gives = gives_taken items start at n len (Some c) r old view skips taken;
   fewer = taken_fewer items start at n len (Some c) r old view taken;
   last = λ h more. ap (λ q. commands_from q (drop (at + n + len) items ++ more)) (taken.last c refl h) ∙ commands_from-over (drop (at + n + len) items ++ more);
+}
+
+-- ---- where a session stands in its buffer
+
+waits_more : (r : Reading) (bytes piece : List ℕ) (wanted : ℕ) → Waits r bytes wanted → Waits r (bytes ++ piece) wanted
+waits_more r bytes piece wanted waits more few =
+    ap (λ l. commands_from r l) (append_assoc bytes piece more)
+    ∙ waits (piece ++ more) (omega (arith, few, length-append bytes piece, length-append piece more))
+
+placed_more : (at searched wanted : ℕ) (r : Reading) (items piece : List ℕ) → IsPlaced at searched wanted r items → IsPlaced at searched wanted r (items ++ piece)
+placed_more at searched wanted r items piece placed =
+    let rest : drop at (items ++ piece) ≡ drop at items ++ piece = drop-append-le at items piece (omega (arith, placed.within)) in
+    record {
+      within = omega (arith, placed.within, length-append items piece);
+      no_end = rw (rest, take-append-le searched (drop at items) piece (omega (arith, placed.within, length-drop at items))) placed.no_end;
+      waits = rw rest (waits_more r (drop at items) piece wanted placed.waits);
+    }
+
+-- a piece was taken in, or memory ran out
+pub placed_fed : (taken : Bool) (at searched wanted : ℕ) (r : Reading) (items piece next : List ℕ) → next ≡ (if taken then items ++ piece else items)
+    → IsPlaced at searched wanted r items → IsPlaced at searched wanted r next
+placed_fed true at searched wanted r items piece next is placed = rw is (placed_more at searched wanted r items piece placed)
+placed_fed false at searched wanted r items piece next is placed = rw is placed
+
+-- the bytes before the place are dropped
+pub placed_front : (at searched wanted : ℕ) (r : Reading) (items next : List ℕ) → next ≡ drop at items → IsPlaced at searched wanted r items
+    → IsPlaced 0 searched wanted r next
+placed_front at searched wanted r items next is placed = rw is record {
+  within = omega (arith, placed.within, length-drop at items);
+  no_end = placed.no_end;
+  waits = placed.waits;
 }
