@@ -16,7 +16,6 @@ use crate::session::Session;
 use click_router::Call;
 use click_text::sequence::Sequence;
 use std::alloc::{AllocError, Global};
-use std::mem;
 use thiserror::Error;
 
 /// How a session ends.
@@ -135,7 +134,7 @@ fn take_up<W: Sink, P: Port>(
     writer: &mut W,
     port: &mut P,
     readonly: bool,
-    mut command: Command,
+    command: Command,
 ) -> Result<Option<Ended>, ServeFault>
     ensures { (first : P) (had left : Input) (held : Output) (old new : Pending) (reads : ℕ)
         → SoFar P.asks readonly first port.old had left held (W.output writer.old) old reads
@@ -143,7 +142,7 @@ fn take_up<W: Sink, P: Port>(
         → Goes P.asks readonly first port.new had left held (W.output writer.new) new reads result }
 {
     let ending = ending_of(&command);
-    let Ok(call) = call_of(alloc, readonly, &mut command) else {
+    let Ok((call, command)) = call_of(alloc, readonly, command) else {
         return Err(ServeFault::NoMemory);
     };
     let answer = ask(alloc, port, call);
@@ -151,32 +150,54 @@ fn take_up<W: Sink, P: Port>(
     Ok(ending)
 }
 
-/// The call that a command makes. The command's text goes into the call: no reply needs it.
-fn call_of(alloc: Global, readonly: bool, command: &mut Command) -> Result<Option<Call>, AllocError>
-    ensures call { IfOk result (λ call. call ≡ call_of readonly command.old) }
-    ensures replies { (answer : Answer) → text_of command.new answer ≡ text_of command.old answer }
+/// The call that a command makes, and the command for its reply: the text goes into the call, since no reply needs it.
+fn call_of(
+    alloc: Global,
+    readonly: bool,
+    command: Command,
+) -> Result<(Option<Call>, Command), AllocError>
+    ensures call { IfOk result (λ parts. parts.0 ≡ call_of readonly command) }
+    ensures replies { IfOk result (λ parts. (answer : Answer) → text_of parts.1 answer ≡ text_of command answer) }
 {
     match command {
-        Command::Write { .. } | Command::CheckWrite { .. } if readonly => Ok(None),
-        Command::Read { handler, text } => Ok(Some(Call::Read {
-            name: copy(alloc, handler)?,
-            text: mem::replace(text, Sequence::new(alloc)),
-        })),
-        Command::Write { handler, text } => Ok(Some(Call::Write {
-            name: copy(alloc, handler)?,
-            text: mem::replace(text, Sequence::new(alloc)),
-        })),
-        Command::CheckRead { handler } => Ok(Some(Call::CheckRead {
-            name: copy(alloc, handler)?,
-        })),
-        Command::CheckWrite { handler } => Ok(Some(Call::CheckWrite {
-            name: copy(alloc, handler)?,
-        })),
+        Command::Write { .. } | Command::CheckWrite { .. } if readonly => Ok((None, command)),
+        Command::Read { handler, text } => {
+            let name = copy(alloc, &handler)?;
+            let text_left = Sequence::new(alloc);
+            let command = Command::Read {
+                handler,
+                text: text_left,
+            };
+            Ok((Some(Call::Read { name, text }), command))
+        }
+        Command::Write { handler, text } => {
+            let name = copy(alloc, &handler)?;
+            let text_left = Sequence::new(alloc);
+            let command = Command::Write {
+                handler,
+                text: text_left,
+            };
+            Ok((Some(Call::Write { name, text }), command))
+        }
+        Command::CheckRead { handler } => {
+            let name = copy(alloc, &handler)?;
+            Ok((
+                Some(Call::CheckRead { name }),
+                Command::CheckRead { handler },
+            ))
+        }
+        Command::CheckWrite { handler } => {
+            let name = copy(alloc, &handler)?;
+            Ok((
+                Some(Call::CheckWrite { name }),
+                Command::CheckWrite { handler },
+            ))
+        }
         Command::Quit
         | Command::Syntax
         | Command::LineTooLong
         | Command::DataTooLong
-        | Command::Unknown { .. } => Ok(None),
+        | Command::Unknown { .. } => Ok((None, command)),
     }
 }
 
