@@ -13,11 +13,11 @@ use Rattle.click_control.specs.declared.serving.Ended.{Ended}
 use Rattle.click_control.specs.declared.serving.Ended.TheVariants as ended
 use Rattle.click_control.specs.declared.serving.ServeFault.{ServeFault}
 use Rattle.click_control.specs.declared.serving.ServeFault.TheVariants as fault
-use Rattle.click_control.specs.Commands.{commands, commands_from, in_line, after_return, before_payload, in_payload, over, is_last}
-use Rattle.click_control.specs.Taking.{Pending, fresh, fed, to_come, Gives, GivesOne}
+use Rattle.click_control.specs.Commands.{commands, in_line, is_last}
+use Rattle.click_control.specs.Taking.{Pending, fresh, to_come, Gives, GivesOne}
 use Rattle.click_control.specs.Peers.{Input, Output, HasRead, HasWritten}
 use Rattle.click_control.specs.ReplyText.{greeting, text_of}
-use Rattle.click_control.specs.Serving.{Answered, Asked, nothing, then_one, call_of, replies, most_reads, Course, IsWhole, IsFront, EndsWith, EndsTooLong, Ends, Serves}
+use Rattle.click_control.specs.Serving.{Answered, Asked, nothing, then_one, call_of, replies, most_reads, Course, IsWhole, IsFront, EndsWith, Ends, Serves}
 use Rattle.click_control.specs.kept.Going.{Written, TakesIn, ending_of, SoFar, Goes}
 use Rattle.click_control.proofs.Streams.{commands_from-nil, to_come-fed}
 

@@ -1,3 +1,4 @@
+pub mod Following
 pub mod Going
 pub mod Saying
 pub mod Sessions

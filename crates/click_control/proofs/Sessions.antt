@@ -8,9 +8,9 @@ use Rattle.click_control.specs.declared.command.Command.{Command}
 use Rattle.click_control.specs.declared.command.Command.TheVariants as command
 use Rattle.click_control.specs.declared.start.Start.{Start}
 use Rattle.click_control.specs.declared.line.Found.{Found}
-use Rattle.click_control.specs.Commands.{Reading, in_line, over, Said, blank, whole, announces, said_of, is_end, is_last, after_end, after_line, payload_after, text_command, commands_from, longest_line, listed}
+use Rattle.click_control.specs.Commands.{Reading, in_line, over, Said, blank, whole, announces, said_of, is_last, after_end, after_line, text_command, commands_from, longest_line, listed, HasNoEnd}
 use Rattle.click_control.specs.Taking.{Pending, to_come, Gives, GivesOne}
-use Rattle.click_control.specs.kept.Lines.{HasNoEnd, Waits, IsPlaced, IsEnded, IsFound, IsTaken, IsPartial, end_length, optional, reading_of}
+use Rattle.click_control.specs.kept.Lines.{Waits, IsPlaced, IsEnded, IsFound, IsTaken, IsPartial, end_length, optional, reading_of}
 use Rattle.click_control.proofs.Streams.{commands_from-partial, commands_from-over, commands_from-line, payload_after_end, payload_waits}
 
 -- ---- what the first bytes hold

@@ -1,12 +1,12 @@
 -- Lemmas on the commands of a stream.
-use Rattle.std.proofs.Common.{◌≡◌, ℕ, zero, suc, ◌+◌, ◌-◌, ◌<◌, ◌≤◌, List, [], ◌∷◌, ◌++◌, Bool, true, false, ◌&&◌, eqb, length, get_or, take, drop, refl, sym, ap, ◌∙◌, subst, append_assoc, append-nil, take-append-drop, get_or-take, get_or-drop, length-take, length-append, length-take-le, take-take, take_all, eqb-true, inl, inr, arith}
+use Rattle.std.proofs.Common.{◌≡◌, ℕ, zero, suc, ◌+◌, ◌-◌, ◌<◌, ◌≤◌, List, [], ◌∷◌, ◌++◌, true, false, ◌&&◌, eqb, length, get_or, take, drop, refl, sym, ap, ◌∙◌, subst, append_assoc, append-nil, take-append-drop, get_or-take, get_or-drop, length-take, length-append, length-take-le, take-take, take_all, eqb-true, inl, inr, arith}
 use Rattle.std.proofs.lemmas.Bool.{lt-leb, le-leb, ne_eqb, cases_lt, cases_Bool}
 use Rattle.std.proofs.lemmas.List.{drop_more}
 use Rattle.click_control.specs.declared.command.Command.TheVariants as command
-use Rattle.click_control.specs.Commands.{Reading, in_line, after_return, over, completed, after_byte, completed_in, after_byte_in, commands_from, said_of, is_end, listed, after_line, longest_line, Said, text_command, before_payload, in_payload, payload_after, completed_payload, after_payload_byte}
+use Rattle.click_control.specs.Commands.{Reading, in_line, after_return, over, completed, after_byte, completed_in, after_byte_in, commands_from, said_of, is_end, listed, after_line, longest_line, text_command, before_payload, in_payload, payload_after, completed_payload, after_payload_byte, HasNoEnd}
 use Rattle.click_control.specs.Taking.{Pending, to_come, fed}
 use Rattle.click_control.specs.declared.way.Way.{Way}
-use Rattle.click_control.specs.kept.Lines.{HasNoEnd, end_length}
+use Rattle.click_control.specs.kept.Lines.{end_length}
 
 -- where the reading stands after these bytes
 abbrev pub reading_after : Reading → List ℕ → Reading
@@ -64,7 +64,7 @@ commands_from-within line (x ∷ xs) ys h q =
     ∙ commands_from-within (line ++ x ∷ []) xs ys h.1 (omega (arith, length-append line (x ∷ [])))
     ∙ ap (λ l. commands_from (in_line l) ys) (append_assoc line (x ∷ []) xs)
 
-commands_from-end : (line : List ℕ) (e : ℕ) (ys : List ℕ) → is_end e ≡ true → commands_from (in_line line) (e ∷ ys) ≡ listed (said_of line) ++ commands_from (after_line (said_of line) e) ys
+pub commands_from-end : (line : List ℕ) (e : ℕ) (ys : List ℕ) → is_end e ≡ true → commands_from (in_line line) (e ∷ ys) ≡ listed (said_of line) ++ commands_from (after_line (said_of line) e) ys
 unfolding commands_from
 commands_from-end line e ys h = rw h refl
 
@@ -110,11 +110,11 @@ at_front : (bytes : List ℕ) → 0 < length bytes → bytes ≡ get_or bytes 0 
 at_front [] q = absurd (omega arith)
 at_front (b ∷ bytes) q = refl
 
-feed_after_return : (ys : List ℕ) → commands_from after_return (10 ∷ ys) ≡ commands_from (in_line []) ys
+pub feed_after_return : (ys : List ℕ) → commands_from after_return (10 ∷ ys) ≡ commands_from (in_line []) ys
 unfolding commands_from
 feed_after_return ys = refl
 
-other_after_return : (b : ℕ) (ys : List ℕ) → eqb b 10 ≡ false → commands_from after_return (b ∷ ys) ≡ commands_from (in_line []) (b ∷ ys)
+pub other_after_return : (b : ℕ) (ys : List ℕ) → eqb b 10 ≡ false → commands_from after_return (b ∷ ys) ≡ commands_from (in_line []) (b ∷ ys)
 unfolding commands_from
 other_after_return b ys h = rw h refl
 
@@ -185,7 +185,7 @@ unfolding commands_from
 payload_last w handler came x ys = refl
 
 -- all the bytes of a payload
-payload_whole : (w : Way) (handler came xs ys : List ℕ) (n : ℕ) → length xs ≡ n → 0 < n
+pub payload_whole : (w : Way) (handler came xs ys : List ℕ) (n : ℕ) → length xs ≡ n → 0 < n
     → commands_from (in_payload w handler n came) (xs ++ ys) ≡ text_command w handler (came ++ xs) ∷ commands_from (in_line []) ys
 payload_whole w handler came [] ys n e q = absurd (omega (arith, e))
 payload_whole w handler came (x ∷ []) ys n e q =
@@ -211,12 +211,12 @@ payload_part w handler came (x ∷ xs) n q =
 
 -- ---- a payload after the end of its line
 
-feed_before_payload : (w : Way) (handler : List ℕ) (n b : ℕ) (ys : List ℕ) → eqb b 10 ≡ true
+pub feed_before_payload : (w : Way) (handler : List ℕ) (n b : ℕ) (ys : List ℕ) → eqb b 10 ≡ true
     → commands_from (before_payload w handler n) (b ∷ ys) ≡ commands_from (in_payload w handler n []) ys
 unfolding commands_from
 feed_before_payload w handler n b ys h = rw h refl
 
-other_before_payload : (w : Way) (handler : List ℕ) (n b : ℕ) (ys : List ℕ) → eqb b 10 ≡ false
+pub other_before_payload : (w : Way) (handler : List ℕ) (n b : ℕ) (ys : List ℕ) → eqb b 10 ≡ false
     → commands_from (before_payload w handler n) (b ∷ ys) ≡ commands_from (in_payload w handler n []) (b ∷ ys)
 unfolding commands_from
 other_before_payload w handler n b ys h = rw h refl

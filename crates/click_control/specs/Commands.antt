@@ -1,5 +1,5 @@
 -- The commands of a stream of bytes (Click manual, "ControlSocket").
-use Rattle.std.specs.Prelude.{ℕ, zero, suc, ◌-◌, List, [], ◌∷◌, ◌++◌, length, take_while, Bool, true, false, not, ◌||◌, nat_eq, nat_le, Option, Some, None, codes, if◌then◌else◌}
+use Rattle.std.specs.Prelude.{◌≡◌, ◌⊎◌, ℕ, zero, suc, ◌-◌, List, [], ◌∷◌, ◌++◌, length, take_while, Bool, true, false, not, ◌||◌, nat_eq, nat_le, Option, Some, None, codes, if◌then◌else◌}
 use Rattle.std.specs.Str.{str_eq_ignore_ascii_case}
 use Rattle.click_handlers.specs.Blanks.{is_blank, without_front, trimmed}
 use Rattle.click_classes.specs.Values.{digits}
@@ -121,6 +121,11 @@ pub data Reading : Type 0 where
 abbrev pub is_end : ℕ → Bool
 is_end b = nat_eq b 10 || nat_eq b 13
 
+-- no byte of these ends a line
+abbrev pub HasNoEnd : List ℕ → Type 0
+HasNoEnd [] = Unit {0}
+HasNoEnd (b ∷ bs) = (is_end b ≡ false) × HasNoEnd bs
+
 -- the command that is whole at the end of a line that says this
 abbrev pub listed : Said → List Command
 listed blank = []
@@ -181,3 +186,14 @@ commands_from r (b ∷ bs) = completed r b ++ commands_from (after_byte r b) bs
 -- the whole commands of a stream
 abbrev pub commands : List ℕ → List Command
 commands bytes = commands_from (in_line []) bytes
+
+-- ---- the three ends of a line
+
+-- no LF stands in front of these bytes
+abbrev pub BeginsNoFeed : List ℕ → Type 0
+BeginsNoFeed [] = Unit {0}
+BeginsNoFeed (b ∷ bs) = nat_eq b 10 ≡ false
+
+-- a whole end of a line, before these bytes: LF, CR LF, or a CR that no LF follows
+abbrev pub IsEndBefore : List ℕ → List ℕ → Type 0
+IsEndBefore e more = (e ≡ codes "\n") ⊎ (e ≡ codes "\r\n") ⊎ ((e ≡ codes "\r") × BeginsNoFeed more)

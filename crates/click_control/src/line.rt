@@ -1,8 +1,8 @@
 //! The first line of some bytes, with the payload that it announces.
 
 ghost use Rattle.std.specs.Prelude.{◌≡◌, ◌<◌, ◌≤◌, ℕ, List, length, take, true, slice_index, IfOk, MatchOption, Some};
-ghost use Rattle.click_control.specs.Commands.{is_end, said_of, announces};
-ghost use Rattle.click_control.specs.kept.Lines.{HasNoEnd, IsEnded, IsFound, end_length};
+ghost use Rattle.click_control.specs.Commands.{is_end, said_of, announces, HasNoEnd};
+ghost use Rattle.click_control.specs.kept.Lines.{IsEnded, IsFound, end_length};
 ghost use Rattle.click_control.specs.declared.command.Command.TheVariants as command;
 ghost use Rattle.click_control.specs.declared.start.Start.TheVariants as start;
 ghost use Rattle.click_control.specs.declared.line.Found.TheVariants as found;

@@ -1,5 +1,5 @@
 -- How a session takes its bytes line by line.
-use Rattle.std.specs.Prelude.{◌≡◌, ℕ, ◌+◌, ◌≤◌, ◌<◌, List, [], ◌∷◌, ◌++◌, length, take, drop, true, false, nat_eq, slice_index, ◌&&◌, Option, Some, None, if◌then◌else◌}
+use Rattle.std.specs.Prelude.{◌≡◌, ℕ, ◌+◌, ◌≤◌, ◌<◌, List, [], ◌∷◌, ◌++◌, length, take, drop, true, nat_eq, slice_index, ◌&&◌, Option, Some, None, if◌then◌else◌}
 use Rattle.click_classes.specs.declared.fault.ArgFault.{ArgFault}
 use Rattle.click_classes.specs.declared.fault.ArgFault.TheVariants as fault
 use Rattle.click_control.specs.declared.command.Command.{Command}
@@ -11,13 +11,8 @@ use Rattle.click_control.specs.declared.session.Line.TheVariants as line
 use Rattle.click_control.specs.declared.said.Said.TheVariants as said
 use Rattle.click_control.specs.declared.line.Found.{Found}
 use Rattle.click_control.specs.declared.line.Found.TheVariants as found
-use Rattle.click_control.specs.Commands.{Reading, in_line, after_return, over, Said, blank, whole, announces, is_end, is_last, longest_line, commands_from}
+use Rattle.click_control.specs.Commands.{Reading, in_line, after_return, over, Said, blank, whole, announces, HasNoEnd, is_end, is_last, longest_line, commands_from}
 use Rattle.click_control.specs.Taking.{Pending, to_come, Gives, GivesOne}
-
--- no byte of these ends a line
-abbrev pub HasNoEnd : List ℕ → Type 0
-HasNoEnd [] = Unit {0}
-HasNoEnd (b ∷ bs) = (is_end b ≡ false) × HasNoEnd bs
 
 abbrev pub reading_of : Start → Reading
 reading_of start.Line = in_line []

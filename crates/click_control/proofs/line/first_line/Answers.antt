@@ -1,5 +1,5 @@
 use Rattle.std.proofs.Common.{length, take, refl, take_all, arith}
-use Rattle.click_control.specs.kept.Lines.{HasNoEnd}
+use Rattle.click_control.specs.Commands.{HasNoEnd}
 use Rattle.click_control.proofs.Streams.{commands_from-long}
 use Rattle.click_control.proofs.Sessions.{taken_long, partial_line}
 use Rattle.click_control.proofs.line.first_line.Goals as goal

@@ -1,9 +1,8 @@
-use Rattle.std.proofs.Common.{◌≡◌, ℕ, List, length, Result, Ok, Err, arith, rules, refl, sym, ap, ◌∙◌}
+use Rattle.std.proofs.Common.{◌≡◌, ℕ, List, length, Result, rules, refl, sym, ap, ◌∙◌}
 use Rattle.std.proofs.lemmas.Bool.{eqb-true}
 use Rattle.click_control.specs.Commands.{first_word, second_word, third_word, data_said}
 use Rattle.click_classes.specs.Values.{decimal_number}
 use Rattle.click_classes.specs.declared.fault.ArgFault.{ArgFault}
-use Rattle.click_classes.specs.declared.fault.ArgFault.TheVariants as fault
 use Rattle.click_control.specs.declared.way.Way.{Way}
 use Rattle.click_control.proofs.Saying.{announced_by, data_said-two}
 use Rattle.click_control.proofs.said.data_said.Goals as goal

@@ -1,4 +1,4 @@
-use Rattle.std.proofs.Common.{◌≡◌, ◌+◌, Option, Some, None, length, drop, subst}
+use Rattle.std.proofs.Common.{◌+◌, Option, drop, subst}
 use Rattle.click_control.specs.declared.line.Found.TheVariants as found
 use Rattle.click_control.specs.declared.command.Command.{Command}
 use Rattle.click_control.specs.kept.Lines.{IsTaken, reading_of}
