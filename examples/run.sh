@@ -4,6 +4,7 @@
 #
 #   NAME.session     what it reads                NAME.status   its status, where that is not 0
 #   NAME.transcript  what it writes               NAME.fault    what it writes on standard error
+#   NAME.options     further words of its command line, one a line
 set -eu
 . "$(dirname "$(readlink -f "$0")")/../tools/checking.sh"
 is_built "$program"
@@ -18,14 +19,15 @@ present() { if [ -e "$1" ]; then echo "$1"; else echo "$no_bytes"; fi }
 for config in *.click; do
     example=${config%.click} wanted=0
     if [ -e "$example.status" ]; then wanted=$(cat "$example.status"); fi
-    ran "$program" -e "$(cat "$config")" < "$(present "$example.session")"
+    mapfile -t options < "$(present "$example.options")"
+    ran "$program" -e "$(cat "$config")" "${options[@]}" < "$(present "$example.session")"
     same_bytes "$(present "$example.transcript")" "$work/out" "example $example"
     same_bytes "$(present "$example.fault")" "$work/err" "example $example, on standard error"
     same_status "$wanted" "$status" "example $example"
     passed=$((passed + 1))
 done
 # A file that belongs to no example would be read by nothing.
-for file in *.session *.transcript *.status *.fault; do
+for file in *.session *.transcript *.options *.status *.fault; do
     if ! [ -e "${file%.*}.click" ]; then fail "$file stands beside no ${file%.*}.click"; fi
 done
 
@@ -40,10 +42,37 @@ wrong_arguments() {
 wrong_arguments
 wrong_arguments -e
 wrong_arguments -x
+wrong_arguments -e '' --readonly=1
+wrong_arguments -e '' --readonly --readonly
 wrong_arguments --help
 wrong_arguments -e $'\xff'
 printf 'click_prog: an argument is not UTF-8\n' > "$work/wanted"
 same_bytes "$work/wanted" "$work/err" 'an argument that is no text'
+
+# The longest line, and one byte more: `WRITE c.reset_counts ` has 21 bytes.
+counter='Idle -> c :: Counter -> Discard;'
+for rest in 65515 65516; do
+    { printf 'WRITE c.reset_counts '; head -c "$rest" /dev/zero | tr '\0' x; printf '\nQUIT\n'; } > "$work/long"
+    if [ "$rest" = 65515 ]; then
+        printf '%s\r\n' 'Click::ControlSocket/1.3' "200 Write handler 'c.reset_counts' OK" '200 Goodbye!' > "$work/wanted"
+    else
+        printf '%s\r\n' 'Click::ControlSocket/1.3' '500 Line too long' > "$work/wanted"
+    fi
+    ran "$program" -e "$counter" < "$work/long"
+    same_bytes "$work/wanted" "$work/out" "a line with $rest bytes of text"
+    same_status 0 "$status" "a line with $rest bytes of text"
+    passed=$((passed + 1))
+done
+# The longest payload, and the same without its last byte.
+for sent in 1048576 1048575; do
+    { printf 'WRITEDATA c.reset_counts 1048576\r\n'; head -c "$sent" /dev/zero; } > "$work/long"
+    printf '%s\r\n' 'Click::ControlSocket/1.3' > "$work/wanted"
+    if [ "$sent" = 1048576 ]; then printf '%s\r\n' "200 Write handler 'c.reset_counts' OK" >> "$work/wanted"; fi
+    ran "$program" -e "$counter" < "$work/long"
+    same_bytes "$work/wanted" "$work/out" "$sent bytes of a payload"
+    same_status 0 "$status" "$sent bytes of a payload"
+    passed=$((passed + 1))
+done
 
 # A peer that takes nothing more is a failed write; standard input that cannot be read is a failed read, after the greeting.
 status=0

@@ -13,13 +13,13 @@ use Rattle.click_control.specs.declared.serving.Ended.{Ended}
 use Rattle.click_control.specs.declared.serving.Ended.TheVariants as ended
 use Rattle.click_control.specs.declared.serving.ServeFault.{ServeFault}
 use Rattle.click_control.specs.declared.serving.ServeFault.TheVariants as fault
-use Rattle.click_control.specs.Commands.{commands, commands_from, in_line, fresh, Pending, to_come}
+use Rattle.click_control.specs.Commands.{commands, in_line, is_last}
+use Rattle.click_control.specs.Taking.{Pending, fresh, to_come, Gives, GivesOne}
 use Rattle.click_control.specs.Peers.{Input, Output, HasRead, HasWritten}
 use Rattle.click_control.specs.ReplyText.{greeting, text_of}
-use Rattle.click_control.specs.Serving.{Answered, Asked, nothing, then_one, call_of, replies, is_last, most_reads, Course, IsWhole, IsFront, EndsWith, Ends, Serves}
-use Rattle.click_control.specs.kept.Lines.{Yields, YieldsOne}
+use Rattle.click_control.specs.Serving.{Answered, Asked, nothing, then_one, call_of, replies, most_reads, Course, IsWhole, IsFront, EndsWith, Ends, Serves}
 use Rattle.click_control.specs.kept.Going.{Written, TakesIn, ending_of, SoFar, Goes}
-use Rattle.click_control.proofs.Streams.{commands_from-nil}
+use Rattle.click_control.proofs.Streams.{commands_from-nil, to_come-fed}
 
 pub or-false : (b : Bool) → (b || false) ≡ b
 or-false true = refl
@@ -120,13 +120,13 @@ written-part taken c answers a output front len e earlier last is = (
       (sym (replies-more taken answers (a ∷ []) (omega arith)) ∙ ap (λ l. replies l (answers ++ a ∷ [])) (same_front taken earlier c last is))),
 )
 
-module _ {P : Type 0} (asks : P → Call → Result Reply AskFault → P → Type 0) where
-  Asked-length : (p : P) (cs : List Command) (answers : List Answer) (q : P) → Asked asks p cs answers q → length cs ≡ length answers
+module _ {P : Type 0} (asks : P → Call → Result Reply AskFault → P → Type 0) (readonly : Bool) where
+  Asked-length : (p : P) (cs : List Command) (answers : List Answer) (q : P) → Asked asks readonly p cs answers q → length cs ≡ length answers
   Asked-length _ _ _ _ (nothing p) = refl
   Asked-length _ _ _ _ (then_one p mid q cs answers c a before step) =
       omega (arith, Asked-length p cs answers mid before, length-append cs (c ∷ []), length-append answers (a ∷ []))
 
-  whole-push : (p q : P) (taken : List Command) (answers : List Answer) (c : Command) (a : Answer) (output : List ℕ) → Asked asks p taken answers q
+  whole-push : (p q : P) (taken : List Command) (answers : List Answer) (c : Command) (a : Answer) (output : List ℕ) → Asked asks readonly p taken answers q
       → output ≡ greeting ++ replies taken answers → output ++ text_of c a ≡ greeting ++ replies (taken ++ c ∷ []) (answers ++ a ∷ [])
   whole-push p q taken answers c a output h e =
       ap (λ l. l ++ text_of c a) e ∙ append_assoc greeting (replies taken answers) (text_of c a)
@@ -134,15 +134,15 @@ module _ {P : Type 0} (asks : P → Call → Result Reply AskFault → P → Typ
 
   -- the commands that come after a line
   pub SoFar-line : (old now : P) (had left : Input) (held holds : Output) (s t : Pending) (reads : ℕ)
-      → SoFar asks old now had left held holds s reads → Yields s t [] → SoFar asks old now had left held holds t reads
-  SoFar-line old now had left held holds s t reads h yields = record {
+      → SoFar asks readonly old now had left held holds s reads → Gives s t [] → SoFar asks readonly old now had left held holds t reads
+  SoFar-line old now had left held holds s t reads h gives = record {
     input = h.input;
     read = h.read;
     many = h.many;
     within = h.within;
     taken = h.taken;
     goes_on = h.goes_on;
-    spelled = λ more. h.spelled more ∙ ap (λ l. h.taken ++ l) (yields more);
+    spelled = λ more. h.spelled more ∙ ap (λ l. h.taken ++ l) (gives more);
     answers = h.answers;
     asked = h.asked;
     output = h.output;
@@ -152,16 +152,16 @@ module _ {P : Type 0} (asks : P → Call → Result Reply AskFault → P → Typ
 
   -- what was read is the commands taken up and those still to come
   all-read : (old now : P) (had left : Input) (held holds : Output) (s : Pending) (reads : ℕ)
-      → (h : SoFar asks old now had left held holds s reads) → commands h.input ≡ h.taken ++ to_come s []
+      → (h : SoFar asks readonly old now had left held holds s reads) → commands h.input ≡ h.taken ++ to_come s []
   all-read old now had left held holds s reads h = ap commands (sym (append-nil h.input)) ∙ h.spelled []
 
   all-taken : (old now : P) (had left : Input) (held holds : Output) (s : Pending) (reads : ℕ)
-      → (h : SoFar asks old now had left held holds s reads) → to_come s [] ≡ [] → commands h.input ≡ h.taken ++ []
+      → (h : SoFar asks readonly old now had left held holds s reads) → to_come s [] ≡ [] → commands h.input ≡ h.taken ++ []
   all-taken old now had left held holds s reads h none = all-read old now had left held holds s reads h ∙ ap (λ l. h.taken ++ l) none
 
   -- nothing was done, and memory ran out
   pub Serves-no_memory : (old now : P) (had left : Input) (held holds : Output) (s : Pending) (reads : ℕ)
-      → SoFar asks old now had left held holds s reads → Serves asks old now had left held holds (Err fault.NoMemory)
+      → SoFar asks readonly old now had left held holds s reads → Serves asks readonly old now had left held holds (Err fault.NoMemory)
   Serves-no_memory old now had left held holds s reads h = record {
     course = record {
       input = h.input;
@@ -190,7 +190,7 @@ module _ {P : Type 0} (asks : P → Call → Result Reply AskFault → P → Typ
 
   -- a front of a reply was written after all earlier replies
   part-front : (old now : P) (had left : Input) (held holds : Output) (s : Pending) (reads : ℕ) (c : Command) (a : Answer) (more : List Command) (failed : Bool)
-      (front rest : List ℕ) → (h : SoFar asks old now had left held holds s reads) → text_of c a ≡ front ++ rest
+      (front rest : List ℕ) → (h : SoFar asks readonly old now had left held holds s reads) → text_of c a ≡ front ++ rest
       → IsFront (record {
         input = h.input;
         reads = reads;
@@ -211,9 +211,9 @@ module _ {P : Type 0} (asks : P → Call → Result Reply AskFault → P → Typ
 
   -- a reply that was not written in full
   pub Serves-reply : (f : ServeFault) (old now next : P) (had left : Input) (held holds then : Output) (s t : Pending) (reads : ℕ) (c : Command) (a : Answer)
-      → SoFar asks old now had left held holds s reads → YieldsOne s t c → Answered asks now (call_of c) a next
+      → SoFar asks readonly old now had left held holds s reads → GivesOne s t c → Answered asks now (call_of readonly c) a next
       → Written {T = Unit {0}} (Err f) holds then (text_of c a)
-      → Serves asks old next had left held then (Err f)
+      → Serves asks readonly old next had left held then (Err f)
   Serves-reply fault.ReadFailed old now next had left held holds then s t reads c a h one answered w = absurd w
   Serves-reply fault.WriteFailed old now next had left held holds then s t reads c a h one answered w = record {
     course = record {
@@ -228,7 +228,7 @@ module _ {P : Type 0} (asks : P → Call → Result Reply AskFault → P → Typ
     };
     read = h.read;
     within = h.within;
-    spelled = read-push h.taken c (commands h.input) (to_come s []) (to_come t []) (all-read old now had left held holds s reads h) (one.yields []);
+    spelled = read-push h.taken c (commands h.input) (to_come s []) (to_come t []) (all-read old now had left held holds s reads h) (one.gives []);
     asked = then_one old now next h.taken h.answers c a h.asked answered;
     written = HasWritten-trans held holds then h.output w.0 true h.written w.3;
     ends = (part-front old now had left held holds s reads c a (to_come t []) true w.0 w.1 h w.2, refl, refl);
@@ -246,7 +246,7 @@ module _ {P : Type 0} (asks : P → Call → Result Reply AskFault → P → Typ
     };
     read = h.read;
     within = h.within;
-    spelled = read-push h.taken c (commands h.input) (to_come s []) (to_come t []) (all-read old now had left held holds s reads h) (one.yields []);
+    spelled = read-push h.taken c (commands h.input) (to_come s []) (to_come t []) (all-read old now had left held holds s reads h) (one.gives []);
     asked = then_one old now next h.taken h.answers c a h.asked answered;
     written = HasWritten-trans held holds then h.output w.0 false h.written w.3;
     ends = (part-front old now had left held holds s reads c a (to_come t []) false w.0 w.1 h w.2, refl, refl);
@@ -254,9 +254,9 @@ module _ {P : Type 0} (asks : P → Call → Result Reply AskFault → P → Typ
 
   -- a command that does not end the session, answered in full
   SoFar-replied : (old now next : P) (had left : Input) (held holds then : Output) (s t : Pending) (reads : ℕ) (c : Command) (a : Answer)
-      → SoFar asks old now had left held holds s reads → YieldsOne s t c → Answered asks now (call_of c) a next
+      → SoFar asks readonly old now had left held holds s reads → GivesOne s t c → Answered asks now (call_of readonly c) a next
       → HasWritten holds then (text_of c a) false → is_last c ≡ false
-      → SoFar asks old next had left held then t reads
+      → SoFar asks readonly old next had left held then t reads
   SoFar-replied old now next had left held holds then s t reads c a h one answered text on = record {
     input = h.input;
     read = h.read;
@@ -264,7 +264,7 @@ module _ {P : Type 0} (asks : P → Call → Result Reply AskFault → P → Typ
     within = h.within;
     taken = h.taken ++ c ∷ [];
     goes_on = All-push (λ d. is_last d ≡ false) h.taken c h.goes_on on;
-    spelled = λ more. read-push h.taken c (commands (h.input ++ more)) (to_come s more) (to_come t more) (h.spelled more) (one.yields more);
+    spelled = λ more. read-push h.taken c (commands (h.input ++ more)) (to_come s more) (to_come t more) (h.spelled more) (one.gives more);
     answers = h.answers ++ a ∷ [];
     asked = then_one old now next h.taken h.answers c a h.asked answered;
     output = h.output ++ text_of c a;
@@ -274,10 +274,10 @@ module _ {P : Type 0} (asks : P → Call → Result Reply AskFault → P → Typ
 
   -- a command that ends the session, answered in full
   Serves-last : (e : Ended) (old now next : P) (had left : Input) (held holds then : Output) (s t : Pending) (reads : ℕ) (c : Command) (a : Answer)
-      → SoFar asks old now had left held holds s reads → YieldsOne s t c → Answered asks now (call_of c) a next
+      → SoFar asks readonly old now had left held holds s reads → GivesOne s t c → Answered asks now (call_of readonly c) a next
       → HasWritten holds then (text_of c a) false → is_last c ≡ true
       → ((course : Course) → IsWhole course → EndsWith course.taken c → course.read_failed ≡ false → course.write_failed ≡ false → Ends (Ok e) course left)
-      → Serves asks old next had left held then (Ok e)
+      → Serves asks readonly old next had left held then (Ok e)
   Serves-last e old now next had left held holds then s t reads c a h one answered text last ends = record {
     course = record {
       input = h.input;
@@ -291,7 +291,7 @@ module _ {P : Type 0} (asks : P → Call → Result Reply AskFault → P → Typ
     };
     read = h.read;
     within = h.within;
-    spelled = read-push h.taken c (commands h.input) (to_come s []) [] (all-read old now had left held holds s reads h) (one.yields [] ∙ ap (λ l. c ∷ l) (one.last last []));
+    spelled = read-push h.taken c (commands h.input) (to_come s []) [] (all-read old now had left held holds s reads h) (one.gives [] ∙ ap (λ l. c ∷ l) (one.last last []));
     asked = then_one old now next h.taken h.answers c a h.asked answered;
     written = HasWritten-trans held holds then h.output (text_of c a) false h.written text;
     ends = ends _ (refl, whole-push old now h.taken h.answers c a h.output h.asked h.whole) (h.taken, refl) refl refl;
@@ -299,11 +299,17 @@ module _ {P : Type 0} (asks : P → Call → Result Reply AskFault → P → Typ
 
   -- a command whose reply was written in full
   pub Goes-replied : (c : Command) (old now next : P) (had left : Input) (held holds then : Output) (s t : Pending) (reads : ℕ) (a : Answer)
-      → SoFar asks old now had left held holds s reads → YieldsOne s t c → Answered asks now (call_of c) a next
+      → SoFar asks readonly old now had left held holds s reads → GivesOne s t c → Answered asks now (call_of readonly c) a next
       → HasWritten holds then (text_of c a) false
-      → Goes asks old next had left held then t reads (Ok (ending_of c))
+      → Goes asks readonly old next had left held then t reads (Ok (ending_of c))
   Goes-replied (command.Read name text) old now next had left held holds then s t reads a h one answered w =
       SoFar-replied old now next had left held holds then s t reads (command.Read name text) a h one answered w refl
+  Goes-replied (command.Write name text) old now next had left held holds then s t reads a h one answered w =
+      SoFar-replied old now next had left held holds then s t reads (command.Write name text) a h one answered w refl
+  Goes-replied (command.CheckRead name) old now next had left held holds then s t reads a h one answered w =
+      SoFar-replied old now next had left held holds then s t reads (command.CheckRead name) a h one answered w refl
+  Goes-replied (command.CheckWrite name) old now next had left held holds then s t reads a h one answered w =
+      SoFar-replied old now next had left held holds then s t reads (command.CheckWrite name) a h one answered w refl
   Goes-replied command.Quit old now next had left held holds then s t reads a h one answered w =
       Serves-last ended.Quit old now next had left held holds then s t reads command.Quit a h one answered w refl
       (λ course whole last read write. (whole, last, read, write))
@@ -311,13 +317,16 @@ module _ {P : Type 0} (asks : P → Call → Result Reply AskFault → P → Typ
       SoFar-replied old now next had left held holds then s t reads command.Syntax a h one answered w refl
   Goes-replied command.LineTooLong old now next had left held holds then s t reads a h one answered w =
       Serves-last ended.TooLong old now next had left held holds then s t reads command.LineTooLong a h one answered w refl
-      (λ course whole last read write. (whole, last, read, write))
+      (λ course whole last read write. (whole, inl last, read, write))
+  Goes-replied command.DataTooLong old now next had left held holds then s t reads a h one answered w =
+      Serves-last ended.TooLong old now next had left held holds then s t reads command.DataTooLong a h one answered w refl
+      (λ course whole last read write. (whole, inr last, read, write))
   Goes-replied (command.Unknown word) old now next had left held holds then s t reads a h one answered w =
       SoFar-replied old now next had left held holds then s t reads (command.Unknown word) a h one answered w refl
 
   -- ---- the greeting
 
-  pub SoFar-greeted : (p : P) (had : Input) (held holds : Output) → HasWritten held holds greeting false → SoFar asks p p had had held holds fresh 0
+  pub SoFar-greeted : (p : P) (had : Input) (held holds : Output) → HasWritten held holds greeting false → SoFar asks readonly p p had had held holds fresh 0
   SoFar-greeted p had held holds text = record {
     input = [];
     read = HasRead-none had;
@@ -338,7 +347,7 @@ module _ {P : Type 0} (asks : P → Call → Result Reply AskFault → P → Typ
   none-taken output earlier last e = absurd (omega (arith, ap length e, length-append earlier (last ∷ [])))
 
   pub Serves-greeting : (f : ServeFault) (p : P) (had : Input) (held holds : Output) → Written {T = Unit {0}} (Err f) held holds greeting
-      → Serves asks p p had had held holds (Err f)
+      → Serves asks readonly p p had had held holds (Err f)
   Serves-greeting fault.ReadFailed p had held holds w = absurd w
   Serves-greeting fault.WriteFailed p had held holds w = record {
     course = record {
@@ -394,8 +403,8 @@ module _ {P : Type 0} (asks : P → Call → Result Reply AskFault → P → Typ
   -- ---- a read
 
   pub SoFar-took : (old now : P) (had left then : Input) (held holds : Output) (s t : Pending) (reads : ℕ)
-      → SoFar asks old now had left held holds s reads → reads < most_reads → TakesIn left then s t (Ok true)
-      → SoFar asks old now had then held holds t (reads + 1)
+      → SoFar asks readonly old now had left held holds s reads → reads < most_reads → TakesIn left then s t (Ok true)
+      → SoFar asks readonly old now had then held holds t (reads + 1)
   SoFar-took old now had left then held holds s t reads h room took =
       let piece = took.0 in
       record {
@@ -406,7 +415,7 @@ module _ {P : Type 0} (asks : P → Call → Result Reply AskFault → P → Typ
         taken = h.taken;
         goes_on = h.goes_on;
         spelled = λ more. ap commands (append_assoc h.input piece more) ∙ h.spelled (piece ++ more)
-            ∙ ap (λ l. h.taken ++ commands_from s.from l) (sym (append_assoc s.bytes piece more)) ∙ ap (λ q. h.taken ++ to_come q more) (sym took.3);
+            ∙ ap (λ cs. h.taken ++ cs) (sym (to_come-fed s piece more)) ∙ ap (λ q. h.taken ++ to_come q more) (sym took.3);
         answers = h.answers;
         asked = h.asked;
         output = h.output;
@@ -415,8 +424,8 @@ module _ {P : Type 0} (asks : P → Call → Result Reply AskFault → P → Typ
       }
 
   pub Serves-end : (old now : P) (had left then : Input) (held holds : Output) (s t : Pending) (reads : ℕ)
-      → SoFar asks old now had left held holds s reads → to_come s [] ≡ [] → reads < most_reads → TakesIn left then s t (Ok false)
-      → Serves asks old now had then held holds (Ok ended.EndOfInput)
+      → SoFar asks readonly old now had left held holds s reads → to_come s [] ≡ [] → reads < most_reads → TakesIn left then s t (Ok false)
+      → Serves asks readonly old now had then held holds (Ok ended.EndOfInput)
   Serves-end old now had left then held holds s t reads h none room took = record {
     course = record {
       input = h.input ++ [];
@@ -437,8 +446,8 @@ module _ {P : Type 0} (asks : P → Call → Result Reply AskFault → P → Typ
   }
 
   pub Serves-read : (f : ServeFault) (old now : P) (had left then : Input) (held holds : Output) (s t : Pending) (reads : ℕ)
-      → SoFar asks old now had left held holds s reads → to_come s [] ≡ [] → reads < most_reads → TakesIn left then s t (Err f)
-      → Serves asks old now had then held holds (Err f)
+      → SoFar asks readonly old now had left held holds s reads → to_come s [] ≡ [] → reads < most_reads → TakesIn left then s t (Err f)
+      → Serves asks readonly old now had then held holds (Err f)
   Serves-read fault.ReadFailed old now had left then held holds s t reads h none room took = record {
     course = record {
       input = h.input ++ [];
@@ -486,8 +495,8 @@ module _ {P : Type 0} (asks : P → Call → Result Reply AskFault → P → Typ
 
   -- all the reads are used up
   pub Serves-spent : (old now : P) (had left : Input) (held holds : Output) (s : Pending) (reads : ℕ)
-      → SoFar asks old now had left held holds s reads → to_come s [] ≡ [] → most_reads ≤ reads
-      → Serves asks old now had left held holds (Err fault.ReadFailed)
+      → SoFar asks readonly old now had left held holds s reads → to_come s [] ≡ [] → most_reads ≤ reads
+      → Serves asks readonly old now had left held holds (Err fault.ReadFailed)
   Serves-spent old now had left held holds s reads h none spent = record {
     course = record {
       input = h.input;

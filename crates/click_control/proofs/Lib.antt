@@ -1,4 +1,6 @@
+pub mod Following
 pub mod Going
+pub mod Saying
 pub mod Sessions
 pub mod Streams
 pub mod Words

@@ -1,10 +1,12 @@
 -- Lemmas on the commands of a stream.
-use Rattle.std.proofs.Common.{◌≡◌, ℕ, zero, suc, ◌+◌, ◌-◌, ◌<◌, ◌≤◌, List, [], ◌∷◌, ◌++◌, true, false, eqb, length, get_or, take, drop, refl, sym, ap, ◌∙◌, subst, append_assoc, append-nil, take-append-drop, get_or-take, get_or-drop, length-take, length-append, length-take-le, take-take, take_all, eqb-true, inl, inr, arith}
-use Rattle.std.proofs.lemmas.Bool.{lt-leb, le-leb, ne_eqb, cases_lt}
+use Rattle.std.proofs.Common.{◌≡◌, ℕ, zero, suc, ◌+◌, ◌-◌, ◌<◌, ◌≤◌, List, [], ◌∷◌, ◌++◌, true, false, ◌&&◌, eqb, length, get_or, take, drop, refl, sym, ap, ◌∙◌, subst, append_assoc, append-nil, take-append-drop, get_or-take, get_or-drop, length-take, length-append, length-take-le, take-take, take_all, eqb-true, inl, inr, arith}
+use Rattle.std.proofs.lemmas.Bool.{lt-leb, le-leb, ne_eqb, cases_lt, cases_Bool}
 use Rattle.std.proofs.lemmas.List.{drop_more}
 use Rattle.click_control.specs.declared.command.Command.TheVariants as command
-use Rattle.click_control.specs.Commands.{Reading, in_line, after_return, over, completed, after_byte, completed_in, after_byte_in, commands_from, command_of, is_end, listed, after_line, longest_line}
-use Rattle.click_control.specs.kept.Lines.{HasNoEnd}
+use Rattle.click_control.specs.Commands.{Reading, in_line, after_return, over, completed, after_byte, completed_in, after_byte_in, commands_from, said_of, is_end, listed, after_line, longest_line, text_command, before_payload, in_payload, payload_after, completed_payload, after_payload_byte, HasNoEnd}
+use Rattle.click_control.specs.Taking.{Pending, to_come, fed}
+use Rattle.click_control.specs.declared.way.Way.{Way}
+use Rattle.click_control.specs.kept.Lines.{end_length}
 
 -- where the reading stands after these bytes
 abbrev pub reading_after : Reading → List ℕ → Reading
@@ -62,7 +64,7 @@ commands_from-within line (x ∷ xs) ys h q =
     ∙ commands_from-within (line ++ x ∷ []) xs ys h.1 (omega (arith, length-append line (x ∷ [])))
     ∙ ap (λ l. commands_from (in_line l) ys) (append_assoc line (x ∷ []) xs)
 
-commands_from-end : (line : List ℕ) (e : ℕ) (ys : List ℕ) → is_end e ≡ true → commands_from (in_line line) (e ∷ ys) ≡ listed (command_of line) ++ commands_from (after_line (command_of line) e) ys
+pub commands_from-end : (line : List ℕ) (e : ℕ) (ys : List ℕ) → is_end e ≡ true → commands_from (in_line line) (e ∷ ys) ≡ listed (said_of line) ++ commands_from (after_line (said_of line) e) ys
 unfolding commands_from
 commands_from-end line e ys h = rw h refl
 
@@ -79,7 +81,7 @@ split_more bytes more n q = ap (λ l. l ++ more) (split_at bytes n q) ∙ append
 
 -- a line that has its end
 pub commands_from-line : (bytes more : List ℕ) (n : ℕ) → n < length bytes → n ≤ longest_line → HasNoEnd (take n bytes) → is_end (get_or bytes n 0) ≡ true
-    → commands_from (in_line []) (bytes ++ more) ≡ listed (command_of (take n bytes)) ++ commands_from (after_line (command_of (take n bytes)) (get_or bytes n 0)) (drop (n + 1) bytes ++ more)
+    → commands_from (in_line []) (bytes ++ more) ≡ listed (said_of (take n bytes)) ++ commands_from (after_line (said_of (take n bytes)) (get_or bytes n 0)) (drop (n + 1) bytes ++ more)
 commands_from-line bytes more n q short h e =
     ap (λ l. commands_from (in_line []) l) (split_more bytes more n q)
     ∙ commands_from-within [] (take n bytes) (get_or bytes n 0 ∷ (drop (n + 1) bytes ++ more)) h (omega (arith, length-take n bytes))
@@ -108,11 +110,11 @@ at_front : (bytes : List ℕ) → 0 < length bytes → bytes ≡ get_or bytes 0 
 at_front [] q = absurd (omega arith)
 at_front (b ∷ bytes) q = refl
 
-feed_after_return : (ys : List ℕ) → commands_from after_return (10 ∷ ys) ≡ commands_from (in_line []) ys
+pub feed_after_return : (ys : List ℕ) → commands_from after_return (10 ∷ ys) ≡ commands_from (in_line []) ys
 unfolding commands_from
 feed_after_return ys = refl
 
-other_after_return : (b : ℕ) (ys : List ℕ) → eqb b 10 ≡ false → commands_from after_return (b ∷ ys) ≡ commands_from (in_line []) (b ∷ ys)
+pub other_after_return : (b : ℕ) (ys : List ℕ) → eqb b 10 ≡ false → commands_from after_return (b ∷ ys) ≡ commands_from (in_line []) (b ∷ ys)
 unfolding commands_from
 other_after_return b ys h = rw h refl
 
@@ -147,3 +149,142 @@ HasNoEnd-more bytes s n low high h more =
 
 pub HasNoEnd-all : (bytes : List ℕ) → HasNoEnd (take (length bytes) bytes) → HasNoEnd bytes
 HasNoEnd-all bytes h = subst HasNoEnd (take_all (length bytes) bytes (omega arith)) h
+
+-- ---- a session that takes a piece
+
+fed_from : (r : Reading) (bytes piece more : List ℕ)
+    → to_come (fed (record { from = r; bytes = bytes }) piece) more ≡ commands_from r (bytes ++ (piece ++ more))
+fed_from (in_line line) bytes piece more = ap (λ l. commands_from (in_line line) l) (append_assoc bytes piece more)
+fed_from after_return bytes piece more = ap (λ l. commands_from after_return l) (append_assoc bytes piece more)
+fed_from (before_payload w handler n) bytes piece more = ap (λ l. commands_from (before_payload w handler n) l) (append_assoc bytes piece more)
+fed_from (in_payload w handler n came) bytes piece more = ap (λ l. commands_from (in_payload w handler n came) l) (append_assoc bytes piece more)
+fed_from over bytes piece more = commands_from-over (bytes ++ more) ∙ sym (commands_from-over (bytes ++ (piece ++ more)))
+
+pub to_come-fed : (s : Pending) (piece more : List ℕ) → to_come (fed s piece) more ≡ to_come s (piece ++ more)
+to_come-fed s piece more = fed_from s.from s.bytes piece more
+
+-- ---- a payload
+
+completed_before : (w : Way) (handler came : List ℕ) (n x : ℕ) → 1 < n → completed_payload w handler n came x ≡ []
+completed_before w handler came n x q = rw (lt-leb n 1 q) refl
+
+after_before : (w : Way) (handler came : List ℕ) (n x : ℕ) → 1 < n → after_payload_byte w handler n came x ≡ in_payload w handler (n - 1) (came ++ x ∷ [])
+after_before w handler came n x q = rw (lt-leb n 1 q) refl
+
+-- one byte of a payload that is not the last
+payload_step : (w : Way) (handler came : List ℕ) (n x : ℕ) (ys : List ℕ) → 1 < n
+    → commands_from (in_payload w handler n came) (x ∷ ys) ≡ commands_from (in_payload w handler (n - 1) (came ++ x ∷ [])) ys
+unfolding commands_from
+payload_step w handler came n x ys q =
+    ap (λ cs. cs ++ commands_from (after_payload_byte w handler n came x) ys) (completed_before w handler came n x q)
+    ∙ ap (λ r. commands_from r ys) (after_before w handler came n x q)
+
+payload_last : (w : Way) (handler came : List ℕ) (x : ℕ) (ys : List ℕ)
+    → commands_from (in_payload w handler 1 came) (x ∷ ys) ≡ text_command w handler (came ++ x ∷ []) ∷ commands_from (in_line []) ys
+unfolding commands_from
+payload_last w handler came x ys = refl
+
+-- all the bytes of a payload
+pub payload_whole : (w : Way) (handler came xs ys : List ℕ) (n : ℕ) → length xs ≡ n → 0 < n
+    → commands_from (in_payload w handler n came) (xs ++ ys) ≡ text_command w handler (came ++ xs) ∷ commands_from (in_line []) ys
+payload_whole w handler came [] ys n e q = absurd (omega (arith, e))
+payload_whole w handler came (x ∷ []) ys n e q =
+    let one : n ≡ 1 = omega (arith, e) in
+    ap (λ m. commands_from (in_payload w handler m came) (x ∷ ys)) one ∙ payload_last w handler came x ys
+payload_whole w handler came (x ∷ y ∷ xs) ys n e q =
+    payload_step w handler came n x (y ∷ xs ++ ys) (omega (arith, e))
+    ∙ payload_whole w handler (came ++ x ∷ []) (y ∷ xs) ys (n - 1) (omega (arith, e)) (omega (arith, e))
+    ∙ ap (λ t. text_command w handler t ∷ commands_from (in_line []) ys) (append_assoc came (x ∷ []) (y ∷ xs))
+
+-- the first bytes of what follows are a payload
+pub payload_cut : (w : Way) (handler xs more : List ℕ) (n : ℕ) → 0 < n → n ≤ length xs
+    → commands_from (in_payload w handler n []) (xs ++ more) ≡ text_command w handler (take n xs) ∷ commands_from (in_line []) (drop n xs ++ more)
+payload_cut w handler xs more n q within =
+    ap (λ l. commands_from (in_payload w handler n []) l) (ap (λ l. l ++ more) (sym (take-append-drop n xs)) ∙ append_assoc (take n xs) (drop n xs) more)
+    ∙ payload_whole w handler [] (take n xs) (drop n xs ++ more) n (length-take-le n xs within) q
+
+-- a payload that has not come to its last byte
+pub payload_part : (w : Way) (handler came xs : List ℕ) (n : ℕ) → length xs < n → commands_from (in_payload w handler n came) xs ≡ []
+payload_part w handler came [] n q = commands_from-nil (in_payload w handler n came)
+payload_part w handler came (x ∷ xs) n q =
+    payload_step w handler came n x xs (omega arith) ∙ payload_part w handler (came ++ x ∷ []) xs (n - 1) (omega arith)
+
+-- ---- a payload after the end of its line
+
+pub feed_before_payload : (w : Way) (handler : List ℕ) (n b : ℕ) (ys : List ℕ) → eqb b 10 ≡ true
+    → commands_from (before_payload w handler n) (b ∷ ys) ≡ commands_from (in_payload w handler n []) ys
+unfolding commands_from
+feed_before_payload w handler n b ys h = rw h refl
+
+pub other_before_payload : (w : Way) (handler : List ℕ) (n b : ℕ) (ys : List ℕ) → eqb b 10 ≡ false
+    → commands_from (before_payload w handler n) (b ∷ ys) ≡ commands_from (in_payload w handler n []) (b ∷ ys)
+unfolding commands_from
+other_before_payload w handler n b ys h = rw h refl
+
+after_no_return : (w : Way) (handler : List ℕ) (n e : ℕ) (ys : List ℕ) → eqb e 13 ≡ false
+    → commands_from (payload_after w handler n e) ys ≡ commands_from (in_payload w handler n []) ys
+after_no_return w handler n e ys h = rw h refl
+
+after_a_return : (w : Way) (handler : List ℕ) (n e : ℕ) (ys : List ℕ) → eqb e 13 ≡ true
+    → commands_from (payload_after w handler n e) ys ≡ commands_from (before_payload w handler n) ys
+after_a_return w handler n e ys h = rw h refl
+
+-- an end of one byte, after which a byte comes
+end_of_one : (w : Way) (handler : List ℕ) (n e b : ℕ) (ys : List ℕ) → (eqb e 13 && eqb b 10) ≡ false
+    → commands_from (payload_after w handler n e) (b ∷ ys) ≡ commands_from (in_payload w handler n []) (b ∷ ys)
+end_of_one w handler n e b ys h = elim (cases_Bool (eqb e 13)) [
+  | inl r ↦
+      let f : eqb b 10 ≡ false = rw r at h in
+      after_a_return w handler n e (b ∷ ys) r ∙ other_before_payload w handler n b ys f
+  | inr r ↦ after_no_return w handler n e (b ∷ ys) r
+]
+
+end_of_two : (w : Way) (handler : List ℕ) (n e b : ℕ) (ys : List ℕ) → (eqb e 13 && eqb b 10) ≡ true
+    → commands_from (payload_after w handler n e) (b ∷ ys) ≡ commands_from (in_payload w handler n []) ys
+end_of_two w handler n e b ys h = elim (cases_Bool (eqb e 13)) [
+  | inl r ↦
+      let f : eqb b 10 ≡ true = rw r at h in
+      after_a_return w handler n e (b ∷ ys) r ∙ feed_before_payload w handler n b ys f
+  | inr r ↦
+      let f : false ≡ true = rw r at h in cc
+]
+
+end_length_one : (e b : ℕ) (bs : List ℕ) → (eqb e 13 && eqb b 10) ≡ false → end_length (e ∷ b ∷ bs) ≡ 1
+end_length_one e b bs h = rw h refl
+
+end_length_two : (e b : ℕ) (bs : List ℕ) → (eqb e 13 && eqb b 10) ≡ true → end_length (e ∷ b ∷ bs) ≡ 2
+end_length_two e b bs h = rw h refl
+
+-- a line end, and a payload of n bytes after it
+pub payload_after_end : (w : Way) (handler : List ℕ) (n e : ℕ) (rest more : List ℕ) → 0 < n → end_length (e ∷ rest) + n ≤ length (e ∷ rest)
+    → commands_from (payload_after w handler n e) (rest ++ more)
+    ≡ text_command w handler (take n (drop (end_length (e ∷ rest)) (e ∷ rest))) ∷ commands_from (in_line []) (drop n (drop (end_length (e ∷ rest)) (e ∷ rest)) ++ more)
+payload_after_end w handler n e [] more q within = absurd (omega arith)
+payload_after_end w handler n e (b ∷ bs) more q within = elim (cases_Bool (eqb e 13 && eqb b 10)) [
+  | inl h ↦
+      let len = end_length_two e b bs h in
+      rw len (end_of_two w handler n e b (bs ++ more) h ∙ payload_cut w handler bs more n q (omega (arith, len)))
+  | inr h ↦
+      let len = end_length_one e b bs h in
+      rw len (end_of_one w handler n e b (bs ++ more) h ∙ payload_cut w handler (b ∷ bs) more n q (omega (arith, len)))
+]
+
+-- too few bytes after the end of a line that announced a payload
+payload_short : (w : Way) (handler : List ℕ) (n e : ℕ) (ys : List ℕ) → length ys < n → commands_from (payload_after w handler n e) ys ≡ []
+payload_short w handler n e [] q = commands_from-nil (payload_after w handler n e)
+payload_short w handler n e (b ∷ bs) q = elim (cases_Bool (eqb e 13 && eqb b 10)) [
+  | inl h ↦ end_of_two w handler n e b bs h ∙ payload_part w handler [] bs n (omega arith)
+  | inr h ↦ end_of_one w handler n e b bs h ∙ payload_part w handler [] (b ∷ bs) n q
+]
+
+pub payload_waits : (w : Way) (handler : List ℕ) (n e : ℕ) (rest more : List ℕ) → length (e ∷ rest) + length more < end_length (e ∷ rest) + n
+    → commands_from (payload_after w handler n e) (rest ++ more) ≡ []
+payload_waits w handler n e [] more q = payload_short w handler n e more (omega arith)
+payload_waits w handler n e (b ∷ bs) more q = elim (cases_Bool (eqb e 13 && eqb b 10)) [
+  | inl h ↦
+      let len = end_length_two e b bs h in
+      end_of_two w handler n e b (bs ++ more) h ∙ payload_part w handler [] (bs ++ more) n (omega (arith, len, length-append bs more))
+  | inr h ↦
+      let len = end_length_one e b bs h in
+      end_of_one w handler n e b (bs ++ more) h ∙ payload_part w handler [] (b ∷ bs ++ more) n (omega (arith, len, length-append bs more))
+]

@@ -1,9 +1,14 @@
 -- The commands of a stream of bytes (Click manual, "ControlSocket").
-use Rattle.std.specs.Prelude.{ℕ, List, [], ◌∷◌, ◌++◌, length, take_while, reverse, Bool, not, ◌||◌, nat_eq, nat_le, Option, Some, None, codes, if◌then◌else◌}
+use Rattle.std.specs.Prelude.{◌≡◌, ◌⊎◌, ℕ, zero, suc, ◌-◌, List, [], ◌∷◌, ◌++◌, length, take_while, Bool, true, false, not, ◌||◌, nat_eq, nat_le, Option, Some, None, codes, if◌then◌else◌}
 use Rattle.std.specs.Str.{str_eq_ignore_ascii_case}
 use Rattle.click_handlers.specs.Blanks.{is_blank, without_front, trimmed}
+use Rattle.click_classes.specs.Values.{digits}
+use Rattle.click_control.specs.declared.way.Way.{Way}
+use Rattle.click_control.specs.declared.way.Way.TheVariants as way
 use Rattle.click_control.specs.declared.command.Command.{Command}
 use Rattle.click_control.specs.declared.command.Command.TheVariants as command
+
+-- ---- the words of a line
 
 -- the bytes from the first blank on
 abbrev pub from_blank : List ℕ → List ℕ
@@ -17,72 +22,160 @@ first_word line = take_while (λ b. not (is_blank b)) (without_front line)
 abbrev pub after_word : List ℕ → List ℕ
 after_word line = from_blank (without_front line)
 
--- `READ` with what follows it: a handler, and the rest of the line without blanks at its ends
-abbrev pub read_command : List ℕ → List ℕ → Command
-read_command [] rest = command.Syntax
-read_command (b ∷ handler) rest = command.Read (b ∷ handler) (trimmed rest)
+abbrev pub second_word : List ℕ → List ℕ
+second_word line = first_word (after_word line)
 
--- the command of a line, whose first word is this; case does not matter in it
-abbrev pub command_by : List ℕ → List ℕ → Option Command
-command_by [] rest = None
-command_by (b ∷ word) rest =
-    if str_eq_ignore_ascii_case (b ∷ word) (codes "READ") then Some (read_command (first_word rest) (after_word rest))
-    else if str_eq_ignore_ascii_case (b ∷ word) (codes "QUIT") then Some command.Quit
-    else Some (command.Unknown (b ∷ word))
+abbrev pub third_word : List ℕ → List ℕ
+third_word line = second_word (after_word line)
 
--- the command of a line; a blank line is none
-abbrev pub command_of : List ℕ → Option Command
-command_of line = command_by (first_word line) (after_word line)
+-- ---- what a line says
 
--- how many bytes a line may have before its end
+-- how many bytes a line may have before its end, and a payload
 abbrev pub longest_line : ℕ
 longest_line = 65536
 
--- where the reading of a stream stands: in a line that begins so, after a CR that ended one, or after the last command
+abbrev pub longest_payload : ℕ
+longest_payload = 1048576
+
+-- a line is blank, or it is a whole command, or it announces a payload of so many bytes, one or more, for a handler
+pub data Said : Type 0 where
+  blank : Said
+  whole : Command → Said
+  announces : Way → List ℕ → ℕ → Said
+
+-- the command that hands a handler a text
+abbrev pub text_command : Way → List ℕ → List ℕ → Command
+text_command way.Read handler text = command.Read handler text
+text_command way.Write handler text = command.Write handler text
+
+abbrev pub check_command : Way → List ℕ → Command
+check_command way.Read handler = command.CheckRead handler
+check_command way.Write handler = command.CheckWrite handler
+
+-- `READ` or `WRITE`: a handler, and a text
+abbrev pub text_said : Way → List ℕ → List ℕ → Said
+text_said w [] text = whole command.Syntax
+text_said w (b ∷ handler) text = whole (text_command w (b ∷ handler) text)
+
+-- `CHECKREAD` or `CHECKWRITE`: a handler, and no second word
+abbrev pub check_said : Way → List ℕ → List ℕ → Said
+check_said w [] second = whole command.Syntax
+check_said w (b ∷ handler) [] = whole (check_command w (b ∷ handler))
+check_said w (b ∷ handler) (c ∷ second) = whole command.Syntax
+
+-- a payload of so many bytes; of none, the command is whole
+abbrev pub announced : Way → List ℕ → Option ℕ → Said
+announced w handler None = whole command.Syntax
+announced w handler (Some zero) = whole (text_command w handler [])
+announced w handler (Some (suc n)) = if nat_le (suc n) longest_payload then announces w handler (suc n) else whole command.DataTooLong
+
+-- `READDATA` or `WRITEDATA`: a handler, the payload's length in decimal digits alone, and no third word
+abbrev pub data_said : Way → List ℕ → List ℕ → List ℕ → Said
+data_said w handler count [] = announced w handler (digits count)
+data_said w handler count (b ∷ third) = whole command.Syntax
+
+-- what a line says, whose first word is this, and which goes on so; case does not matter in that word
+abbrev pub said_by : List ℕ → List ℕ → Said
+said_by word rest =
+    if str_eq_ignore_ascii_case word (codes "READ") then text_said way.Read (first_word rest) (trimmed (after_word rest))
+    else if str_eq_ignore_ascii_case word (codes "WRITE") then text_said way.Write (first_word rest) (trimmed (after_word rest))
+    else if str_eq_ignore_ascii_case word (codes "READDATA") then data_said way.Read (first_word rest) (second_word rest) (third_word rest)
+    else if str_eq_ignore_ascii_case word (codes "WRITEDATA") then data_said way.Write (first_word rest) (second_word rest) (third_word rest)
+    else if str_eq_ignore_ascii_case word (codes "CHECKREAD") then check_said way.Read (first_word rest) (second_word rest)
+    else if str_eq_ignore_ascii_case word (codes "CHECKWRITE") then check_said way.Write (first_word rest) (second_word rest)
+    else if str_eq_ignore_ascii_case word (codes "QUIT") then whole command.Quit
+    else whole (command.Unknown word)
+
+-- a line without a word is blank
+abbrev pub said_unless_blank : List ℕ → List ℕ → Said
+said_unless_blank [] rest = blank
+said_unless_blank (b ∷ word) rest = said_by (b ∷ word) rest
+
+abbrev pub said_of : List ℕ → Said
+said_of line = said_unless_blank (first_word line) (after_word line)
+
+-- ---- the commands of a stream
+
+-- a command that nothing follows
+abbrev pub is_last : Command → Bool
+is_last (command.Read handler text) = false
+is_last (command.Write handler text) = false
+is_last (command.CheckRead handler) = false
+is_last (command.CheckWrite handler) = false
+is_last command.Quit = true
+is_last command.Syntax = false
+is_last command.LineTooLong = true
+is_last command.DataTooLong = true
+is_last (command.Unknown word) = false
+
+-- Where the reading of a stream stands: in a line that begins so; after a CR that ended a line; after a CR that ended a line which announced a payload of
+-- so many bytes; in a payload, of which so many bytes are still to come, and these came; or after the last command.
 pub data Reading : Type 0 where
   in_line : List ℕ → Reading
   after_return : Reading
+  before_payload : Way → List ℕ → ℕ → Reading
+  in_payload : Way → List ℕ → ℕ → List ℕ → Reading
   over : Reading
 
 -- LF and CR end a line
 abbrev pub is_end : ℕ → Bool
 is_end b = nat_eq b 10 || nat_eq b 13
 
-abbrev pub listed : Option Command → List Command
-listed None = []
-listed (Some c) = c ∷ []
+-- no byte of these ends a line
+abbrev pub HasNoEnd : List ℕ → Type 0
+HasNoEnd [] = Unit {0}
+HasNoEnd (b ∷ bs) = (is_end b ≡ false) × HasNoEnd bs
+
+-- the command that is whole at the end of a line that says this
+abbrev pub listed : Said → List Command
+listed blank = []
+listed (whole c) = c ∷ []
+listed (announces w handler n) = []
 
 -- an LF right after a CR belongs to the line end
 abbrev pub after_end : ℕ → Reading
 after_end b = if nat_eq b 13 then after_return else in_line []
 
--- where the reading stands after a line with this command and this end; nothing follows QUIT
-abbrev pub after_line : Option Command → ℕ → Reading
-after_line None b = after_end b
-after_line (Some (command.Read handler text)) b = after_end b
-after_line (Some command.Quit) b = over
-after_line (Some command.Syntax) b = after_end b
-after_line (Some command.LineTooLong) b = over
-after_line (Some (command.Unknown word)) b = after_end b
+-- the same where a payload follows
+abbrev pub payload_after : Way → List ℕ → ℕ → ℕ → Reading
+payload_after w handler n b = if nat_eq b 13 then before_payload w handler n else in_payload w handler n []
+
+-- where the reading stands after a line that says this, with this end
+abbrev pub after_line : Said → ℕ → Reading
+after_line blank b = after_end b
+after_line (whole c) b = if is_last c then over else after_end b
+after_line (announces w handler n) b = payload_after w handler n b
 
 -- the command that is whole with the next byte of a line that begins so: at its end, or where it becomes too long
 abbrev pub completed_in : List ℕ → ℕ → List Command
 completed_in line b =
-    if is_end b then listed (command_of line) else if nat_le longest_line (length line) then command.LineTooLong ∷ [] else []
+    if is_end b then listed (said_of line) else if nat_le longest_line (length line) then command.LineTooLong ∷ [] else []
+
+-- with the next byte of a payload, of which so many are still to come: with the last of them
+abbrev pub completed_payload : Way → List ℕ → ℕ → List ℕ → ℕ → List Command
+completed_payload w handler n came b = if nat_le n 1 then text_command w handler (came ++ b ∷ []) ∷ [] else []
 
 abbrev pub completed : Reading → ℕ → List Command
 completed (in_line line) b = completed_in line b
 completed after_return b = if nat_eq b 10 then [] else completed_in [] b
+completed (before_payload w handler n) b = if nat_eq b 10 then [] else completed_payload w handler n [] b
+completed (in_payload w handler n came) b = completed_payload w handler n came b
 completed over b = []
 
 -- where the reading stands after the next byte
 abbrev pub after_byte_in : List ℕ → ℕ → Reading
 after_byte_in line b =
-    if is_end b then after_line (command_of line) b else if nat_le longest_line (length line) then over else in_line (line ++ b ∷ [])
+    if is_end b then after_line (said_of line) b else if nat_le longest_line (length line) then over else in_line (line ++ b ∷ [])
+
+-- right after a payload a line begins
+abbrev pub after_payload_byte : Way → List ℕ → ℕ → List ℕ → ℕ → Reading
+after_payload_byte w handler n came b = if nat_le n 1 then in_line [] else in_payload w handler (n - 1) (came ++ b ∷ [])
 
 abbrev pub after_byte : Reading → ℕ → Reading
 after_byte (in_line line) b = after_byte_in line b
 after_byte after_return b = if nat_eq b 10 then in_line [] else after_byte_in [] b
+after_byte (before_payload w handler n) b = if nat_eq b 10 then in_payload w handler n [] else after_payload_byte w handler n [] b
+after_byte (in_payload w handler n came) b = after_payload_byte w handler n came b
 after_byte over b = over
 
 -- the whole commands of the bytes that follow
@@ -94,14 +187,13 @@ commands_from r (b ∷ bs) = completed r b ++ commands_from (after_byte r b) bs
 abbrev pub commands : List ℕ → List Command
 commands bytes = commands_from (in_line []) bytes
 
--- a session between two commands: where its reading stands, and the bytes after that place
-pub record Pending : Type 0 where
-  pub from : Reading
-  pub bytes : List ℕ
+-- ---- the three ends of a line
 
-abbrev pub fresh : Pending
-fresh = record { from = in_line []; bytes = [] }
+-- no LF stands in front of these bytes
+abbrev pub BeginsNoFeed : List ℕ → Type 0
+BeginsNoFeed [] = Unit {0}
+BeginsNoFeed (b ∷ bs) = nat_eq b 10 ≡ false
 
--- the commands still to come, once these bytes have come too
-abbrev pub to_come : Pending → List ℕ → List Command
-to_come s more = commands_from s.from (s.bytes ++ more)
+-- a whole end of a line, before these bytes: LF, CR LF, or a CR that no LF follows
+abbrev pub IsEndBefore : List ℕ → List ℕ → Type 0
+IsEndBefore e more = (e ≡ codes "\n") ⊎ (e ≡ codes "\r\n") ⊎ ((e ≡ codes "\r") × BeginsNoFeed more)

@@ -1,5 +1,5 @@
 -- Devices of input and output under a session's peer, each watched: one call of the peer is one call of the device.
-use Rattle.std.specs.Prelude.{◌≡◌, ◌⊎◌, ℕ, zero, suc, ◌<◌, List, [], ◌∷◌, Bool, true, false, Result, Ok, Err, is_err}
+use Rattle.std.specs.Prelude.{◌≡◌, ◌⊎◌, ℕ, zero, suc, ◌<◌, List, Bool, true, false, Result, Ok, Err, is_err}
 use Rattle.std.specs.declared.io.Error.{Error}
 use Rattle.click_control.specs.declared.peer.Failed.{Failed}
 

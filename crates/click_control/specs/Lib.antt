@@ -4,4 +4,5 @@ pub mod Devices
 pub mod Peers
 pub mod ReplyText
 pub mod Serving
+pub mod Taking
 pub mod kept

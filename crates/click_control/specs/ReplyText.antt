@@ -4,9 +4,13 @@ use Rattle.std.specs.List.{before_last}
 use Rattle.click_handlers.specs.Answers.{fault_text}
 use Rattle.click_handlers.specs.declared.fault.HandlerFault.{HandlerFault}
 use Rattle.click_router.specs.declared.call.Reply.TheVariants as reply
+use Rattle.click_router.specs.declared.call.Refusal.{Refusal}
 use Rattle.click_router.specs.declared.call.Refusal.TheVariants as refusal
 use Rattle.click_router.specs.One.{is_dot}
+use Rattle.click_control.specs.declared.port.AskFault.{AskFault}
 use Rattle.click_control.specs.declared.port.AskFault.TheVariants as ask
+use Rattle.click_control.specs.declared.way.Way.{Way}
+use Rattle.click_control.specs.declared.way.Way.TheVariants as way
 use Rattle.click_control.specs.declared.command.Command.{Command}
 use Rattle.click_control.specs.declared.command.Command.TheVariants as command
 use Rattle.click_control.specs.declared.command.Answer.{Answer}
@@ -27,21 +31,53 @@ data_text bytes = codes "DATA " ++ decimal (length bytes) ++ codes "\r\n" ++ byt
 abbrev pub handler_text : List ℕ → List ℕ → HandlerFault → List ℕ
 handler_text front handler f = naming front handler (codes " error:") ++ codes "520 " ++ fault_text f ++ codes "\r\n"
 
--- the reply to `READ` of a handler: its value, or why it has none; no text for the replies that only other calls have
+-- the line of a read or a write that is good
+abbrev pub good_text : Way → List ℕ → List ℕ
+good_text way.Read handler = naming (codes "200 Read handler ") handler (codes " OK")
+good_text way.Write handler = naming (codes "200 Write handler ") handler (codes " OK")
+
+-- why a read or a write was refused
+abbrev pub refused_text : Way → List ℕ → Refusal → List ℕ
+refused_text w handler refusal.NoElement = naming (codes "510 No element named ") (before_last is_dot handler) []
+refused_text w handler refusal.NoHandler = naming (codes "511 No handler named ") handler []
+refused_text way.Read handler refusal.WrongWay = naming (codes "530 Handler ") handler (codes " write-only")
+refused_text way.Write handler refusal.WrongWay = naming (codes "530 Handler ") handler (codes " read-only")
+refused_text way.Read handler (refusal.Handler f) = handler_text (codes "520-Read handler ") handler f
+refused_text way.Write handler (refusal.Handler f) = handler_text (codes "520-Write handler ") handler f
+
+-- why there was no reply
+abbrev pub failed_text : AskFault → List ℕ
+failed_text ask.NoMemory = codes "520 Out of memory\r\n"
+failed_text ask.HistoryFull = codes "520 History full\r\n"
+
+-- where a session may not make the call: it may always read
+abbrev pub denied_text : Way → List ℕ → List ℕ
+denied_text way.Read handler = []
+denied_text way.Write handler = naming (codes "530 Permission denied for ") handler []
+
+-- the answer to a read of a handler: its value, or why it has none; no text for the replies that only other calls have
 abbrev pub read_text : List ℕ → Answer → List ℕ
-read_text handler (answer.Replied (reply.Value bytes)) = naming (codes "200 Read handler ") handler (codes " OK") ++ data_text bytes
-read_text handler (answer.Replied (reply.Refused refusal.NoElement)) = naming (codes "510 No element named ") (before_last is_dot handler) []
-read_text handler (answer.Replied (reply.Refused refusal.NoHandler)) = naming (codes "511 No handler named ") handler []
-read_text handler (answer.Replied (reply.Refused refusal.WrongWay)) = naming (codes "530 Handler ") handler (codes " write-only")
-read_text handler (answer.Replied (reply.Refused (refusal.Handler f))) = handler_text (codes "520-Read handler ") handler f
+read_text handler (answer.Replied (reply.Value bytes)) = good_text way.Read handler ++ data_text bytes
 read_text handler (answer.Replied reply.Done) = []
+read_text handler (answer.Replied (reply.Refused why)) = refused_text way.Read handler why
 read_text handler (answer.Replied (reply.Entered count)) = []
 read_text handler (answer.Replied (reply.Worked count)) = []
 read_text handler (answer.Replied (reply.Sent packet)) = []
 read_text handler (answer.Replied reply.NoDevice) = []
-read_text handler (answer.Failed ask.NoMemory) = codes "520 Out of memory\r\n"
-read_text handler (answer.Failed ask.HistoryFull) = codes "520 History full\r\n"
-read_text handler answer.NoCall = []
+read_text handler (answer.Failed f) = failed_text f
+read_text handler answer.NoCall = denied_text way.Read handler
+
+-- the answer to a write, and to the question whether a handler can be used that way
+abbrev pub done_text : Way → List ℕ → Answer → List ℕ
+done_text w handler (answer.Replied (reply.Value bytes)) = []
+done_text w handler (answer.Replied reply.Done) = good_text w handler
+done_text w handler (answer.Replied (reply.Refused why)) = refused_text w handler why
+done_text w handler (answer.Replied (reply.Entered count)) = []
+done_text w handler (answer.Replied (reply.Worked count)) = []
+done_text w handler (answer.Replied (reply.Sent packet)) = []
+done_text w handler (answer.Replied reply.NoDevice) = []
+done_text w handler (answer.Failed f) = failed_text f
+done_text w handler answer.NoCall = denied_text w handler
 
 -- of a command that makes no call
 abbrev pub uncalled_text : Answer → List ℕ → List ℕ
@@ -51,7 +87,11 @@ uncalled_text (answer.Failed f) text = []
 
 abbrev pub text_of : Command → Answer → List ℕ
 text_of (command.Read handler text) a = read_text handler a
+text_of (command.Write handler text) a = done_text way.Write handler a
+text_of (command.CheckRead handler) a = done_text way.Read handler a
+text_of (command.CheckWrite handler) a = done_text way.Write handler a
 text_of command.Quit a = uncalled_text a (codes "200 Goodbye!\r\n")
 text_of command.Syntax a = uncalled_text a (codes "500 Syntax error\r\n")
 text_of command.LineTooLong a = uncalled_text a (codes "500 Line too long\r\n")
+text_of command.DataTooLong a = uncalled_text a (codes "500 Data too long\r\n")
 text_of (command.Unknown word) a = uncalled_text a (naming (codes "501 Unimplemented command ") word [])

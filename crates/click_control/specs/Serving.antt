@@ -1,5 +1,5 @@
 -- A whole session: what it asked, and what it wrote.
-use Rattle.std.specs.Prelude.{◌≡◌, ◌⊎◌, ℕ, ◌+◌, ◌≤◌, ◌<◌, List, [], ◌∷◌, ◌++◌, length, All, Bool, true, false, ◌||◌, Option, Some, None, Result, Ok, Err}
+use Rattle.std.specs.Prelude.{◌≡◌, ◌⊎◌, ℕ, ◌≤◌, ◌<◌, List, [], ◌∷◌, ◌++◌, length, All, Bool, true, false, Option, Some, None, Result, Ok, Err, if◌then◌else◌}
 use Rattle.std.specs.Io.KnownBytes.{IsAtEnd}
 use Rattle.click_router.specs.declared.call.Call.{Call}
 use Rattle.click_router.specs.declared.call.Call.TheVariants as call
@@ -13,17 +13,21 @@ use Rattle.click_control.specs.declared.serving.Ended.{Ended}
 use Rattle.click_control.specs.declared.serving.Ended.TheVariants as ended
 use Rattle.click_control.specs.declared.serving.ServeFault.{ServeFault}
 use Rattle.click_control.specs.declared.serving.ServeFault.TheVariants as fault
-use Rattle.click_control.specs.Commands.{commands}
+use Rattle.click_control.specs.Commands.{commands, is_last}
 use Rattle.click_control.specs.Peers.{Input, Output, HasRead, HasWritten}
 use Rattle.click_control.specs.ReplyText.{greeting, text_of}
 
--- the call that a command makes
-abbrev pub call_of : Command → Option Call
-call_of (command.Read handler text) = Some (call.Read handler text)
-call_of command.Quit = None
-call_of command.Syntax = None
-call_of command.LineTooLong = None
-call_of (command.Unknown word) = None
+-- the call that a command makes; a read-only session makes none that would write, and does not ask whether it could
+abbrev pub call_of : Bool → Command → Option Call
+call_of readonly (command.Read handler text) = Some (call.Read handler text)
+call_of readonly (command.Write handler text) = if readonly then None else Some (call.Write handler text)
+call_of readonly (command.CheckRead handler) = Some (call.CheckRead handler)
+call_of readonly (command.CheckWrite handler) = if readonly then None else Some (call.CheckWrite handler)
+call_of readonly command.Quit = None
+call_of readonly command.Syntax = None
+call_of readonly command.LineTooLong = None
+call_of readonly command.DataTooLong = None
+call_of readonly (command.Unknown word) = None
 
 -- what a port answered
 abbrev pub answer_of : Result Reply AskFault → Answer
@@ -36,10 +40,10 @@ Answered asks p None a q = (a ≡ answer.NoCall) × (q ≡ p)
 Answered asks p (Some c) a q = (r : Result Reply AskFault) × asks p c r q × (a ≡ answer_of r)
 
 -- The port goes by one ask after another through the calls of these commands, with these answers.
-pub data Asked {P : Type 0} (asks : P → Call → Result Reply AskFault → P → Type 0) : P → List Command → List Answer → P → Type 0 where
-  nothing : (p : P) → Asked asks p [] [] p
+pub data Asked {P : Type 0} (asks : P → Call → Result Reply AskFault → P → Type 0) (readonly : Bool) : P → List Command → List Answer → P → Type 0 where
+  nothing : (p : P) → Asked asks readonly p [] [] p
   then_one : (p mid q : P) (cs : List Command) (answers : List Answer) (c : Command) (a : Answer) →
-      Asked asks p cs answers mid → Answered asks mid (call_of c) a q → Asked asks p (cs ++ c ∷ []) (answers ++ a ∷ []) q
+      Asked asks readonly p cs answers mid → Answered asks mid (call_of readonly c) a q → Asked asks readonly p (cs ++ c ∷ []) (answers ++ a ∷ []) q
 
 -- the replies to commands with their answers
 abbrev pub replies : List Command → List Answer → List ℕ
@@ -47,20 +51,16 @@ replies [] answers = []
 replies (c ∷ cs) [] = []
 replies (c ∷ cs) (a ∷ answers) = text_of c a ++ replies cs answers
 
--- a command after which a session ends
-abbrev pub is_last : Command → Bool
-is_last (command.Read handler text) = false
-is_last command.Quit = true
-is_last command.Syntax = false
-is_last command.LineTooLong = true
-is_last (command.Unknown word) = false
-
 -- how many reads a session may have
 abbrev pub most_reads : ℕ
 most_reads = 4294967295
 
 abbrev pub EndsWith : List Command → Command → Type 0
 EndsWith cs c = (front : List Command) × (cs ≡ front ++ c ∷ [])
+
+-- the last of these is a line or a payload that is too long
+abbrev pub EndsTooLong : List Command → Type 0
+EndsTooLong cs = EndsWith cs command.LineTooLong ⊎ EndsWith cs command.DataTooLong
 
 -- no command of these ends a session
 abbrev pub GoesOn : List Command → Type 0
@@ -100,7 +100,7 @@ abbrev pub Ends : Result Ended ServeFault → Course → Input → Type 0
 Ends (Ok ended.Quit) course left =
     IsWhole course × EndsWith course.taken command.Quit × (course.read_failed ≡ false) × (course.write_failed ≡ false)
 Ends (Ok ended.TooLong) course left =
-    IsWhole course × EndsWith course.taken command.LineTooLong × (course.read_failed ≡ false) × (course.write_failed ≡ false)
+    IsWhole course × EndsTooLong course.taken × (course.read_failed ≡ false) × (course.write_failed ≡ false)
 Ends (Ok ended.EndOfInput) course left =
     IsWhole course × GoesOn course.taken × IsAtEnd left.remaining × (course.read_failed ≡ false) × (course.write_failed ≡ false)
 Ends (Err fault.ReadFailed) course left =
@@ -110,13 +110,13 @@ Ends (Err fault.WriteFailed) course left =
 Ends (Err fault.NoMemory) course left =
     IsFront course × (course.read_failed ≡ false) × (course.write_failed ≡ false)
 
--- A session with a port, a reader and a writer, each before and after it.
-pub record Serves {P : Type 0} (asks : P → Call → Result Reply AskFault → P → Type 0) (old new : P) (had left : Input) (held holds : Output)
+-- A session with a port, a reader and a writer, each before and after it; it may be one that only reads.
+pub record Serves {P : Type 0} (asks : P → Call → Result Reply AskFault → P → Type 0) (readonly : Bool) (old new : P) (had left : Input) (held holds : Output)
     (result : Result Ended ServeFault) : Type 0 where
   pub course : Course
   pub read : HasRead had left course.input course.reads course.read_failed
   pub within : course.reads ≤ most_reads
   pub spelled : commands course.input ≡ course.taken ++ course.more
-  pub asked : Asked asks old course.taken course.answers new
+  pub asked : Asked asks readonly old course.taken course.answers new
   pub written : HasWritten held holds course.output course.write_failed
   pub ends : Ends result course left

@@ -4,20 +4,36 @@ use crate::port::AskFault;
 use click_router::Reply;
 use click_text::sequence::Sequence;
 
-/// One command of a session.
+/// One command of a session (Click manual, "ControlSocket").
 #[derive(Drop)]
 pub enum Command {
-    /// `READ handler text`: the text is the rest of the line without blanks at its ends.
+    /// `READ handler text`, where the text is the rest of the line without blanks at its ends; or `READDATA handler n`, where it is the next n
+    /// bytes.
     Read {
         handler: Sequence<u8>,
         text: Sequence<u8>,
+    },
+    /// `WRITE handler text` or `WRITEDATA handler n`, with the text as in a read.
+    Write {
+        handler: Sequence<u8>,
+        text: Sequence<u8>,
+    },
+    /// `CHECKREAD handler`: whether the handler can be read.
+    CheckRead {
+        handler: Sequence<u8>,
+    },
+    /// `CHECKWRITE handler`: whether the handler can be written.
+    CheckWrite {
+        handler: Sequence<u8>,
     },
     /// `QUIT`.
     Quit,
     /// A command word with the wrong words after it.
     Syntax,
-    /// A line of more than 65,536 bytes.
+    /// A line of more than 65,536 bytes before its end.
     LineTooLong,
+    /// A payload of more than 1,048,576 bytes.
+    DataTooLong,
     /// A command word that is not known, as it was sent.
     Unknown {
         word: Sequence<u8>,
@@ -31,6 +47,6 @@ pub enum Answer {
     Replied(Reply),
     /// The port did not answer.
     Failed(AskFault),
-    /// The command makes no call.
+    /// The command makes no call, or the session may not make it.
     NoCall,
 }

@@ -1,10 +1,51 @@
-//! What holds of the definitions, in the protocol's words.
+//! What holds of the definitions, in the protocol's words (Click manual, "ControlSocket"). A line is the bytes before its end, which has no CR and
+//! no LF in it, and its end is LF, CR LF, or a CR that no LF follows.
 
-ghost use Rattle.std.specs.Prelude.{◌≡◌, ◌++◌, ℕ, List};
+ghost use Rattle.std.specs.Prelude.{◌≡◌, ◌≤◌, ◌++◌, ◌∷◌, [], ℕ, List, length, true, false};
 ghost use Rattle.click_control.specs.declared.command.Command.{Command};
-ghost use Rattle.click_control.specs.Commands.{commands};
+ghost use Rattle.click_control.specs.declared.command.Command.TheVariants as command;
+ghost use Rattle.click_control.specs.declared.way.Way.{Way};
+ghost use Rattle.click_control.specs.Commands.{commands, said_of, blank, whole, announces, is_last, text_command, HasNoEnd, IsEndBefore};
+ghost use Rattle.click_control.specs.Taking.{Pending, fresh, fed, to_come};
 
 /// The commands of the first bytes of a stream are the first commands of the stream.
 pub fn commands_of_a_prefix()
     ensures { (bytes more : List ℕ) → (rest : List Command) × (commands (bytes ++ more) ≡ commands bytes ++ rest) }
+{}
+
+/// A blank line of at most 65,536 bytes is no command: after its end come the commands of the rest.
+pub fn commands_after_a_blank_line()
+    ensures { (line end more : List ℕ) → HasNoEnd line → length line ≤ 65536 → IsEndBefore end more → said_of line ≡ blank
+        → commands (line ++ (end ++ more)) ≡ commands more }
+{}
+
+/// A line of at most 65,536 bytes that is a whole command is that command, and after its end come the commands of the rest.
+pub fn commands_after_a_command()
+    ensures { (line end more : List ℕ) (c : Command) → HasNoEnd line → length line ≤ 65536 → IsEndBefore end more → said_of line ≡ whole c → is_last c ≡ false
+        → commands (line ++ (end ++ more)) ≡ c ∷ commands more }
+{}
+
+/// Nothing follows a command that ends the session, as `QUIT` does.
+pub fn nothing_after_the_last_command()
+    ensures { (line end more : List ℕ) (c : Command) → HasNoEnd line → length line ≤ 65536 → IsEndBefore end more → said_of line ≡ whole c → is_last c ≡ true
+        → commands (line ++ (end ++ more)) ≡ c ∷ [] }
+{}
+
+/// 65,537 bytes of a line without an end are just a line that is too long, whatever follows.
+pub fn a_line_that_is_too_long()
+    ensures { (line more : List ℕ) → HasNoEnd line → length line ≡ 65537 → commands (line ++ more) ≡ command.LineTooLong ∷ [] }
+{}
+
+/// A line that announces n bytes of payload, and n bytes after its end, are a command whose text is just those bytes, and after them come the commands of
+/// the rest. A line end of a CR alone is one where the payload does not begin with LF.
+pub fn commands_after_a_payload()
+    ensures { (line end payload more : List ℕ) (w : Way) (handler : List ℕ) (n : ℕ) → HasNoEnd line → length line ≤ 65536 → IsEndBefore end payload
+        → said_of line ≡ announces w handler n → length payload ≡ n
+        → commands (line ++ (end ++ (payload ++ more))) ≡ text_command w handler payload ∷ commands more }
+{}
+
+/// What is to come of a session that was fed a piece is what was to come with that piece; of a new one, the commands of the stream.
+pub fn pieces_are_one_stream()
+    ensures pieces { (s : Pending) (piece more : List ℕ) → to_come (fed s piece) more ≡ to_come s (piece ++ more) }
+    ensures stream { (bytes : List ℕ) → to_come fresh bytes ≡ commands bytes }
 {}

@@ -9,8 +9,11 @@ mod line;
 mod peer;
 mod port;
 mod reply;
+mod said;
 mod serving;
 mod session;
+mod start;
+mod way;
 
 pub use command::{Answer, Command};
 pub use device::{InputDevice, OutputDevice, Reading, Writing};
@@ -18,3 +21,4 @@ pub use peer::{Failed, Sink, Source};
 pub use port::{AskFault, Port};
 pub use reply::reply_text;
 pub use serving::{Ended, ServeFault, serve};
+pub use session::Session;

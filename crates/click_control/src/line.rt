@@ -1,14 +1,16 @@
-//! Lines, and the commands that they are.
+//! The first line of some bytes, with the payload that it announces.
 
-ghost use Rattle.std.specs.Prelude.{◌≡◌, ◌<◌, ◌≤◌, ℕ, List, length, take, not, reverse, true, slice_index, IfOk, MatchOption, IsTrue};
-ghost use Rattle.std.specs.List.{prefix_len};
-ghost use Rattle.std.specs.Str.{str_eq_ignore_ascii_case};
-ghost use Rattle.click_control.specs.Commands.{is_end, from_blank, read_command, command_of};
-ghost use Rattle.click_handlers.specs.Blanks.{is_blank};
-ghost use Rattle.click_control.specs.kept.Lines.{HasNoEnd, IsFound};
+ghost use Rattle.std.specs.Prelude.{◌≡◌, ◌<◌, ◌≤◌, ℕ, List, length, take, true, slice_index, IfOk, MatchOption, Some};
+ghost use Rattle.click_control.specs.Commands.{is_end, said_of, announces, HasNoEnd};
+ghost use Rattle.click_control.specs.kept.Lines.{IsEnded, IsFound, end_length};
+ghost use Rattle.click_control.specs.declared.command.Command.TheVariants as command;
+ghost use Rattle.click_control.specs.declared.start.Start.TheVariants as start;
+ghost use Rattle.click_control.specs.declared.line.Found.TheVariants as found;
 
 use crate::command::Command;
-use click_handlers::{is_blank, trimmed, without_front};
+use crate::said::{Said, said_of, text_command};
+use crate::start::{Start, after_end, start_after};
+use crate::way::Way;
 use click_text::sequence::Sequence;
 use memchr::memchr2;
 use std::alloc::{AllocError, Global};
@@ -16,39 +18,117 @@ use std::alloc::{AllocError, Global};
 /// How many bytes a line may have before its end.
 const LONGEST_LINE: usize = 65_536;
 
-/// What bytes from the beginning of a line on tell of it.
+/// What bytes from the beginning of a line on hold.
 #[derive(Drop)]
 pub enum Found {
-    /// The end of the line has not come.
-    Partial,
-    /// The line is too long, wherever it ends.
-    TooLong,
-    /// The line's command, how many bytes it has with its end, and the end.
-    Whole {
+    /// No command is whole, and none is with fewer bytes than are wanted. The first that were searched hold no line end.
+    Partial {
+        searched: usize,
+        wanted: usize,
+    },
+    /// The first bytes are a line with what belongs to it: its command, how many bytes they are, and where the next ones begin.
+    Taken {
         command: Option<Command>,
         length: usize,
-        last: u8,
+        start: Start,
     },
 }
 
-/// Finds the end of the first line. The first bytes that were searched before hold none.
+/// Finds the first line, and its payload. The first bytes that were searched before hold no line end.
 pub fn first_line(alloc: Global, bytes: &[u8], searched: usize) -> Result<Found, AllocError>
     requires within { searched ≤ length bytes.now }
     requires no_end { HasNoEnd (take searched bytes.now) }
     ensures { IfOk result (λ found. IsFound bytes.now found) }
 {
     match line_len(bytes, searched) {
-        None if bytes.len() > LONGEST_LINE => Ok(Found::TooLong),
-        None => Ok(Found::Partial),
-        Some(length) if length > LONGEST_LINE => Ok(Found::TooLong),
-        Some(length) => {
-            let command = command_of(alloc, &bytes[..length])?;
-            Ok(Found::Whole {
-                command,
-                length: length + 1,
-                last: bytes[length],
+        None if bytes.len() > LONGEST_LINE => Ok(too_long(bytes)),
+        None => Ok(Found::Partial {
+            searched: bytes.len(),
+            wanted: 0,
+        }),
+        Some(len) if len > LONGEST_LINE => Ok(too_long(bytes)),
+        Some(len) => ended_line(alloc, bytes, len),
+    }
+}
+
+/// The same, where the first line is too long.
+fn too_long(bytes: &[u8]) -> Found
+    ensures { result ≡ found.Taken (Some command.LineTooLong) (length bytes.now) start.Over }
+{
+    Found::Taken {
+        command: Some(Command::LineTooLong),
+        length: bytes.len(),
+        start: Start::Over,
+    }
+}
+
+/// The same, where the first line has so many bytes before its end.
+fn ended_line(alloc: Global, bytes: &[u8], len: usize) -> Result<Found, AllocError>
+    requires { IsEnded bytes.now len }
+    ensures { IfOk result (λ found. IsFound bytes.now found) }
+{
+    let last = bytes[len];
+    match said_of(alloc, &bytes[..len])? {
+        Said::Blank => Ok(Found::Taken {
+            command: None,
+            length: len + 1,
+            start: after_end(last),
+        }),
+        Said::Whole(command) => {
+            let start = start_after(&command, last);
+            Ok(Found::Taken {
+                command: Some(command),
+                length: len + 1,
+                start,
             })
         }
+        Said::Announces {
+            way,
+            handler,
+            count,
+        } => payload(alloc, bytes, len, way, handler, count),
+    }
+}
+
+/// The same, where the first line announces a payload of so many bytes.
+fn payload(
+    alloc: Global,
+    bytes: &[u8],
+    len: usize,
+    way: Way,
+    handler: Sequence<u8>,
+    count: usize,
+) -> Result<Found, AllocError>
+    requires ended { IsEnded bytes.now len }
+    requires says { announces way handler count ≡ said_of (take len bytes.now) }
+    requires some { 0 < count }
+    requires small { count ≤ 1048576 }
+    ensures { IfOk result (λ found. IsFound bytes.now found) }
+{
+    let begin = len + end_len(&bytes[len..]);
+    let wanted = begin + count;
+    if bytes.len() < wanted {
+        return Ok(Found::Partial {
+            searched: len,
+            wanted,
+        });
+    }
+    let text = Sequence::of(Vec::from_slice(alloc, &bytes[begin..wanted])?);
+    Ok(Found::Taken {
+        command: Some(text_command(way, handler, text)),
+        length: wanted,
+        start: Start::Line,
+    })
+}
+
+/// How many of these bytes are the end of a line, the first of them at least: an LF after a CR belongs to the same end.
+fn end_len(bytes: &[u8]) -> usize
+    ensures { result ≡ end_length bytes.now }
+{
+    if bytes.len() > 1 && bytes[0] == b'\r' && bytes[1] == b'\n' {
+        2
+    } else {
+        1
     }
 }
 
@@ -63,59 +143,4 @@ fn line_len(bytes: &[u8], searched: usize) -> Option<usize>
         None => None,
         Some(more) => Some(searched + more),
     }
-}
-
-/// The command of a line; a blank line has none.
-pub fn command_of(alloc: Global, line: &[u8]) -> Result<Option<Command>, AllocError>
-    ensures { IfOk result (λ command. command ≡ command_of line.now) }
-{
-    let words = without_front(line);
-    let (word, rest) = words.split_at(word_len(words));
-    if word.is_empty() {
-        return Ok(None);
-    }
-    if is_word(word, b"READ") {
-        let words = without_front(rest);
-        let (handler, text) = words.split_at(word_len(words));
-        return Ok(Some(read_command(alloc, handler, text)?));
-    }
-    if is_word(word, b"QUIT") {
-        return Ok(Some(Command::Quit));
-    }
-    Ok(Some(Command::Unknown {
-        word: Sequence::of(Vec::from_slice(alloc, word)?),
-    }))
-}
-
-/// `READ` with its handler and what follows.
-fn read_command(alloc: Global, handler: &[u8], rest: &[u8]) -> Result<Command, AllocError>
-    ensures { IfOk result (λ command. command ≡ read_command handler.now rest.now) }
-{
-    if handler.is_empty() {
-        return Ok(Command::Syntax);
-    }
-    Ok(Command::Read {
-        handler: Sequence::of(Vec::from_slice(alloc, handler)?),
-        text: Sequence::of(Vec::from_slice(alloc, trimmed(rest))?),
-    })
-}
-
-/// Whether a word is that one; case does not matter.
-fn is_word(word: &[u8], known: &[u8]) -> bool
-    ensures { result ≡ str_eq_ignore_ascii_case word.now known.now }
-{
-    word.eq_ignore_ascii_case(known)
-}
-
-/// How many bytes stand before the first blank.
-fn word_len(bytes: &[u8]) -> usize
-    ensures len { result ≡ prefix_len (λ b. not (is_blank b)) bytes.now }
-    ensures within { result ≤ length bytes.now }
-{
-    for (i, byte) in bytes.iter().enumerate() {
-        if is_blank(*byte) {
-            return i;
-        }
-    }
-    bytes.len()
 }

@@ -3,10 +3,11 @@
 ghost use Rattle.std.specs.Prelude.{◌≡◌, ◌++◌, IfOk, codes};
 ghost use Rattle.std.specs.List.{before_last};
 ghost use Rattle.click_router.specs.One.{is_dot};
-ghost use Rattle.click_control.specs.ReplyText.{text_of, read_text, uncalled_text, naming, data_text, handler_text};
+ghost use Rattle.click_control.specs.ReplyText.{text_of, read_text, done_text, good_text, refused_text, failed_text, denied_text, uncalled_text, naming, data_text, handler_text};
 
 use crate::command::{Answer, Command};
 use crate::port::AskFault;
+use crate::way::Way;
 use click_handlers::HandlerFault;
 use click_router::{Refusal, Reply};
 use itoa::Buffer;
@@ -19,9 +20,16 @@ pub fn reply_text(alloc: Global, command: &Command, answer: &Answer) -> Result<V
 {
     match command {
         Command::Read { handler, .. } => read_text(alloc, handler.as_slice(), answer),
+        Command::CheckRead { handler } => {
+            done_text(alloc, Way::Read, handler.as_slice(), answer)
+        }
+        Command::Write { handler, .. } | Command::CheckWrite { handler } => {
+            done_text(alloc, Way::Write, handler.as_slice(), answer)
+        }
         Command::Quit => uncalled_text(alloc, answer, b"200 Goodbye!\r\n"),
         Command::Syntax => uncalled_text(alloc, answer, b"500 Syntax error\r\n"),
         Command::LineTooLong => uncalled_text(alloc, answer, b"500 Line too long\r\n"),
+        Command::DataTooLong => uncalled_text(alloc, answer, b"500 Data too long\r\n"),
         Command::Unknown { word } => {
             let text = naming(alloc, b"501 Unimplemented command ", word.as_slice(), b"")?;
             uncalled_text(alloc, answer, &text)
@@ -39,45 +47,115 @@ fn uncalled_text(alloc: Global, answer: &Answer, text: &[u8]) -> Result<Vec<u8>,
     }
 }
 
-/// The reply to `READ` of a handler.
+/// The reply to a read of a handler.
 fn read_text(alloc: Global, handler: &[u8], answer: &Answer) -> Result<Vec<u8>, AllocError>
     ensures { IfOk result (λ text. text.items ≡ read_text handler.now answer.now) }
 {
     match answer {
         Answer::Replied(Reply::Value(bytes)) => value_text(alloc, handler, bytes.as_slice()),
-        Answer::Replied(Reply::Refused(Refusal::NoElement)) => {
-            naming(alloc, b"510 No element named ", element_of(handler), b"")
-        }
-        Answer::Replied(Reply::Refused(Refusal::NoHandler)) => {
-            naming(alloc, b"511 No handler named ", handler, b"")
-        }
-        Answer::Replied(Reply::Refused(Refusal::WrongWay)) => {
-            naming(alloc, b"530 Handler ", handler, b" write-only")
-        }
-        Answer::Replied(Reply::Refused(Refusal::Handler(fault))) => {
-            handler_text(alloc, b"520-Read handler ", handler, *fault)
-        }
-        Answer::Failed(AskFault::NoMemory) => Vec::from_slice(alloc, b"520 Out of memory\r\n"),
-        Answer::Failed(AskFault::HistoryFull) => Vec::from_slice(alloc, b"520 History full\r\n"),
-        // What only other calls are answered.
+        Answer::Replied(Reply::Refused(why)) => refused_text(alloc, Way::Read, handler, *why),
+        Answer::Failed(fault) => failed_text(alloc, *fault),
+        Answer::NoCall => denied_text(alloc, Way::Read, handler),
         Answer::Replied(
             Reply::Done | Reply::Entered(_) | Reply::Worked(_) | Reply::Sent(_) | Reply::NoDevice,
-        )
-        | Answer::NoCall => Ok(Vec::new(alloc)),
+        ) => Ok(Vec::new(alloc)),
     }
 }
 
-/// The text of a value that was read: its length, and then just its bytes.
+/// The reply to a write, and to the question whether a handler can be used that way.
+fn done_text(
+    alloc: Global,
+    way: Way,
+    handler: &[u8],
+    answer: &Answer,
+) -> Result<Vec<u8>, AllocError>
+    ensures { IfOk result (λ text. text.items ≡ done_text way handler.now answer.now) }
+{
+    match answer {
+        Answer::Replied(Reply::Done) => good_text(alloc, way, handler),
+        Answer::Replied(Reply::Refused(why)) => refused_text(alloc, way, handler, *why),
+        Answer::Failed(fault) => failed_text(alloc, *fault),
+        Answer::NoCall => denied_text(alloc, way, handler),
+        Answer::Replied(
+            Reply::Value(_)
+            | Reply::Entered(_)
+            | Reply::Worked(_)
+            | Reply::Sent(_)
+            | Reply::NoDevice,
+        ) => Ok(Vec::new(alloc)),
+    }
+}
+
+/// The line of a read or a write that is good.
+fn good_text(alloc: Global, way: Way, handler: &[u8]) -> Result<Vec<u8>, AllocError>
+    ensures { IfOk result (λ text. text.items ≡ good_text way handler.now) }
+{
+    match way {
+        Way::Read => naming(alloc, b"200 Read handler ", handler, b" OK"),
+        Way::Write => naming(alloc, b"200 Write handler ", handler, b" OK"),
+    }
+}
+
+/// The lines of a read that has a value.
 fn value_text(alloc: Global, handler: &[u8], bytes: &[u8]) -> Result<Vec<u8>, AllocError>
     ensures { IfOk result (λ text. text.items ≡ naming (codes "200 Read handler ") handler.now (codes " OK") ++ data_text bytes.now) }
 {
     let mut digits = Buffer::new();
-    let mut text = naming(alloc, b"200 Read handler ", handler, b" OK")?;
+    let mut text = good_text(alloc, Way::Read, handler)?;
     text.extend_from_slice(b"DATA ")?;
     text.extend_from_slice(digits.format(bytes.len()).as_bytes())?;
     text.extend_from_slice(b"\r\n")?;
     text.extend_from_slice(bytes)?;
     Ok(text)
+}
+
+/// Why a read or a write was refused.
+fn refused_text(
+    alloc: Global,
+    way: Way,
+    handler: &[u8],
+    why: Refusal,
+) -> Result<Vec<u8>, AllocError>
+    ensures { IfOk result (λ text. text.items ≡ refused_text way handler.now why) }
+{
+    match (way, why) {
+        (Way::Read | Way::Write, Refusal::NoElement) => {
+            naming(alloc, b"510 No element named ", element_of(handler), b"")
+        }
+        (Way::Read | Way::Write, Refusal::NoHandler) => {
+            naming(alloc, b"511 No handler named ", handler, b"")
+        }
+        (Way::Read, Refusal::WrongWay) => {
+            naming(alloc, b"530 Handler ", handler, b" write-only")
+        }
+        (Way::Write, Refusal::WrongWay) => naming(alloc, b"530 Handler ", handler, b" read-only"),
+        (Way::Read, Refusal::Handler(fault)) => {
+            handler_text(alloc, b"520-Read handler ", handler, fault)
+        }
+        (Way::Write, Refusal::Handler(fault)) => {
+            handler_text(alloc, b"520-Write handler ", handler, fault)
+        }
+    }
+}
+
+/// Why there was no reply.
+fn failed_text(alloc: Global, fault: AskFault) -> Result<Vec<u8>, AllocError>
+    ensures { IfOk result (λ text. text.items ≡ failed_text fault) }
+{
+    match fault {
+        AskFault::NoMemory => Vec::from_slice(alloc, b"520 Out of memory\r\n"),
+        AskFault::HistoryFull => Vec::from_slice(alloc, b"520 History full\r\n"),
+    }
+}
+
+/// Where a session may not make the call: it may always read.
+fn denied_text(alloc: Global, way: Way, handler: &[u8]) -> Result<Vec<u8>, AllocError>
+    ensures { IfOk result (λ text. text.items ≡ denied_text way handler.now) }
+{
+    match way {
+        Way::Read => Ok(Vec::new(alloc)),
+        Way::Write => naming(alloc, b"530 Permission denied for ", handler, b""),
+    }
 }
 
 /// The lines of a handler's own fault.

@@ -2,17 +2,17 @@
 
 ghost use Rattle.std.specs.Prelude.{◌≡◌, ◌++◌, ◌<◌, ℕ, List, [], false, true, length, IfNone, IfOk, OnOk, OnErr};
 ghost use Rattle.click_control.specs.Serving.{Serves, Answered, call_of};
-ghost use Rattle.click_control.specs.Commands.{Pending, to_come};
+ghost use Rattle.click_control.specs.Taking.{Pending, GivesOne, to_come};
 ghost use Rattle.click_control.specs.Peers.{Input, Output, HasWritten};
-ghost use Rattle.click_control.specs.kept.Lines.{YieldsOne};
 ghost use Rattle.click_control.specs.kept.Going.{SoFar, Goes, Written, WroteFront, TakesIn, ending_of};
 ghost use Rattle.click_control.specs.ReplyText.{text_of, greeting};
+ghost use Rattle.click_control.specs.declared.command.Answer.{Answer};
 
 use crate::command::{Answer, Command};
 use crate::peer::{Failed, Sink, Source};
 use crate::port::Port;
 use crate::reply::reply_text;
-use crate::session::{Line, Session};
+use crate::session::Session;
 use click_router::Call;
 use click_text::sequence::Sequence;
 use std::alloc::{AllocError, Global};
@@ -25,7 +25,7 @@ pub enum Ended {
     Quit,
     /// At the end of its input.
     EndOfInput,
-    /// By a line that is too long.
+    /// By a line or a payload that is too long.
     TooLong,
 }
 
@@ -49,7 +49,7 @@ const PIECE: usize = 4096;
 
 /// Greets, and answers each command as soon as it is whole, before the next read. Bytes may come in any pieces.
 ///
-/// A read-only session refuses what would change the router; no command does so yet.
+/// A read-only session makes no call for `WRITE`, `WRITEDATA` and `CHECKWRITE`: it denies them.
 pub fn serve<R: Source, W: Sink, P: Port>(
     alloc: Global,
     reader: &mut R,
@@ -57,10 +57,8 @@ pub fn serve<R: Source, W: Sink, P: Port>(
     port: &mut P,
     readonly: bool,
 ) -> Result<Ended, ServeFault>
-    ensures { Serves P.asks port.old port.new (R.input reader.old) (R.input reader.new) (W.output writer.old) (W.output writer.new) result }
+    ensures { Serves P.asks readonly port.old port.new (R.input reader.old) (R.input reader.new) (W.output writer.old) (W.output writer.new) result }
 {
-    // No command changes the router yet, so there is none to refuse.
-    let _ = readonly;
     greet(writer)?;
     let mut session = Session::new(alloc);
     let mut piece = [0; PIECE];
@@ -68,7 +66,7 @@ pub fn serve<R: Source, W: Sink, P: Port>(
         if !take_in(reader, &mut piece, &mut session)? {
             return Ok(Ended::EndOfInput);
         }
-        if let Some(ended) = answer_whole(alloc, writer, port, &mut session)? {
+        if let Some(ended) = answer_whole(alloc, writer, port, readonly, &mut session)? {
             return Ok(ended);
         }
     }
@@ -109,19 +107,19 @@ fn answer_whole<W: Sink, P: Port>(
     alloc: Global,
     writer: &mut W,
     port: &mut P,
+    readonly: bool,
     session: &mut Session,
 ) -> Result<Option<Ended>, ServeFault>
     ensures goes { (first : P) (had left : Input) (held : Output) (reads : ℕ)
-        → SoFar P.asks first port.old had left held (W.output writer.old) session.old reads
-        → Goes P.asks first port.new had left held (W.output writer.new) session.new reads result }
+        → SoFar P.asks readonly first port.old had left held (W.output writer.old) session.old reads
+        → Goes P.asks readonly first port.new had left held (W.output writer.new) session.new reads result }
     ensures all_taken { IfOk result (λ ended. IfNone ended (to_come session.new [] ≡ [])) }
 {
     loop {
-        match session.line(alloc) {
+        match session.next(alloc) {
             Err(_) => return Err(ServeFault::NoMemory),
-            Ok(Line::Partial) => return Ok(None),
-            Ok(Line::Blank) => {}
-            Ok(Line::Whole(command)) => match take_up(alloc, writer, port, command) {
+            Ok(None) => return Ok(None),
+            Ok(Some(command)) => match take_up(alloc, writer, port, readonly, command) {
                 Ok(None) => {}
                 Ok(Some(ended)) => return Ok(Some(ended)),
                 Err(fault) => return Err(fault),
@@ -135,33 +133,71 @@ fn take_up<W: Sink, P: Port>(
     alloc: Global,
     writer: &mut W,
     port: &mut P,
+    readonly: bool,
     command: Command,
 ) -> Result<Option<Ended>, ServeFault>
     ensures { (first : P) (had left : Input) (held : Output) (old new : Pending) (reads : ℕ)
-        → SoFar P.asks first port.old had left held (W.output writer.old) old reads
-        → YieldsOne old new command
-        → Goes P.asks first port.new had left held (W.output writer.new) new reads result }
+        → SoFar P.asks readonly first port.old had left held (W.output writer.old) old reads
+        → GivesOne old new command
+        → Goes P.asks readonly first port.new had left held (W.output writer.new) new reads result }
 {
-    let Ok(call) = call_of(alloc, &command) else {
+    let ending = ending_of(&command);
+    let Ok((call, command)) = call_of(alloc, readonly, command) else {
         return Err(ServeFault::NoMemory);
     };
     let answer = ask(alloc, port, call);
     reply(alloc, writer, &command, &answer)?;
-    Ok(ending_of(&command))
+    Ok(ending)
 }
 
-/// The call that a command makes.
-fn call_of(alloc: Global, command: &Command) -> Result<Option<Call>, AllocError>
-    ensures { IfOk result (λ call. call ≡ call_of command.now) }
+/// The call that a command makes, and the command for its reply: the text goes into the call, since no reply needs it.
+fn call_of(
+    alloc: Global,
+    readonly: bool,
+    command: Command,
+) -> Result<(Option<Call>, Command), AllocError>
+    ensures call { IfOk result (λ parts. parts.0 ≡ call_of readonly command) }
+    ensures replies { IfOk result (λ parts. (answer : Answer) → text_of parts.1 answer ≡ text_of command answer) }
 {
     match command {
-        Command::Read { handler, text } => Ok(Some(Call::Read {
-            name: copy(alloc, handler)?,
-            text: copy(alloc, text)?,
-        })),
-        Command::Quit | Command::Syntax | Command::LineTooLong | Command::Unknown { .. } => {
-            Ok(None)
+        Command::Write { .. } | Command::CheckWrite { .. } if readonly => Ok((None, command)),
+        Command::Read { handler, text } => {
+            let name = copy(alloc, &handler)?;
+            let text_left = Sequence::new(alloc);
+            let command = Command::Read {
+                handler,
+                text: text_left,
+            };
+            Ok((Some(Call::Read { name, text }), command))
         }
+        Command::Write { handler, text } => {
+            let name = copy(alloc, &handler)?;
+            let text_left = Sequence::new(alloc);
+            let command = Command::Write {
+                handler,
+                text: text_left,
+            };
+            Ok((Some(Call::Write { name, text }), command))
+        }
+        Command::CheckRead { handler } => {
+            let name = copy(alloc, &handler)?;
+            Ok((
+                Some(Call::CheckRead { name }),
+                Command::CheckRead { handler },
+            ))
+        }
+        Command::CheckWrite { handler } => {
+            let name = copy(alloc, &handler)?;
+            Ok((
+                Some(Call::CheckWrite { name }),
+                Command::CheckWrite { handler },
+            ))
+        }
+        Command::Quit
+        | Command::Syntax
+        | Command::LineTooLong
+        | Command::DataTooLong
+        | Command::Unknown { .. } => Ok((None, command)),
     }
 }
 
@@ -223,7 +259,12 @@ fn ending_of(command: &Command) -> Option<Ended>
 {
     match command {
         Command::Quit => Some(Ended::Quit),
-        Command::LineTooLong => Some(Ended::TooLong),
-        Command::Read { .. } | Command::Syntax | Command::Unknown { .. } => None,
+        Command::LineTooLong | Command::DataTooLong => Some(Ended::TooLong),
+        Command::Read { .. }
+        | Command::Write { .. }
+        | Command::CheckRead { .. }
+        | Command::CheckWrite { .. }
+        | Command::Syntax
+        | Command::Unknown { .. } => None,
     }
 }

@@ -1,29 +1,19 @@
 //! The commands of a session's bytes, as they come.
 
-ghost use Rattle.std.specs.Prelude.{◌≡◌, ◌++◌, ℕ, List, [], ◌≤◌, length, drop, IfOk, OnOk, OnErr, MatchOption, Option};
-ghost use Rattle.click_control.specs.Commands.{fresh, in_line, after_end, after_line, commands_from};
-ghost use Rattle.click_control.specs.kept.Lines.{TakesLine, reading_of};
+ghost use Rattle.std.specs.Prelude.{◌≡◌, ◌≤◌, length, drop, IfOk, OnOk, OnErr};
+ghost use Rattle.click_control.specs.Taking.{fresh, fed, GivesNext, GivesNone};
+ghost use Rattle.click_control.specs.kept.Lines.{TakesLine};
 
 use crate::command::Command;
 use crate::line::{Found, first_line};
+use crate::start::{Start, line_start};
 use std::alloc::{AllocError, Global};
 use std::marker::Model;
 
-/// Where the bytes that are left begin.
-#[derive(Clone, Copy, Debug, PartialEq, Eq)]
-enum Start {
-    /// At the beginning of a line.
-    Line,
-    /// After a CR that ended a line: an LF belongs to that end.
-    AfterReturn,
-    /// After a command that nothing follows.
-    Over,
-}
-
 /// What a session says of its next line.
 #[derive(Drop)]
-pub enum Line {
-    /// It has not come, or not to its end.
+enum Line {
+    /// It has not come, or not with all that belongs to it.
     Partial,
     /// It is blank.
     Blank,
@@ -31,19 +21,21 @@ pub enum Line {
     Whole(Command),
 }
 
-/// The bytes of a session that are not taken up yet.
+/// A session's stream: its bytes go in as they come, in any pieces, and its commands come out one after another (Click manual, "ControlSocket").
 #[derive(Drop)]
 pub struct Session {
     buffer: Vec<u8>,
-    /// Where in the buffer those bytes begin.
+    /// Where in the buffer the bytes begin that are not taken up yet.
     at: usize,
     /// How many of them are known to hold no line end.
     searched: usize,
+    /// How many of them the next command has at least, as far as that is known.
+    wanted: usize,
     start: Start,
 }
 
 impl Model for Session {
-    ghost use Rattle.click_control.specs.Commands.{Pending};
+    ghost use Rattle.click_control.specs.Taking.{Pending};
 
     ghost Value = { Pending };
 
@@ -52,11 +44,11 @@ impl Model for Session {
 
     ghost view = { λ s. record { from = reading_of s.start; bytes = drop s.at s.buffer.items } };
 
-    ghost invariant = { λ s. IsPlaced s.at s.searched s.buffer.items };
+    ghost invariant = { λ s. IsPlaced s.at s.searched s.wanted (reading_of s.start) s.buffer.items };
 }
 
 impl Session {
-    /// At the beginning of a stream.
+    /// At the beginning of a stream. It takes no memory.
     pub fn new(alloc: Global) -> Self
         ensures { result ≡ fresh }
     {
@@ -64,51 +56,76 @@ impl Session {
             buffer: Vec::new(alloc),
             at: 0,
             searched: 0,
+            wanted: 0,
             start: Start::Line,
         }
     }
 
-    /// Takes in the next bytes of the stream.
+    /// Takes in the next bytes of the stream; after `QUIT`, and after a line or a payload that is too long, it takes none.
+    ///
+    /// Where memory runs out the session is as it was.
     pub fn feed(&mut self, piece: &[u8]) -> Result<(), AllocError>
-        ensures ok { OnOk result (self.new ≡ record { from = self.old.from; bytes = self.old.bytes ++ piece.now }) }
+        ensures ok { OnOk result (self.new ≡ fed self.old piece.now) }
         ensures err { OnErr result (self.new ≡ self.old) }
     {
-        drop_front(&mut self.buffer, self.at);
-        self.at = 0;
+        if self.start == Start::Over {
+            return Ok(());
+        }
+        // No byte is moved that another was not taken up for.
+        if self.buffer.len() - self.at <= self.at {
+            drop_front(&mut self.buffer, self.at);
+            self.at = 0;
+        }
         self.buffer.extend_from_slice(piece)
     }
 
-    /// Takes up the next line, where it is whole or too long.
-    pub fn line(&mut self, alloc: Global) -> Result<Line, AllocError>
+    /// The next command; none where none is whole of what was fed.
+    ///
+    /// Where memory runs out the command is still to come.
+    pub fn next(&mut self, alloc: Global) -> Result<Option<Command>, AllocError>
+        ensures ok { IfOk result (λ command. GivesNext self.old self.new command) }
+        ensures err { OnErr result (GivesNone self.old self.new) }
+    {
+        loop {
+            match self.line(alloc) {
+                Err(error) => return Err(error),
+                Ok(Line::Partial) => return Ok(None),
+                Ok(Line::Blank) => {}
+                Ok(Line::Whole(command)) => return Ok(Some(command)),
+            }
+        }
+    }
+
+    /// Takes up the next line, where it is there with what belongs to it, or too long.
+    fn line(&mut self, alloc: Global) -> Result<Line, AllocError>
         ensures ok { IfOk result (λ line. TakesLine self.old self.new line) }
         ensures err { OnErr result (self.new ≡ self.old) }
     {
+        if self.buffer.len() - self.at < self.wanted {
+            return Ok(Line::Partial);
+        }
         let Some(skipped) = line_start(self.start, &self.buffer[self.at..]) else {
             return Ok(Line::Partial);
         };
         let begin = self.at + skipped;
         let searched = if skipped == 0 { self.searched } else { 0 };
         match first_line(alloc, &self.buffer[begin..], searched)? {
-            Found::Partial => {
+            Found::Partial { searched, wanted } => {
                 self.at = begin;
-                self.searched = self.buffer.len() - begin;
+                self.searched = searched;
+                self.wanted = wanted;
                 self.start = Start::Line;
                 Ok(Line::Partial)
             }
-            Found::TooLong => {
-                self.at = self.buffer.len();
-                self.searched = 0;
-                self.start = Start::Over;
-                Ok(Line::Whole(Command::LineTooLong))
-            }
-            Found::Whole {
+            Found::Taken {
                 command,
                 length,
-                last,
+                start,
             } => {
                 self.at = begin + length;
                 self.searched = 0;
-                self.start = start_after(&command, last);
+                self.wanted = 0;
+                self.start = start;
                 Ok(match command {
                     None => Line::Blank,
                     Some(command) => Line::Whole(command),
@@ -127,48 +144,5 @@ fn drop_front(buffer: &mut Vec<u8>, count: usize)
         let rest = buffer.len() - count;
         buffer.copy_within(count.., 0);
         buffer.truncate(rest);
-    }
-}
-
-/// How many bytes stand before the next line; `None` where that has not begun, and never will after the last command.
-fn line_start(start: Start, bytes: &[u8]) -> Option<usize>
-    ensures { MatchOption result (commands_from (reading_of start) bytes.now ≡ [])
-        (λ n. (n ≤ length bytes.now) × ((more : List ℕ) → commands_from (reading_of start) (bytes.now ++ more) ≡ commands_from (in_line []) (drop n bytes.now ++ more))) }
-{
-    match start {
-        Start::Line => Some(0),
-        Start::AfterReturn => {
-            if bytes.is_empty() {
-                None
-            } else if bytes[0] == b'\n' {
-                Some(1)
-            } else {
-                Some(0)
-            }
-        }
-        Start::Over => None,
-    }
-}
-
-/// Where the bytes after an end of a line begin.
-fn after_end(last: u8) -> Start
-    ensures { reading_of result ≡ after_end last }
-{
-    if last == b'\r' {
-        Start::AfterReturn
-    } else {
-        Start::Line
-    }
-}
-
-/// Where the bytes after a line begin.
-fn start_after(command: &Option<Command>, last: u8) -> Start
-    ensures { reading_of result ≡ after_line command.now last }
-{
-    match command {
-        Some(Command::Quit | Command::LineTooLong) => Start::Over,
-        None | Some(Command::Read { .. } | Command::Syntax | Command::Unknown { .. }) => {
-            after_end(last)
-        }
     }
 }

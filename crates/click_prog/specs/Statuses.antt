@@ -1,5 +1,5 @@
 -- How the program ends.
-use Rattle.std.specs.Prelude.{◌≡◌, ℕ, List, Option, false, Result, Ok, Err}
+use Rattle.std.specs.Prelude.{◌≡◌, ℕ, List, Bool, Option, false, Result, Ok, Err}
 use Rattle.std.specs.declared.io.ErrorKind.{ErrorKind}
 use Rattle.std.specs.declared.io.ErrorKind.TheVariants as io
 use Rattle.click_router.specs.declared.fault.FaultKind.{FaultKind}
@@ -45,9 +45,9 @@ unread_status io.OutOfMemory = status.NoMemory
 unread_status _ = status.WrongArguments
 
 -- A run over the text with this reader and this writer, each before and after it, and its status.
-pub record RunsTo (text : List ℕ) (had left : Input) (held holds : Output) (s : Status) : Type 0 where
+pub record RunsTo (text : List ℕ) (readonly : Bool) (had left : Input) (held holds : Output) (s : Status) : Type 0 where
   pub result : Result Ended RunFault
-  pub runs : Runs text had left held holds result
+  pub runs : Runs text readonly had left held holds result
   pub is : s ≡ status_of result
 
 -- A reader that has neither read nor failed, and a writer that has not failed, with these bytes.

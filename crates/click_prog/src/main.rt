@@ -10,7 +10,7 @@ mod run;
 #[cfg(test)]
 mod tests;
 
-use arguments::configuration;
+use arguments::options_of;
 use clap::error::ErrorKind;
 use click_control::{Ended, InputDevice, OutputDevice, Reading, ServeFault, Sink, Source, Writing};
 use click_handlers::{Table, TakesTable, with_table};
@@ -60,10 +60,14 @@ fn program(rt: &HostRuntime) -> Status {
     let Ok(words) = words.collect::<Vec<String>>(alloc) else {
         return Status::NoMemory;
     };
-    match configuration(alloc, words.as_slice()) {
-        Ok(text) => {
-            let text = text.unwrap().as_bytes();
-            match with_table(alloc, Serving { rt, text }) {
+    match options_of(alloc, words.as_slice()) {
+        Ok(options) => {
+            let serving = Serving {
+                rt,
+                text: options.text.unwrap().as_bytes(),
+                readonly: options.readonly,
+            };
+            match with_table(alloc, serving) {
                 Ok(status) => status,
                 Err(_) => Status::NoMemory,
             }
@@ -89,11 +93,12 @@ fn unread(rt: &HostRuntime, kind: io::ErrorKind) -> Status
     Status::WrongArguments
 }
 
-/// One session on standard input and output, over the router of this text.
+/// One session on standard input and output, over the router of this text; it may be one that only reads.
 #[derive(Drop)]
 struct Serving<'a> {
     rt: &'a HostRuntime,
     text: &'a [u8],
+    readonly: bool,
 }
 
 impl<'a> TakesTable for Serving<'a> {
@@ -108,6 +113,7 @@ impl<'a> TakesTable for Serving<'a> {
             rt.stdout(),
             &mut rt.stderr(),
             self.text,
+            self.readonly,
         );
         status
     }
@@ -122,13 +128,22 @@ fn session<T: Handlers + Drop, I: InputDevice, O: OutputDevice, E: Write>(
     output: O,
     errors: &mut E,
     text: &[u8],
+    readonly: bool,
 ) -> (Status, Reading<I>, Writing<O>)
-    ensures { RunsTo text.now (fresh_input (I.remaining input)) (⟦<Reading<I> as Source>⟧.input result.1)
+    ensures { RunsTo text.now readonly (fresh_input (I.remaining input)) (⟦<Reading<I> as Source>⟧.input result.1)
         (fresh_output (O.contents output)) (⟦<Writing<O> as Sink>⟧.output result.2) result.0 }
 {
     let mut reader = Reading::new(input);
     let mut writer = Writing::new(output);
-    let status = serve_text(alloc, table, &mut reader, &mut writer, errors, text);
+    let status = serve_text(
+        alloc,
+        table,
+        &mut reader,
+        &mut writer,
+        errors,
+        text,
+        readonly,
+    );
     (status, reader, writer)
 }
 
@@ -140,10 +155,11 @@ fn serve_text<T: Handlers + Drop, R: Source, W: Sink, E: Write>(
     writer: &mut W,
     errors: &mut E,
     text: &[u8],
+    readonly: bool,
 ) -> Status
-    ensures { RunsTo text.now (R.input reader.old) (R.input reader.new) (W.output writer.old) (W.output writer.new) result }
+    ensures { RunsTo text.now readonly (R.input reader.old) (R.input reader.new) (W.output writer.old) (W.output writer.new) result }
 {
-    let ended = run(alloc, table, reader, writer, text, false);
+    let ended = run(alloc, table, reader, writer, text, readonly);
     if let Err(RunFault::Config(fault)) = &ended {
         refuse(alloc, errors, fault);
     }

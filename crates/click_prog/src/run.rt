@@ -20,7 +20,7 @@ pub enum RunFault {
 
 /// Opens the router of a text and serves one session over it.
 ///
-/// The session's answers are those of one thread that begins with what the text opens.
+/// The session's answers are those of one thread that begins with what the text opens. A read-only session makes no call that would write.
 pub fn run<T: Handlers + Drop, R: Source, W: Sink>(
     alloc: Global,
     table: T,
@@ -29,7 +29,7 @@ pub fn run<T: Handlers + Drop, R: Source, W: Sink>(
     text: &[u8],
     readonly: bool,
 ) -> Result<Ended, RunFault>
-    ensures { Runs text.now (R.input reader.old) (R.input reader.new) (W.output writer.old) (W.output writer.new) result }
+    ensures { Runs text.now readonly (R.input reader.old) (R.input reader.new) (W.output writer.old) (W.output writer.new) result }
 {
     let mut router = match prepare(alloc, text) {
         Ok(prepared) => Router::open(table, prepared),

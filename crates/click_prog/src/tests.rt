@@ -46,6 +46,7 @@ struct Asked<'a> {
     text: &'a [u8],
     reader: Script<'a>,
     writer: Keeper,
+    readonly: bool,
 }
 
 impl<'a> TakesTable for Asked<'a> {
@@ -57,8 +58,9 @@ impl<'a> TakesTable for Asked<'a> {
             text,
             mut reader,
             mut writer,
+            readonly,
         } = self;
-        let ended = run(alloc, table, &mut reader, &mut writer, text, false);
+        let ended = run(alloc, table, &mut reader, &mut writer, text, readonly);
         (ended, writer.kept())
     }
 }
@@ -70,12 +72,17 @@ fn ran(
     reader: Script<'_>,
     writer: Keeper,
 ) -> Result<(Result<Ended, RunFault>, Vec<u8>), Fail> {
-    let asked = Asked {
+    ran_as(Asked {
         alloc,
         text,
         reader,
         writer,
-    };
+        readonly: false,
+    })
+}
+
+fn ran_as(asked: Asked<'_>) -> Result<(Result<Ended, RunFault>, Vec<u8>), Fail> {
+    let alloc = asked.alloc;
     Ok(with_table(alloc, asked)?)
 }
 
@@ -160,6 +167,34 @@ fn tells_what_is_wrong(rt: HostRuntime) -> Result<(), Fail> {
     let (end, written) = talk(alloc, b"READ c.count")?;
     assert_eq!(rt; end, End::EndOfInput);
     assert_eq!(rt; written.as_slice(), GREETING);
+    Ok(())
+}
+
+/// Writes and checks, and payloads; and a read-only session, which changes nothing.
+#[test]
+fn writes_a_switch(rt: HostRuntime) -> Result<(), Fail> {
+    let alloc = rt.alloc();
+    let text = b"Idle -> s :: Switch(0) -> Discard; s [1] -> Discard;".as_slice();
+    let input =
+        b"WRITE s.switch 1\nREAD s.switch\nCHECKWRITE s.switch\nWRITEDATA s.switch 2\r\n-1READ s.switch\r\nWRITE s.switch 2\n".as_slice();
+    let writes =
+        b"200 Write handler 's.switch' OK\r\n200 Read handler 's.switch' OK\r\nDATA 1\r\n1200 Write handler 's.switch' OK\r\n200 Write handler 's.switch' OK\r\n200 Read handler 's.switch' OK\r\nDATA 2\r\n-1520-Write handler 's.switch' error:\r\n520 out of range\r\n".as_slice();
+    let denied =
+        b"530 Permission denied for 's.switch'\r\n200 Read handler 's.switch' OK\r\nDATA 1\r\n0530 Permission denied for 's.switch'\r\n530 Permission denied for 's.switch'\r\n200 Read handler 's.switch' OK\r\nDATA 1\r\n0530 Permission denied for 's.switch'\r\n".as_slice();
+    for (readonly, wanted) in [(false, writes), (true, denied)] {
+        let (ended, written) = ran_as(Asked {
+            alloc,
+            text,
+            reader: Script::new(input, 5, 0),
+            writer: Keeper::new(alloc, 4096, 0),
+            readonly,
+        })?;
+        assert_eq!(rt; end_of(ended), End::EndOfInput);
+        assert_eq!(rt;
+            written.as_slice(),
+            joined(alloc, &[GREETING, wanted])?.as_slice()
+        );
+    }
     Ok(())
 }
 

@@ -1,6 +1,9 @@
 //! Sessions with a port, a reader and a writer in memory.
 
-use click_control::{AskFault, Ended, Failed, Port, Reading, ServeFault, Writing, serve};
+use click_control::{
+    AskFault, Command, Ended, Failed, Port, Reading, ServeFault, Session, Writing, serve,
+};
+use click_handlers::HandlerFault;
 use click_router::{Call, Refusal, Reply};
 use click_text::sequence::Sequence;
 use std::alloc::{AllocError, Global};
@@ -11,34 +14,65 @@ use std::test::Fail;
 /// How many bytes the largest value has.
 const LARGE: usize = 70_000;
 
-/// A port with one counter `c` that has seen nothing, and a value of many bytes.
+/// A port with one element `c`, which counts its calls. `c.count` and `c.large` can be read, `c.echo` gives its text back, `c.reset_counts` can be
+/// written, and `c.two` with a text of two bytes.
 #[derive(Drop)]
-struct OneCounter;
+struct OneCounter {
+    calls: usize,
+}
+
+/// The value of some bytes.
+fn value(bytes: Result<Vec<u8>, AllocError>) -> Result<Reply, AskFault> {
+    match bytes {
+        Ok(bytes) => Ok(Reply::Value(Sequence::of(bytes))),
+        Err(_) => Err(AskFault::NoMemory),
+    }
+}
+
+fn read_of(alloc: Global, name: &[u8], text: &[u8]) -> Result<Reply, AskFault> {
+    if name == b"c.count".as_slice() {
+        value(Vec::from_slice(alloc, b"0"))
+    } else if name == b"c.echo".as_slice() {
+        value(Vec::from_slice(alloc, text))
+    } else if name == b"c.large".as_slice() {
+        value(vec![in alloc; b'x'; LARGE])
+    } else if name == b"c.late".as_slice() {
+        Err(AskFault::HistoryFull)
+    } else if name == b"c.reset_counts".as_slice() {
+        Ok(Reply::Refused(Refusal::WrongWay))
+    } else if name == b"c.none".as_slice() {
+        Ok(Reply::Refused(Refusal::NoHandler))
+    } else {
+        Ok(Reply::Refused(Refusal::NoElement))
+    }
+}
+
+fn write_of(name: &[u8], text: &[u8]) -> Reply {
+    if name == b"c.count".as_slice() {
+        Reply::Refused(Refusal::WrongWay)
+    } else if name == b"c.two".as_slice() && text.len() != 2 {
+        Reply::Refused(Refusal::Handler(HandlerFault::OutOfRange))
+    } else {
+        Reply::Done
+    }
+}
 
 impl Port for OneCounter {
     ghost asks = { λ _ _ _ _. Unit {0} };
 
     fn ask(&mut self, alloc: Global, call: Call) -> Result<Reply, AskFault> {
-        let Call::Read { name, text: _ } = call else {
-            return Ok(Reply::NoDevice);
-        };
-        let name = name.as_slice();
-        if name == b"c.count".as_slice() {
-            match Vec::from_slice(alloc, b"0") {
-                Ok(value) => Ok(Reply::Value(Sequence::of(value))),
-                Err(_) => Err(AskFault::NoMemory),
+        self.calls = self.calls.saturating_add(1);
+        match call {
+            Call::Read { name, text } => read_of(alloc, name.as_slice(), text.as_slice()),
+            Call::CheckRead { name } => match read_of(alloc, name.as_slice(), b"") {
+                Ok(Reply::Value(_)) => Ok(Reply::Done),
+                reply => reply,
+            },
+            Call::Write { name, text } => Ok(write_of(name.as_slice(), text.as_slice())),
+            Call::CheckWrite { name } => Ok(write_of(name.as_slice(), b"ab")),
+            Call::Arrive { .. } | Call::Poll { .. } | Call::Round | Call::Transmit { .. } => {
+                Ok(Reply::NoDevice)
             }
-        } else if name == b"c.none".as_slice() {
-            Ok(Reply::Refused(Refusal::NoHandler))
-        } else if name == b"c.late".as_slice() {
-            Err(AskFault::HistoryFull)
-        } else if name == b"c.large".as_slice() {
-            match vec![in alloc; b'x'; LARGE] {
-                Ok(value) => Ok(Reply::Value(Sequence::of(value))),
-                Err(_) => Err(AskFault::NoMemory),
-            }
-        } else {
-            Ok(Reply::Refused(Refusal::NoElement))
         }
     }
 }
@@ -116,7 +150,13 @@ fn session(
 ) -> (Result<Ended, ServeFault>, Vec<u8>) {
     let mut reader = Reading::new(reader);
     let mut writer = Writing::new(writer);
-    let ended = serve(alloc, &mut reader, &mut writer, &mut OneCounter, false);
+    let ended = serve(
+        alloc,
+        &mut reader,
+        &mut writer,
+        &mut OneCounter { calls: 0 },
+        false,
+    );
     (ended, writer.into_inner().taken)
 }
 
@@ -136,7 +176,80 @@ type SessionRow<'a> = (&'a [u8], Ended, &'a [u8]);
 const WANTED: &[u8] =
     b"200 Read handler 'c.count' OK\r\nDATA 1\r\n0501 Unimplemented command 'FOO'\r\n200 Goodbye!\r\n";
 
-const SESSIONS: [SessionRow<'_>; 15] = [
+const PAYLOADS: [SessionRow<'_>; 16] = [
+    (
+        b"READDATA c.echo 3\nabcFOO\n",
+        Ended::EndOfInput,
+        b"200 Read handler 'c.echo' OK\r\nDATA 3\r\nabc501 Unimplemented command 'FOO'\r\n",
+    ),
+    // An LF after a CR belongs to the end of the line, and any other to the payload; after that the next line begins at once.
+    (
+        b"READDATA c.echo 3\r\na\r\nQUIT\r\n",
+        Ended::Quit,
+        b"200 Read handler 'c.echo' OK\r\nDATA 3\r\na\r\n200 Goodbye!\r\n",
+    ),
+    (
+        b"readdata c.echo 2\r\n\n\nQUIT\r",
+        Ended::Quit,
+        b"200 Read handler 'c.echo' OK\r\nDATA 2\r\n\n\n200 Goodbye!\r\n",
+    ),
+    (
+        b"READDATA c.echo 2\n\n\nQUIT\n",
+        Ended::Quit,
+        b"200 Read handler 'c.echo' OK\r\nDATA 2\r\n\n\n200 Goodbye!\r\n",
+    ),
+    (
+        b"READDATA c.echo 2\r\r\nQUIT\r",
+        Ended::Quit,
+        b"200 Read handler 'c.echo' OK\r\nDATA 2\r\n\r\n200 Goodbye!\r\n",
+    ),
+    (
+        b"READDATA c.echo 1\na\nQUIT\n",
+        Ended::Quit,
+        b"200 Read handler 'c.echo' OK\r\nDATA 1\r\na200 Goodbye!\r\n",
+    ),
+    (
+        b"READDATA c.echo 0\r\nQUIT\n",
+        Ended::Quit,
+        b"200 Read handler 'c.echo' OK\r\nDATA 0\r\n200 Goodbye!\r\n",
+    ),
+    (
+        b" WriteData\tc.two 0000000000000000000000002 \nQU",
+        Ended::EndOfInput,
+        b"200 Write handler 'c.two' OK\r\n",
+    ),
+    (
+        b"WRITEDATA c.two 3\nabc",
+        Ended::EndOfInput,
+        b"520-Write handler 'c.two' error:\r\n520 out of range\r\n",
+    ),
+    // The payload has not come, or not all of it.
+    (b"WRITEDATA c.two 2\n", Ended::EndOfInput, b""),
+    (b"WRITEDATA c.two 2\r\n\n", Ended::EndOfInput, b""),
+    (
+        b"READDATA c.echo 1x\nREADDATA c.echo\nREADDATA 1\nREADDATA\nREADDATA c.echo 1 2\n",
+        Ended::EndOfInput,
+        b"500 Syntax error\r\n500 Syntax error\r\n500 Syntax error\r\n500 Syntax error\r\n500 Syntax error\r\n",
+    ),
+    (
+        b"WRITEDATA c.two -2\nWRITEDATA c.two +2\nWRITEDATA c.two 0x2\n",
+        Ended::EndOfInput,
+        b"500 Syntax error\r\n500 Syntax error\r\n500 Syntax error\r\n",
+    ),
+    (b"WRITEDATA c.two 1048576\nab", Ended::EndOfInput, b""),
+    (
+        b"readdata c.count 1048577\nQUIT\n",
+        Ended::TooLong,
+        b"500 Data too long\r\n",
+    ),
+    (
+        b"WRITEDATA c.two 18446744073709551617\n",
+        Ended::TooLong,
+        b"500 Data too long\r\n",
+    ),
+];
+
+const SESSIONS: [SessionRow<'_>; 24] = [
     (
         b"READ x.count\r\n",
         Ended::EndOfInput,
@@ -153,6 +266,51 @@ const SESSIONS: [SessionRow<'_>; 15] = [
         b"511 No handler named 'c.none'\r\n",
     ),
     (b"READ c.late\n", Ended::EndOfInput, b"520 History full\r\n"),
+    (
+        b"READ c.reset_counts\n",
+        Ended::EndOfInput,
+        b"530 Handler 'c.reset_counts' write-only\r\n",
+    ),
+    (
+        b"write c.reset_counts now\n",
+        Ended::EndOfInput,
+        b"200 Write handler 'c.reset_counts' OK\r\n",
+    ),
+    (
+        b"WRITE c.count 1\n",
+        Ended::EndOfInput,
+        b"530 Handler 'c.count' read-only\r\n",
+    ),
+    (
+        b"WRITE c.two\t ab \t\n",
+        Ended::EndOfInput,
+        b"200 Write handler 'c.two' OK\r\n",
+    ),
+    (
+        b"WRITE c.two a b\n",
+        Ended::EndOfInput,
+        b"520-Write handler 'c.two' error:\r\n520 out of range\r\n",
+    ),
+    (
+        b"CHECKREAD c.count\nCHECKWRITE c.two\n",
+        Ended::EndOfInput,
+        b"200 Read handler 'c.count' OK\r\n200 Write handler 'c.two' OK\r\n",
+    ),
+    (
+        b"checkread c.reset_counts \ncheckwrite c.count\n",
+        Ended::EndOfInput,
+        b"530 Handler 'c.reset_counts' write-only\r\n530 Handler 'c.count' read-only\r\n",
+    ),
+    (
+        b"CHECKREAD\nCHECKWRITE a b\nWRITE \n",
+        Ended::EndOfInput,
+        b"500 Syntax error\r\n500 Syntax error\r\n500 Syntax error\r\n",
+    ),
+    (
+        b"READ c.echo \0a\x0bb\xff\n",
+        Ended::EndOfInput,
+        b"200 Read handler 'c.echo' OK\r\nDATA 5\r\n\0a\x0bb\xff",
+    ),
     (
         b"  read\tc.count  and text \n",
         Ended::EndOfInput,
@@ -178,17 +336,77 @@ const SESSIONS: [SessionRow<'_>; 15] = [
 /// Bytes come and go in any pieces.
 #[test]
 fn answers_commands(rt: HostRuntime) -> Result<(), Fail> {
-    for (input, ends, want) in SESSIONS {
+    for (input, ends, want) in SESSIONS.iter().chain(&PAYLOADS) {
         for size in [1, 2, 3, 4096] {
             let (ended, written) = session(
                 rt.alloc(),
                 reader_of(input, size, 0),
                 writer_of(rt.alloc(), size, 0),
             );
-            assert_eq!(rt; ended, Ok(ends));
-            assert_eq!(rt; replies(&written), want);
+            assert_eq!(rt; ended, Ok(*ends));
+            assert_eq!(rt; replies(&written), *want);
         }
     }
+    Ok(())
+}
+
+/// A read-only session denies what would write, and makes no call for it.
+#[test]
+fn only_reads(rt: HostRuntime) -> Result<(), Fail> {
+    let input = b"WRITE c.two ab\nCHECKWRITE c.two\nWRITEDATA c.two 1\naREAD c.count\n";
+    let mut port = OneCounter { calls: 0 };
+    let mut reader = Reading::new(reader_of(input, 4, 0));
+    let mut writer = Writing::new(writer_of(rt.alloc(), 4096, 0));
+    let ended = serve(rt.alloc(), &mut reader, &mut writer, &mut port, true);
+    assert_eq!(rt; ended, Ok(Ended::EndOfInput));
+    assert_eq!(rt;
+        replies(&writer.into_inner().taken),
+        b"530 Permission denied for 'c.two'\r\n530 Permission denied for 'c.two'\r\n530 Permission denied for 'c.two'\r\n200 Read handler 'c.count' OK\r\nDATA 1\r\n0".as_slice()
+    );
+    assert_eq!(rt; port.calls, 1);
+    Ok(())
+}
+
+/// The largest payload in pieces of many sizes: the command comes with its last byte, and not before.
+#[test]
+fn takes_a_large_payload(rt: HostRuntime) -> Result<(), Fail> {
+    let mut input = Vec::from_slice(rt.alloc(), b"WRITEDATA c.two 1048576\r\n")?;
+    input.extend_from_slice(&vec![in rt.alloc(); b'\n'; 1_048_575]?)?;
+    for size in [1, 7, 4096, 2_000_000] {
+        let mut session = Session::new(rt.alloc());
+        for piece in input.chunks(size) {
+            session.feed(piece)?;
+            assert!(rt; session.next(rt.alloc())?.is_none());
+        }
+        session.feed(b"xQUIT\n")?;
+        let Some(Command::Write { handler, text }) = session.next(rt.alloc())? else {
+            panic!(rt; "another command")
+        };
+        assert_eq!(rt; handler.as_slice(), b"c.two".as_slice());
+        assert_eq!(rt; text.len(), 1_048_576);
+        assert_eq!(rt; text.as_slice()[1_048_575], b'x');
+        assert!(rt; matches!(session.next(rt.alloc())?, Some(Command::Quit)));
+    }
+    Ok(())
+}
+
+/// Many commands in one piece; and none after `QUIT`.
+#[test]
+fn takes_many_commands(rt: HostRuntime) -> Result<(), Fail> {
+    let mut session = Session::new(rt.alloc());
+    let mut piece = Vec::new(rt.alloc());
+    for _ in 0..100_000 {
+        piece.extend_from_slice(b"READ c.count\n")?;
+    }
+    session.feed(&piece)?;
+    for _ in 0..100_000 {
+        assert!(rt; matches!(session.next(rt.alloc())?, Some(Command::Read { .. })));
+    }
+    assert!(rt; session.next(rt.alloc())?.is_none());
+    session.feed(b"QUIT\nREAD c.count\n")?;
+    assert!(rt; matches!(session.next(rt.alloc())?, Some(Command::Quit)));
+    session.feed(b"READ c.count\n")?;
+    assert!(rt; session.next(rt.alloc())?.is_none());
     Ok(())
 }
 
@@ -316,7 +534,13 @@ fn replies_before_the_next_read(rt: HostRuntime) {
         written: &written,
     });
     let mut writer = Writing::new(Counting { written: &written });
-    let ended = serve(rt.alloc(), &mut reader, &mut writer, &mut OneCounter, true);
+    let ended = serve(
+        rt.alloc(),
+        &mut reader,
+        &mut writer,
+        &mut OneCounter { calls: 0 },
+        true,
+    );
     assert_eq!(rt; ended, Ok(Ended::Quit));
 }
 
@@ -346,7 +570,13 @@ fn reads_many_times(rt: HostRuntime) -> Result<(), Fail> {
     let input = vec![in rt.alloc(); b'\n'; 70_000]?;
     let mut reader = Reading::new(reader_of(&input, 1, 0));
     let mut writer = Writing::new(writer_of(rt.alloc(), 4096, 0));
-    let ended = serve(rt.alloc(), &mut reader, &mut writer, &mut OneCounter, false);
+    let ended = serve(
+        rt.alloc(),
+        &mut reader,
+        &mut writer,
+        &mut OneCounter { calls: 0 },
+        false,
+    );
     assert_eq!(rt; ended, Ok(Ended::EndOfInput));
     assert_eq!(rt; reader.into_inner().calls, 70_001);
     assert_eq!(rt; replies(&writer.into_inner().taken).len(), 0);

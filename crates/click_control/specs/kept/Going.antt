@@ -11,7 +11,8 @@ use Rattle.click_control.specs.declared.serving.Ended.{Ended}
 use Rattle.click_control.specs.declared.serving.Ended.TheVariants as ended
 use Rattle.click_control.specs.declared.serving.ServeFault.{ServeFault}
 use Rattle.click_control.specs.declared.serving.ServeFault.TheVariants as fault
-use Rattle.click_control.specs.Commands.{commands, Pending, to_come}
+use Rattle.click_control.specs.Commands.{commands}
+use Rattle.click_control.specs.Taking.{Pending, fed, to_come}
 use Rattle.click_control.specs.Peers.{Input, Output, HasRead, HasWritten}
 use Rattle.click_control.specs.ReplyText.{greeting}
 use Rattle.click_control.specs.Serving.{Asked, replies, most_reads, GoesOn, Serves}
@@ -30,7 +31,7 @@ Written (Err fault.ReadFailed) held holds text = ⊥
 -- the session took in a piece of some bytes; or the input is at its end; or a fault
 abbrev pub TakesIn : Input → Input → Pending → Pending → Result Bool ServeFault → Type 0
 TakesIn had left old new (Ok true) =
-    (piece : List ℕ) × (0 < length piece) × HasRead had left piece 1 false × (new ≡ record { from = old.from; bytes = old.bytes ++ piece })
+    (piece : List ℕ) × (0 < length piece) × HasRead had left piece 1 false × (new ≡ fed old piece)
 TakesIn had left old new (Ok false) = HasRead had left [] 1 false × IsAtEnd left.remaining × (new ≡ old)
 TakesIn had left old new (Err fault.ReadFailed) = HasRead had left [] 0 true
 TakesIn had left old new (Err fault.NoMemory) = (piece : List ℕ) × HasRead had left piece 1 false
@@ -39,13 +40,17 @@ TakesIn had left old new (Err fault.WriteFailed) = ⊥
 -- how a command ends a session
 abbrev pub ending_of : Command → Option Ended
 ending_of (command.Read handler text) = None
+ending_of (command.Write handler text) = None
+ending_of (command.CheckRead handler) = None
+ending_of (command.CheckWrite handler) = None
 ending_of command.Quit = Some ended.Quit
 ending_of command.Syntax = None
 ending_of command.LineTooLong = Some ended.TooLong
+ending_of command.DataTooLong = Some ended.TooLong
 ending_of (command.Unknown word) = None
 
 -- A session so far, whose commands to come are those of this state. Each command that was taken up is answered in full.
-pub record SoFar {P : Type 0} (asks : P → Call → Result Reply AskFault → P → Type 0) (old now : P) (had left : Input) (held holds : Output)
+pub record SoFar {P : Type 0} (asks : P → Call → Result Reply AskFault → P → Type 0) (readonly : Bool) (old now : P) (had left : Input) (held holds : Output)
     (s : Pending) (reads : ℕ) : Type 0 where
   pub input : List ℕ
   pub read : HasRead had left input reads false
@@ -56,14 +61,14 @@ pub record SoFar {P : Type 0} (asks : P → Call → Result Reply AskFault → P
   pub goes_on : GoesOn taken
   pub spelled : (more : List ℕ) → commands (input ++ more) ≡ taken ++ to_come s more
   pub answers : List Answer
-  pub asked : Asked asks old taken answers now
+  pub asked : Asked asks readonly old taken answers now
   pub output : List ℕ
   pub written : HasWritten held holds output false
   pub whole : output ≡ greeting ++ replies taken answers
 
 -- What came of answering commands: the session goes on, or it ends.
-abbrev pub Goes : {P : Type 0} → (P → Call → Result Reply AskFault → P → Type 0) → P → P → Input → Input → Output → Output → Pending → ℕ
+abbrev pub Goes : {P : Type 0} → (P → Call → Result Reply AskFault → P → Type 0) → Bool → P → P → Input → Input → Output → Output → Pending → ℕ
     → Result (Option Ended) ServeFault → Type 0
-Goes asks old new had left held holds s reads (Ok None) = SoFar asks old new had left held holds s reads
-Goes asks old new had left held holds s reads (Ok (Some e)) = Serves asks old new had left held holds (Ok e)
-Goes asks old new had left held holds s reads (Err f) = Serves asks old new had left held holds (Err f)
+Goes asks readonly old new had left held holds s reads (Ok None) = SoFar asks readonly old new had left held holds s reads
+Goes asks readonly old new had left held holds s reads (Ok (Some e)) = Serves asks readonly old new had left held holds (Ok e)
+Goes asks readonly old new had left held holds s reads (Err f) = Serves asks readonly old new had left held holds (Err f)

@@ -1,55 +1,87 @@
 -- How a session takes its bytes line by line.
-use Rattle.std.specs.Prelude.{◌≡◌, ℕ, ◌+◌, ◌≤◌, ◌<◌, List, [], ◌∷◌, ◌++◌, length, take, drop, true, false, Option, Some}
+use Rattle.std.specs.Prelude.{◌≡◌, ℕ, ◌+◌, ◌≤◌, ◌<◌, List, [], ◌∷◌, ◌++◌, length, take, drop, true, nat_eq, slice_index, ◌&&◌, Option, Some, None, if◌then◌else◌}
+use Rattle.click_classes.specs.declared.fault.ArgFault.{ArgFault}
+use Rattle.click_classes.specs.declared.fault.ArgFault.TheVariants as fault
 use Rattle.click_control.specs.declared.command.Command.{Command}
 use Rattle.click_control.specs.declared.command.Command.TheVariants as command
-use Rattle.click_control.specs.declared.session.Start.{Start}
-use Rattle.click_control.specs.declared.session.Start.TheVariants as start
+use Rattle.click_control.specs.declared.start.Start.{Start}
+use Rattle.click_control.specs.declared.start.Start.TheVariants as start
 use Rattle.click_control.specs.declared.session.Line.{Line}
 use Rattle.click_control.specs.declared.session.Line.TheVariants as line
+use Rattle.click_control.specs.declared.said.Said.TheVariants as said
 use Rattle.click_control.specs.declared.line.Found.{Found}
 use Rattle.click_control.specs.declared.line.Found.TheVariants as found
-use Rattle.click_control.specs.Commands.{Reading, in_line, after_return, over, is_end, listed, after_line, longest_line, commands_from, Pending, to_come}
-use Rattle.click_control.specs.Serving.{is_last}
-
--- no byte of these ends a line
-abbrev pub HasNoEnd : List ℕ → Type 0
-HasNoEnd [] = Unit {0}
-HasNoEnd (b ∷ bs) = (is_end b ≡ false) × HasNoEnd bs
+use Rattle.click_control.specs.Commands.{Reading, in_line, after_return, over, Said, blank, whole, announces, HasNoEnd, is_end, is_last, longest_line, commands_from}
+use Rattle.click_control.specs.Taking.{Pending, to_come, Gives, GivesOne}
 
 abbrev pub reading_of : Start → Reading
 reading_of start.Line = in_line []
 reading_of start.AfterReturn = after_return
 reading_of start.Over = over
 
--- The place is one of the bytes, and so many bytes from it on hold no line end.
-pub record IsPlaced (at searched : ℕ) (bytes : List ℕ) : Type 0 where
+abbrev pub says : Rattle.click_control.specs.declared.said.Said.Said → Said
+says said.Blank = blank
+says (said.Whole c) = whole c
+says (said.Announces w handler n) = announces w handler n
+
+-- the command of a line whose payload has no length, or one that is too long
+abbrev pub uncounted : ArgFault → Command
+uncounted fault.NoMemory = command.Syntax
+uncounted fault.ArgumentCount = command.Syntax
+uncounted fault.BadNumber = command.Syntax
+uncounted fault.BadText = command.Syntax
+uncounted fault.OutOfRange = command.DataTooLong
+uncounted fault.BadAddress = command.Syntax
+uncounted fault.BadEntry = command.Syntax
+
+-- how many bytes the end of a line has that begins these bytes
+abbrev pub end_length : List ℕ → ℕ
+end_length [] = 1
+end_length (e ∷ []) = 1
+end_length (e ∷ b ∷ bs) = if nat_eq e 13 && nat_eq b 10 then 2 else 1
+
+-- With fewer bytes in all than are wanted, no command is whole.
+abbrev pub Waits : Reading → List ℕ → ℕ → Type 0
+Waits r bytes wanted = (more : List ℕ) → length bytes + length more < wanted → commands_from r (bytes ++ more) ≡ []
+
+-- The place is one of the bytes; so many bytes from it on hold no line end; and so many are wanted for the next command.
+pub record IsPlaced (at searched wanted : ℕ) (r : Reading) (bytes : List ℕ) : Type 0 where
   pub within : at + searched ≤ length bytes
   pub no_end : HasNoEnd (take searched (drop at bytes))
+  pub waits : Waits r (drop at bytes) wanted
 
--- The first n bytes are a line with its end, which is the byte `last`, and this is its command.
-pub record IsLine (bytes : List ℕ) (c : Option Command) (n last : ℕ) : Type 0 where
+abbrev pub optional : Option Command → List Command
+optional None = []
+optional (Some c) = c ∷ []
+
+-- The first n bytes are a line with what belongs to it, and this is its command. The reading goes on from there.
+pub record IsTaken (bytes : List ℕ) (c : Option Command) (n : ℕ) (r : Reading) : Type 0 where
   pub some : 0 < n
   pub within : n ≤ length bytes
-  pub yields : (more : List ℕ) → commands_from (in_line []) (bytes ++ more) ≡ listed c ++ commands_from (after_line c last) (drop n bytes ++ more)
+  pub gives : (more : List ℕ) → commands_from (in_line []) (bytes ++ more) ≡ optional c ++ commands_from r (drop n bytes ++ more)
+  pub last : (d : Command) → c ≡ Some d → is_last d ≡ true → r ≡ over
 
--- what bytes from the beginning of a line on tell of it
+-- So many bytes are a line, and the byte after them is its end.
+pub record IsEnded (bytes : List ℕ) (n : ℕ) : Type 0 where
+  pub within : n < length bytes
+  pub short : n ≤ longest_line
+  pub no_end : HasNoEnd (take n bytes)
+  pub end : is_end (slice_index bytes n) ≡ true
+
+-- No command is whole, and none is with fewer bytes than are wanted.
+pub record IsPartial (bytes : List ℕ) (searched wanted : ℕ) : Type 0 where
+  pub within : searched ≤ length bytes
+  pub no_end : HasNoEnd (take searched bytes)
+  pub none : commands_from (in_line []) bytes ≡ []
+  pub waits : Waits (in_line []) bytes wanted
+
+-- what bytes from the beginning of a line on hold
 abbrev pub IsFound : List ℕ → Found → Type 0
-IsFound bytes found.Partial = HasNoEnd bytes × (length bytes ≤ longest_line)
-IsFound bytes found.TooLong = (0 < length bytes) × ((more : List ℕ) → commands_from (in_line []) (bytes ++ more) ≡ command.LineTooLong ∷ [])
-IsFound bytes (found.Whole c n last) = IsLine bytes c n last
-
--- From one state to the next a session yields these commands, and no others, whatever bytes come.
-abbrev pub Yields : Pending → Pending → List Command → Type 0
-Yields old new cs = (more : List ℕ) → to_come old more ≡ cs ++ to_come new more
-
--- A line was taken: a command after which nothing follows is the last one.
-pub record YieldsOne (old new : Pending) (c : Command) : Type 0 where
-  pub yields : Yields old new (c ∷ [])
-  pub fewer : length new.bytes < length old.bytes
-  pub last : is_last c ≡ true → (more : List ℕ) → to_come new more ≡ []
+IsFound bytes (found.Partial searched wanted) = IsPartial bytes searched wanted
+IsFound bytes (found.Taken c n s) = IsTaken bytes c n (reading_of s)
 
 -- what a session says of its next line
 abbrev pub TakesLine : Pending → Pending → Line → Type 0
-TakesLine old new line.Partial = Yields old new [] × (to_come new [] ≡ [])
-TakesLine old new line.Blank = Yields old new [] × (length new.bytes < length old.bytes)
-TakesLine old new (line.Whole c) = YieldsOne old new c
+TakesLine old new line.Partial = Gives old new [] × (to_come new [] ≡ []) × (length new.bytes ≤ length old.bytes)
+TakesLine old new line.Blank = Gives old new [] × (length new.bytes < length old.bytes)
+TakesLine old new (line.Whole c) = GivesOne old new c

@@ -9,8 +9,8 @@ invariant-loop-command g l =
     let asks = g.P.Port.asks in
     let output = g.W.Sink.output in
     (first : _) (had left : Input) (held : Output) (reads : ℕ)
-    → SoFar asks first l.initial.port had left held (output l.initial.writer) l.initial.session reads
-    → SoFar asks first l.port had left held (output l.writer) l.session reads
+    → SoFar asks l.fn.readonly first l.initial.port had left held (output l.initial.writer) l.initial.session reads
+    → SoFar asks l.fn.readonly first l.port had left held (output l.writer) l.session reads
 
 abbrev pub decreases-loop-command : goal.decreases-loop-command
 decreases-loop-command g l = length l.session.bytes

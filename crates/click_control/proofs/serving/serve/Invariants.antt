@@ -1,5 +1,5 @@
 use Rattle.std.proofs.Common.{◌≡◌, ◌<◌, [], length}
-use Rattle.click_control.specs.Commands.{to_come}
+use Rattle.click_control.specs.Taking.{to_come}
 use Rattle.click_control.specs.kept.Going.{SoFar}
 use Rattle.click_control.proofs.serving.serve.Given as goal
 
@@ -9,7 +9,7 @@ invariant-loop-reads g l =
     let input = g.R.Source.input in
     let output = g.W.Sink.output in
     record {
-      so_far : SoFar g.P.Port.asks l.fn.port l.port (input l.fn.reader) (input l.reader) (output l.fn.writer) (output l.writer) l.session l._reads;
+      so_far : SoFar g.P.Port.asks l.fn.readonly l.fn.port l.port (input l.fn.reader) (input l.reader) (output l.fn.writer) (output l.writer) l.session l._reads;
       all_taken : to_come l.session [] ≡ [];
       room : 0 < length l.piece;
     }

@@ -7,17 +7,19 @@ use Rattle.click_control.proofs.serving.take_up.Goals as goal
 
 pub returns-in_default : goal.returns-in_default
 returns-in_default g c = λ first had left held old new reads h one.
-    Serves-no_memory g.P.Port.asks first _ had left held _ old reads h
+    Serves-no_memory g.P.Port.asks c.args.readonly first _ had left held _ old reads h
 
 pub returns-in_err-reply : goal.returns-in_err-reply
 returns-in_err-reply g c =
     let p = err_from_is_err_and c.from_residual.result c.from_residual.ensures.1 in
-    let asked = subst (λ (k : Option Call). Answered g.P.Port.asks c.args.port.now k c.ask-answer.result c.ask-answer.new.port) c.in-Ok.ensures c.ask-answer.ensures in
+    let asked = subst (λ (k : Option Call). Answered g.P.Port.asks c.args.port.now k c.ask-answer.result c.ask-answer.new.port) c.in-Ok.ensures.call c.ask-answer.ensures in
+    let wrote = rw (c.in-Ok.ensures.replies c.ask-answer.result) at c.in_err-reply.ensures in
     rw (p.1, p.2) (λ first had left held old new reads h one.
-    Serves-reply g.P.Port.asks _ first c.args.port.now c.ask-answer.new.port had left held _ _ old new reads c.args.command c.ask-answer.result h one asked c.in_err-reply.ensures)
+    Serves-reply g.P.Port.asks c.args.readonly _ first c.args.port.now c.ask-answer.new.port had left held _ _ old new reads c.args.command c.ask-answer.result h one asked wrote)
 
 pub returns : goal.returns
 returns g c =
-    let asked = subst (λ (k : Option Call). Answered g.P.Port.asks c.args.port.now k c.ask-answer.result c.ask-answer.new.port) c.in-Ok.ensures c.ask-answer.ensures in
-    rw c.ending_of.ensures (λ first had left held old new reads h one.
-    Goes-replied g.P.Port.asks c.args.command first c.args.port.now c.ask-answer.new.port had left held _ _ old new reads c.ask-answer.result h one asked c.in_ok-reply.ensures)
+    let asked = subst (λ (k : Option Call). Answered g.P.Port.asks c.args.port.now k c.ask-answer.result c.ask-answer.new.port) c.in-Ok.ensures.call c.ask-answer.ensures in
+    let wrote = rw (c.in-Ok.ensures.replies c.ask-answer.result) at c.in_ok-reply.ensures in
+    rw c.ending_of-ending.ensures (λ first had left held old new reads h one.
+    Goes-replied g.P.Port.asks c.args.readonly c.args.command first c.args.port.now c.ask-answer.new.port had left held _ _ old new reads c.ask-answer.result h one asked wrote)

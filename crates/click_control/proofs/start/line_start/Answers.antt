@@ -2,7 +2,7 @@ use Rattle.std.proofs.Common.{◌<◌, length, sym, arith}
 use Rattle.std.proofs.lemmas.Bool.{eqb-false}
 use Rattle.click_control.proofs.Streams.{commands_from-empty, commands_from-over, commands_from-feed, commands_from-no_feed}
 use Rattle.click_control.specs.kept.Lines.{reading_of}
-use Rattle.click_control.proofs.session.line_start.Goals as goal
+use Rattle.click_control.proofs.start.line_start.Goals as goal
 
 pub returns-then-is_empty : goal.returns-then-is_empty
 returns-then-is_empty c = commands_from-empty (reading_of c.args.start) c.args.bytes.now (sym c.if-is_empty.ensures)

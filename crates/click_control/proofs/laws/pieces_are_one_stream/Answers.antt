@@ -1,0 +1,5 @@
+use Rattle.click_control.proofs.Streams.{to_come-fed}
+use Rattle.click_control.proofs.laws.pieces_are_one_stream.Goals as goal
+
+pub returns-clause-pieces : goal.returns-clause-pieces
+returns-clause-pieces c = λ s piece more. to_come-fed s piece more

@@ -1,0 +1,10 @@
+use Rattle.std.proofs.Common.{length}
+use Rattle.click_control.specs.Taking.{GivesNone}
+use Rattle.click_control.proofs.session.Session.next.Given as goal
+
+-- blank lines alone were taken
+abbrev pub invariant-loop-error : goal.invariant-loop-error
+invariant-loop-error l = GivesNone l.initial.self l.self
+
+abbrev pub decreases-loop-error : goal.decreases-loop-error
+decreases-loop-error l = length l.self.bytes
