@@ -336,15 +336,17 @@ const SESSIONS: [SessionRow<'_>; 24] = [
 /// Bytes come and go in any pieces.
 #[test]
 fn answers_commands(rt: HostRuntime) -> Result<(), Fail> {
-    for (input, ends, want) in SESSIONS.iter().chain(&PAYLOADS) {
-        for size in [1, 2, 3, 4096] {
-            let (ended, written) = session(
-                rt.alloc(),
-                reader_of(input, size, 0),
-                writer_of(rt.alloc(), size, 0),
-            );
-            assert_eq!(rt; ended, Ok(*ends));
-            assert_eq!(rt; replies(&written), *want);
+    for rows in [SESSIONS.as_slice(), PAYLOADS.as_slice()] {
+        for (input, ends, want) in rows {
+            for size in [1, 2, 3, 4096] {
+                let (ended, written) = session(
+                    rt.alloc(),
+                    reader_of(input, size, 0),
+                    writer_of(rt.alloc(), size, 0),
+                );
+                assert_eq!(rt; ended, Ok(*ends));
+                assert_eq!(rt; replies(&written), *want);
+            }
         }
     }
     Ok(())
@@ -374,7 +376,7 @@ fn takes_a_large_payload(rt: HostRuntime) -> Result<(), Fail> {
     input.extend_from_slice(&vec![in rt.alloc(); b'\n'; 1_048_575]?)?;
     for size in [1, 7, 4096, 2_000_000] {
         let mut session = Session::new(rt.alloc());
-        for piece in input.chunks(size) {
+        for piece in input.chunks(size.max(1)) {
             session.feed(piece)?;
             assert!(rt; session.next(rt.alloc())?.is_none());
         }
@@ -384,7 +386,7 @@ fn takes_a_large_payload(rt: HostRuntime) -> Result<(), Fail> {
         };
         assert_eq!(rt; handler.as_slice(), b"c.two".as_slice());
         assert_eq!(rt; text.len(), 1_048_576);
-        assert_eq!(rt; text.as_slice()[1_048_575], b'x');
+        assert!(rt; text.as_slice().ends_with(b"\n\nx"));
         assert!(rt; matches!(session.next(rt.alloc())?, Some(Command::Quit)));
     }
     Ok(())
