@@ -15,6 +15,7 @@ tools/front_door.sh
 tools/readme.sh
 tools/tries.sh
 tools/control_example.sh
+tools/client.sh
 examples/run.sh
 tools/language_examples.sh
 tools/fault_examples.sh

@@ -110,6 +110,18 @@ wrong ERCF "another element's reply" 'sed -i "s/'"'c\\.'"'/d./; s/c\.count/d.cou
 wrong ERCF 'another value' 'sed -i "s/^0/7/" "$out"'
 wrong ELF 'lines that end without CR' 'sed -i "s/\r//" "$out"'
 
+# A client that waits for each reply: a program that is run to its end before anything is written is late, and one of its own answers at once, but wrongly.
+PROGRAM=$work/click_prog SECONDS_TO_WAIT=1 is_refused 'a program with late replies' tools/client.sh
+cat > "$work/own" << 'E'
+#!/bin/bash
+printf 'Click::ControlSocket/1.3\r\n'
+while read -r _; do printf "200 Read handler 'c.count' OK\r\nDATA $LENGTH\r\n$VALUE"; done
+E
+chmod +x "$work/own"
+LENGTH=2 VALUE=00 PROGRAM=$work/own SECONDS_TO_WAIT=1 is_refused 'a program with another length' tools/client.sh
+LENGTH=1 VALUE=7 PROGRAM=$work/own SECONDS_TO_WAIT=1 is_refused 'a program with another value at once' tools/client.sh
+LENGTH=1 VALUE='' PROGRAM=$work/own SECONDS_TO_WAIT=1 is_refused 'a program with no value' tools/client.sh
+
 # Memory.
 wrong F 'another answer where memory runs out' 'sed -i "s/^520 .*/511 No handler named '"'c.count'"'\r/" "$out"'
 wrong F 'a fault where memory runs out' 'if [ $status = 3 ]; then echo "click_prog: 16 TooMany" > "$err"; status=1; fi'

@@ -1,7 +1,7 @@
 #!/usr/bin/env bash
 # Counts the instructions of a read of a Counter's count, in Rattle and in plain Rust (router.rs), and compares what both write: by a router's step (read.rs),
 # in routers of 3 and of 4,095 elements; and as a line of a control session (session.rs). Then those of long sessions beside sessions of half the length.
-# Needs rt, rustc and valgrind. It is no part of the gate.
+# Needs rt, rustc, cc and valgrind. It is no part of the gate.
 set -eu
 here="$(cd "$(dirname "$0")" && pwd)"
 work="$(mktemp -d)"
@@ -63,25 +63,27 @@ second="$(each_line "${plain[@]}")"
 same session
 echo "$first $second"
 
-# A payload, a line, and many short lines, each beside twice as much.
+# A payload in pieces of 1, 7 and 4,096 bytes, a line byte by byte, and many short lines in large pieces, each beside half as much.
+cc -O2 -shared -fPIC -o "$work/pieces.so" "$here/pieces.c"
 payload() { # bytes
     echo "WRITEDATA c.reset_counts $1"
     head -c "$1" /dev/zero | tr '\0' x
 }
 line() { # bytes
     printf 'WRITE c.reset_counts '
-    head -c "$1" /dev/zero | tr '\0' x
+    head -c "$(($1 - 21))" /dev/zero | tr '\0' x
     echo
 }
 short() { # lines
-    yes QUI | head -n "$1"
+    yes QUI 2> /dev/null | head -n "$1"
 }
-echo 'instructions of a session: what, how much, these, beside half as much'
-for what in 'payload 524288' 'line 32000' 'short 50000'; do
+echo 'instructions of a session: what, how much, in pieces of, these, beside half as much'
+for what in 'payload 1048576 1' 'payload 1048576 7' 'payload 1048576 4096' 'line 65536 1' 'short 100000 4096'; do
     set -- $what
-    "$1" "$2" > "$work/few"
-    "$1" "$((2 * $2))" > "$work/many"
-    half="$(instructions "${ours[@]}" < "$work/few")"
-    whole="$(instructions "${ours[@]}" < "$work/many")"
-    echo "$1 $((2 * $2)) $whole $(awk "BEGIN { printf \"%.2f\", $whole / $half }")"
+    "$1" "$(($2 / 2))" > "$work/few"
+    "$1" "$2" > "$work/many"
+    export PIECE="$3"
+    half="$(LD_PRELOAD="$work/pieces.so" instructions "${ours[@]}" < "$work/few")"
+    whole="$(LD_PRELOAD="$work/pieces.so" instructions "${ours[@]}" < "$work/many")"
+    echo "$* $whole $(awk "BEGIN { printf \"%.2f\", $whole / $half }")"
 done
