@@ -1,5 +1,5 @@
 #!/usr/bin/env bash
-# Refuses each request for memory of some runs in turn, until a run has none refused: the program's stored session, handlers that are read and written, the
+# Refuses each request for memory of some runs in turn, until a run has none refused: the program's stored session and some others, handlers that are read and written, the
 # preparing and the parsing of some texts, the making of some elements. The programs must have been built.
 #
 #   tools/refuse.sh [program|calls|bench]    the runs of click_prog, of click_calls, or of click_bench, alone
@@ -66,6 +66,20 @@ refuse_program() {
     stored=$top/crates/click_prog/stdout
     in_turn 'the stored session' "$top/crates/click_prog/stdin" "$stored" "$work/answer" 3 "$stored" "$program" "${arguments[@]}"
     passed "$work/answer" 'in the stored session'
+
+    # So it is whatever the session asks.
+    text='FromDevice(a) -> q :: Queue(5) -> ToDevice(b);'
+    while IFS='|' read -r command reply; do
+        printf '%bQUIT\n' "$command" > "$work/session"
+        printf 'Click::ControlSocket/1.3\r\n%b200 Goodbye!\r\n' "$reply" > "$work/whole"
+        in_turn "a session of ${command%% *}" "$work/session" "$work/whole" "$work/answer" 3 "$work/whole" "$program" -e "$text"
+        passed "$work/answer" "in a session of ${command%% *}"
+    done << 'E'
+WRITE q.capacity 9\n|200 Write handler 'q.capacity' OK\r\n
+WRITEDATA q.capacity 1\r\n7|200 Write handler 'q.capacity' OK\r\n
+READDATA q.length 2\nab|200 Read handler 'q.length' OK\r\nDATA 1\r\n0
+READ list\n|200 Read handler 'list' OK\r\nDATA 28\r\n3\nFromDevice@1\nq\nToDevice@3\n
+E
 
     printf 'Click::ControlSocket/1.3\r\n' > "$work/greeting"
     for text in "$top"/tools/texts/*.click; do
