@@ -17,8 +17,6 @@ pub enum LineFault {
     TooLong,
     #[error("its first word is no call's")]
     UnknownCall,
-    #[error("this version does not carry out that call")]
-    NotCarriedOut,
     #[error("a field is missing")]
     MissingField,
     #[error("a field is empty: single spaces stand between fields")]
@@ -75,7 +73,9 @@ pub fn call_of(alloc: Global, line: &[u8]) -> Result<Call, LineFault> {
         b"checkwrite" => Ok(Call::CheckWrite {
             name: only_name(alloc, rest)?,
         }),
-        b"swap" => Err(LineFault::NotCarriedOut),
+        b"swap" => Ok(Call::Swap {
+            text: kept(alloc, rest.unwrap_or(b""))?,
+        }),
         _ => Err(LineFault::UnknownCall),
     }
 }

@@ -1,11 +1,10 @@
 //! A reply as a line.
 
-ghost use Rattle.std.specs.Prelude.{◌≡◌, ◌++◌, IfOk, OnOk, codes, decimal};
-ghost use Rattle.click_calls.specs.ReplyLine.{reply_line, sent_line, counted_line};
-ghost use Rattle.click_handlers.specs.Answers.{fault_text};
+ghost use Rattle.std.specs.Prelude.{◌≡◌, ◌++◌, IfOk, OnOk, decimal};
+ghost use Rattle.click_calls.specs.ReplyLine.{reply_line, fault_line, sent_line, counted_line};
 
 use crate::digits::hex_text;
-use click_handlers::{HandlerFault, push_dotted};
+use click_handlers::push_dotted;
 use click_packet::Packet;
 use click_router::{Refusal, Reply};
 use itoa::Buffer;
@@ -25,7 +24,12 @@ pub fn reply_line(alloc: Global, reply: &Reply) -> Result<Vec<u8>, AllocError>
         Reply::Refused(Refusal::NoElement) => Vec::from_slice(alloc, b"refused NoElement\n"),
         Reply::Refused(Refusal::NoHandler) => Vec::from_slice(alloc, b"refused NoHandler\n"),
         Reply::Refused(Refusal::WrongWay) => Vec::from_slice(alloc, b"refused WrongWay\n"),
-        Reply::Refused(Refusal::Handler(fault)) => fault_line(alloc, *fault),
+        Reply::Refused(Refusal::Handler(fault)) => {
+            fault_line(alloc, b"refused Handler ", fault.text())
+        }
+        Reply::Refused(Refusal::Config(fault)) => {
+            fault_line(alloc, b"refused Config ", &fault.text(alloc)?)
+        }
         Reply::Done => Vec::from_slice(alloc, b"done\n"),
         Reply::Entered(count) => counted_line(alloc, b"entered ", *count),
         Reply::Worked(count) => counted_line(alloc, b"worked ", *count),
@@ -35,12 +39,12 @@ pub fn reply_line(alloc: Global, reply: &Reply) -> Result<Vec<u8>, AllocError>
     }
 }
 
-/// What a handler says.
-fn fault_line(alloc: Global, fault: HandlerFault) -> Result<Vec<u8>, AllocError>
-    ensures { IfOk result (λ line. line.items ≡ codes "refused Handler " ++ fault_text fault ++ codes "\n") }
+/// What a handler, or a configuration, finds wrong.
+fn fault_line(alloc: Global, word: &[u8], fault: &[u8]) -> Result<Vec<u8>, AllocError>
+    ensures { IfOk result (λ line. line.items ≡ fault_line word.now fault.now) }
 {
-    let mut line = Vec::from_slice(alloc, b"refused Handler ")?;
-    line.extend_from_slice(fault.text())?;
+    let mut line = Vec::from_slice(alloc, word)?;
+    line.extend_from_slice(fault)?;
     line.extend_from_slice(b"\n")?;
     Ok(line)
 }

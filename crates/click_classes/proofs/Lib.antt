@@ -9,6 +9,7 @@ pub mod ByteWords
 pub mod ReadySteps
 pub mod StepLists
 pub mod Tables
+pub mod Taking
 pub mod Lists
 pub mod Names
 pub mod Clauses

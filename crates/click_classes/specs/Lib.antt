@@ -14,6 +14,7 @@ pub mod Routes
 pub mod Settings
 pub mod State
 pub mod Steps
+pub mod TakeOver
 pub mod Uses
 pub mod Values
 pub mod kept

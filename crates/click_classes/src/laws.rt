@@ -1,6 +1,6 @@
 //! What holds of the definitions.
 
-ghost use Rattle.std.specs.Prelude.{◌≡◌, ◌↔◌, ℕ, ◌+◌, ◌-◌, ◌^◌, ◌<◌, ◌≤◌, [], ◌∷◌, ◌++◌, List, length, max, Ok, Option, Some, None, codes, slice_get, true};
+ghost use Rattle.std.specs.Prelude.{◌≡◌, ◌↔◌, ℕ, ◌+◌, ◌-◌, ◌^◌, ◌<◌, ◌≤◌, [], ◌∷◌, ◌++◌, List, length, take, max, Ok, Option, Some, None, codes, slice_get, true};
 ghost use Rattle.click_classes.specs.declared.class.Class.{Class};
 ghost use Rattle.click_classes.specs.declared.state.State.{State};
 ghost use Rattle.click_classes.specs.declared.values.entry.Entry.{Entry};
@@ -23,6 +23,7 @@ ghost use Rattle.click_classes.specs.Matches.{matches};
 ghost use Rattle.click_classes.specs.Patterns.{pattern};
 ghost use Rattle.click_classes.specs.Routes.{Covers, IsRoute, route};
 ghost use Rattle.click_classes.specs.State.{class};
+ghost use Rattle.click_classes.specs.TakeOver.{taken_over};
 ghost use Rattle.click_classes.specs.Uses.{HasUse};
 ghost use Rattle.click_classes.specs.Values.{cleared, prefix};
 
@@ -147,4 +148,21 @@ pub fn ports_stay_there()
     ensures held { (inputs outputs : ℕ) (s : State) (e : Stored) → stored s ≡ Some e → FitsPorts inputs outputs s → FitsPorts inputs outputs e.state }
     ensures emitted { (inputs outputs : ℕ) (s : State) (e : Stored) → emission s ≡ Some e → FitsPorts inputs outputs s → FitsPorts inputs outputs e.state }
     ensures first { (inputs outputs : ℕ) (s : State) → settings s ≡ s → (counts s).inputs.0 ≤ inputs → (counts s).outputs.0 ≤ outputs → HasTurn inputs outputs s }
+{}
+
+/// A queue that takes over from one of its class has a front of its packets, in order, and counts the others as drops, so that it loses none silently. All other elements
+/// begin as their arguments say.
+pub fn taken_queues_lose_nothing()
+    ensures front { (s old : State) (q before : Queued) → class s ≡ class old → queue_of s ≡ Some q → queue_of old ≡ Some before
+        → (t : Queued) × (queue_of (taken_over s old) ≡ Some t) × (t.list ≡ record { packets = take q.list.capacity before.list.packets; capacity = q.list.capacity })
+        × (length t.list.packets + t.drops ≡ length before.list.packets) × (t.highest ≡ length t.list.packets) }
+    ensures other_class { (s old : State) → (class s ≡ class old → ⊥) → taken_over s old ≡ s }
+    ensures no_queue { (s old : State) → queue_of s ≡ None → taken_over s old ≡ s }
+{}
+
+/// What is taken over changes nothing that an element's arguments set, fits its ports as before, and no queue has more packets than room.
+pub fn taking_over_keeps_elements_sound()
+    ensures settings { (s old : State) → settings (taken_over s old) ≡ settings s }
+    ensures ports { (inputs outputs : ℕ) (s old : State) → FitsPorts inputs outputs s → FitsPorts inputs outputs (taken_over s old) }
+    ensures sound { (s old : State) → IsSound s → IsSound (taken_over s old) }
 {}

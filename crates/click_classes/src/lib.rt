@@ -15,6 +15,7 @@ mod port_counts;
 mod ports;
 mod routes;
 mod state;
+mod taking_over;
 mod values;
 
 pub use acting::{Fate, Outcome, PortRange, after};

@@ -2,10 +2,10 @@
 use Rattle.std.specs.Prelude.{ℕ, List, [], ◌++◌, length, codes, decimal}
 use Rattle.std.specs.List.{before_last}
 use Rattle.click_handlers.specs.Answers.{fault_text}
-use Rattle.click_handlers.specs.declared.fault.HandlerFault.{HandlerFault}
 use Rattle.click_router.specs.declared.call.Reply.TheVariants as reply
 use Rattle.click_router.specs.declared.call.Refusal.{Refusal}
 use Rattle.click_router.specs.declared.call.Refusal.TheVariants as refusal
+use Rattle.click_router.specs.FaultText as config
 use Rattle.click_router.specs.One.{is_dot}
 use Rattle.click_control.specs.declared.port.AskFault.{AskFault}
 use Rattle.click_control.specs.declared.port.AskFault.TheVariants as ask
@@ -27,9 +27,10 @@ naming front name back = front ++ codes "'" ++ name ++ codes "'" ++ back ++ code
 abbrev pub data_text : List ℕ → List ℕ
 data_text bytes = codes "DATA " ++ decimal (length bytes) ++ codes "\r\n" ++ bytes
 
--- a handler's own fault: which handler it is, and what it says
-abbrev pub handler_text : List ℕ → List ℕ → HandlerFault → List ℕ
-handler_text front handler f = naming front handler (codes " error:") ++ codes "520 " ++ fault_text f ++ codes "\r\n"
+-- what a handler, or a configuration, finds wrong: which handler it is, and the fault's text
+abbrev pub error_text : Way → List ℕ → List ℕ → List ℕ
+error_text way.Read handler fault = naming (codes "520-Read handler ") handler (codes " error:") ++ codes "520 " ++ fault ++ codes "\r\n"
+error_text way.Write handler fault = naming (codes "520-Write handler ") handler (codes " error:") ++ codes "520 " ++ fault ++ codes "\r\n"
 
 -- the line of a read or a write that is good
 abbrev pub good_text : Way → List ℕ → List ℕ
@@ -42,8 +43,8 @@ refused_text w handler refusal.NoElement = naming (codes "510 No element named "
 refused_text w handler refusal.NoHandler = naming (codes "511 No handler named ") handler []
 refused_text way.Read handler refusal.WrongWay = naming (codes "530 Handler ") handler (codes " write-only")
 refused_text way.Write handler refusal.WrongWay = naming (codes "530 Handler ") handler (codes " read-only")
-refused_text way.Read handler (refusal.Handler f) = handler_text (codes "520-Read handler ") handler f
-refused_text way.Write handler (refusal.Handler f) = handler_text (codes "520-Write handler ") handler f
+refused_text w handler (refusal.Handler f) = error_text w handler (fault_text f)
+refused_text w handler (refusal.Config f) = error_text w handler (config.fault_text f)
 
 -- why there was no reply
 abbrev pub failed_text : AskFault → List ℕ

@@ -3,12 +3,11 @@
 ghost use Rattle.std.specs.Prelude.{◌≡◌, ◌++◌, IfOk, codes};
 ghost use Rattle.std.specs.List.{before_last};
 ghost use Rattle.click_router.specs.One.{is_dot};
-ghost use Rattle.click_control.specs.ReplyText.{text_of, read_text, done_text, good_text, refused_text, failed_text, denied_text, uncalled_text, naming, data_text, handler_text};
+ghost use Rattle.click_control.specs.ReplyText.{text_of, read_text, done_text, good_text, refused_text, failed_text, denied_text, uncalled_text, naming, data_text, error_text};
 
 use crate::command::{Answer, Command};
 use crate::port::AskFault;
 use crate::way::Way;
-use click_handlers::HandlerFault;
 use click_router::{Refusal, Reply};
 use itoa::Buffer;
 use memchr::memrchr;
@@ -53,7 +52,7 @@ fn read_text(alloc: Global, handler: &[u8], answer: &Answer) -> Result<Vec<u8>, 
 {
     match answer {
         Answer::Replied(Reply::Value(bytes)) => value_text(alloc, handler, bytes.as_slice()),
-        Answer::Replied(Reply::Refused(why)) => refused_text(alloc, Way::Read, handler, *why),
+        Answer::Replied(Reply::Refused(why)) => refused_text(alloc, Way::Read, handler, why),
         Answer::Failed(fault) => failed_text(alloc, *fault),
         Answer::NoCall => denied_text(alloc, Way::Read, handler),
         Answer::Replied(
@@ -73,7 +72,7 @@ fn done_text(
 {
     match answer {
         Answer::Replied(Reply::Done) => good_text(alloc, way, handler),
-        Answer::Replied(Reply::Refused(why)) => refused_text(alloc, way, handler, *why),
+        Answer::Replied(Reply::Refused(why)) => refused_text(alloc, way, handler, why),
         Answer::Failed(fault) => failed_text(alloc, *fault),
         Answer::NoCall => denied_text(alloc, way, handler),
         Answer::Replied(
@@ -114,27 +113,29 @@ fn refused_text(
     alloc: Global,
     way: Way,
     handler: &[u8],
-    why: Refusal,
+    why: &Refusal,
 ) -> Result<Vec<u8>, AllocError>
-    ensures { IfOk result (λ text. text.items ≡ refused_text way handler.now why) }
+    ensures { IfOk result (λ text. text.items ≡ refused_text way handler.now why.now) }
 {
-    match (way, why) {
-        (Way::Read | Way::Write, Refusal::NoElement) => {
-            naming(alloc, b"510 No element named ", element_of(handler), b"")
+    match why {
+        Refusal::NoElement => naming(alloc, b"510 No element named ", element_of(handler), b""),
+        Refusal::NoHandler => naming(alloc, b"511 No handler named ", handler, b""),
+        Refusal::WrongWay => wrong_way_text(alloc, way, handler),
+        Refusal::Handler(fault) => error_text(alloc, way, handler, fault.text()),
+        Refusal::Config(fault) => {
+            let text = fault.text(alloc)?;
+            error_text(alloc, way, handler, &text)
         }
-        (Way::Read | Way::Write, Refusal::NoHandler) => {
-            naming(alloc, b"511 No handler named ", handler, b"")
-        }
-        (Way::Read, Refusal::WrongWay) => {
-            naming(alloc, b"530 Handler ", handler, b" write-only")
-        }
-        (Way::Write, Refusal::WrongWay) => naming(alloc, b"530 Handler ", handler, b" read-only"),
-        (Way::Read, Refusal::Handler(fault)) => {
-            handler_text(alloc, b"520-Read handler ", handler, fault)
-        }
-        (Way::Write, Refusal::Handler(fault)) => {
-            handler_text(alloc, b"520-Write handler ", handler, fault)
-        }
+    }
+}
+
+/// A handler is for the other way alone.
+fn wrong_way_text(alloc: Global, way: Way, handler: &[u8]) -> Result<Vec<u8>, AllocError>
+    ensures { IfOk result (λ text. text.items ≡ refused_text way handler.now Refusal.WrongWay) }
+{
+    match way {
+        Way::Read => naming(alloc, b"530 Handler ", handler, b" write-only"),
+        Way::Write => naming(alloc, b"530 Handler ", handler, b" read-only"),
     }
 }
 
@@ -158,18 +159,16 @@ fn denied_text(alloc: Global, way: Way, handler: &[u8]) -> Result<Vec<u8>, Alloc
     }
 }
 
-/// The lines of a handler's own fault.
-fn handler_text(
-    alloc: Global,
-    front: &[u8],
-    handler: &[u8],
-    fault: HandlerFault,
-) -> Result<Vec<u8>, AllocError>
-    ensures { IfOk result (λ text. text.items ≡ handler_text front.now handler.now fault) }
+/// The lines that say what a handler, or a configuration, finds wrong.
+fn error_text(alloc: Global, way: Way, handler: &[u8], fault: &[u8]) -> Result<Vec<u8>, AllocError>
+    ensures { IfOk result (λ text. text.items ≡ error_text way handler.now fault.now) }
 {
-    let mut text = naming(alloc, front, handler, b" error:")?;
+    let mut text = match way {
+        Way::Read => naming(alloc, b"520-Read handler ", handler, b" error:")?,
+        Way::Write => naming(alloc, b"520-Write handler ", handler, b" error:")?,
+    };
     text.extend_from_slice(b"520 ")?;
-    text.extend_from_slice(fault.text())?;
+    text.extend_from_slice(fault)?;
     text.extend_from_slice(b"\r\n")?;
     Ok(text)
 }

@@ -5,6 +5,7 @@ pub mod Costs
 pub mod Plant
 pub mod Rounds
 pub mod Run
+pub mod TakeOver
 pub mod Tasks
 pub mod Wires
 pub mod World

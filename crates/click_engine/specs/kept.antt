@@ -3,3 +3,4 @@ pub mod Asked
 pub mod Hops
 pub mod Slots
 pub mod Tables
+pub mod Taking

@@ -5,6 +5,7 @@ mod asking;
 mod copies;
 mod device_names;
 mod devices;
+mod element_names;
 mod hops;
 pub mod laws;
 mod machine;

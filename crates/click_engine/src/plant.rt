@@ -3,6 +3,7 @@ ghost use Rattle.std.specs.Prelude.{◌≡◌, ℕ, ◌<◌, ◌≤◌, ◌+◌,
 ghost use Rattle.click_engine.specs.Plant.{elements_from};
 
 use crate::devices::{Devices, Way};
+use crate::element_names::ElementNames;
 use crate::machine::Machine;
 use crate::runs::{pull_packet, push_answer, push_packet};
 use crate::tasks::tasks_of;
@@ -22,6 +23,7 @@ pub const CROSSINGS: usize = 256;
 #[derive(Drop)]
 pub struct Plant {
     wires: Wires,
+    names: ElementNames,
     tasks: Vec<usize>,
     sources: Devices,
     sinks: Devices,
@@ -33,6 +35,7 @@ impl Model for Plant {
     ghost use Rattle.std.specs.Prelude.{◌≡◌, ℕ, ◌+◌, [], length};
     ghost use Rattle.click_engine.specs.Plant.{Plant as Seen};
     ghost use Rattle.click_engine.specs.declared.plant.TheConstants.{CROSSINGS};
+    ghost use Rattle.click_engine.specs.kept.Tables.{FindsFirst};
 
     ghost Value = { Seen };
 
@@ -45,7 +48,7 @@ impl Model for Plant {
       overruns = p.work.overruns;
     } };
 
-    ghost invariant = { λ p. (p.machine.frames ≡ []) × (p.machine.room ≡ CROSSINGS + 1) };
+    ghost invariant = { λ p. (p.machine.frames ≡ []) × (p.machine.room ≡ CROSSINGS + 1) × FindsFirst p.names p.wires.names };
 }
 
 /// Elements of the net with these states.
@@ -67,11 +70,13 @@ fn elements_of(alloc: Global, net: &Net, states: Vec<State>) -> Result<Vec<Eleme
 }
 
 impl Plant {
-    ghost use Rattle.std.specs.Prelude.{◌≡◌, ℕ, ◌<◌, ◌≤◌, ◌+◌, IsTrue, ◌↔◌, IsSome, slice_index_or, slice_set, length, IfOk, MatchOption, min, ◌-◌, ◌^◌, true, false, vec_len};
+    ghost use Rattle.std.specs.Prelude.{◌≡◌, ℕ, ◌<◌, ◌≤◌, ◌+◌, IsTrue, ◌↔◌, IsSome, option_map, slice_index_or, slice_set, length, IfOk, MatchOption, min, ◌-◌, ◌^◌, true, false, vec_len};
     ghost use Rattle.click_classes.specs.Acts.{burst_of, emission};
     ghost use Rattle.click_engine.specs.Plant.{Plant as Seen, IsStarted};
     ghost use Rattle.click_engine.specs.Rounds.{arrive, transmit, transmitted, source_of, sink_of, round, task, bursts, sourced, state_at, unqueued, discarded, Worked};
     ghost use Rattle.click_engine.specs.declared.world.Element.{Element};
+    ghost use Rattle.click_engine.specs.TakeOver.{place_of, named, taken};
+    ghost use Rattle.click_engine.specs.kept.Taking.{taken_at};
     ghost use Rattle.click_engine.specs.World.{blank};
 
     /// The plant of a net whose elements begin with these states, one for each, in flat order. It takes all the memory that a run will need.
@@ -84,6 +89,7 @@ impl Plant {
         let sources = Devices::of(alloc, Way::In, states.as_slice())?;
         let sinks = Devices::of(alloc, Way::Out, states.as_slice())?;
         let elements = elements_of(alloc, &net, states)?;
+        let names = ElementNames::of(alloc, &net)?;
         let wires = Wires::new(alloc, net)?;
         let work = Work {
             elements,
@@ -92,6 +98,7 @@ impl Plant {
         };
         Ok(Plant {
             wires,
+            names,
             tasks,
             sources,
             sinks,
@@ -119,6 +126,13 @@ impl Plant {
         ensures { result ≡ length self.now.elements }
     {
         self.work.elements.len()
+    }
+
+    /// The place of the element with that flat name.
+    pub fn place(&self, name: &[u8]) -> Option<usize>
+        ensures { result ≡ place_of self.now name.now }
+    {
+        self.names.place(name)
     }
 
     /// The element at a place of flat order.
@@ -277,5 +291,36 @@ impl Plant {
         let (element, answer) = f(element);
         self.work.elements[at] = element;
         answer
+    }
+
+    /// The element with that flat name.
+    fn named(&self, name: &[u8]) -> Option<&Element>
+        ensures { option_map (λ element. element.now) result ≡ named self.now name.now }
+    {
+        self.work.elements.get(self.place(name)?)
+    }
+
+    /// Takes over from the plant of the configuration before: each Queue and FrontDropQueue takes the packets of the element there that has its flat name and
+    /// its class, the first that it has room for, and the number of overruns goes on. It takes no memory.
+    pub fn take_over(&mut self, old: &mut Plant)
+        ensures { self.new ≡ taken self.old old.old }
+    {
+        for at in 0..self.wires.net().shapes().len() {
+            self.take_over_at(at, &*old);
+        }
+        self.work.overruns = old.work.overruns;
+    }
+
+    /// The element at a place takes over from the one of its name.
+    fn take_over_at(&mut self, at: usize, old: &Plant)
+        requires { at < length self.old.net.names }
+        ensures { self.new ≡ taken_at self.old old.now at }
+    {
+        let Some(before) = old.named(self.wires.net().name(at)) else {
+            return;
+        };
+        if at < self.work.elements.len() {
+            self.work.elements[at].state.take_over(&before.state);
+        }
     }
 }

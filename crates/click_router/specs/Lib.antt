@@ -3,4 +3,5 @@ pub mod Globals
 pub mod One
 pub mod Opened
 pub mod State
+pub mod Swap
 pub mod kept

@@ -1,5 +1,5 @@
 -- One call of a router: the state after it, and the reply (Click manual, "Handlers"; TOCS 2000, "Packet transfer").
-use Rattle.std.specs.Prelude.{ℕ, ◌-◌, ◌^◌, min, List, [], ◌∷◌, length, Bool, true, false, Option, Some, None, is_some, option_and_then, option_map, Result, Ok, Err, position, slice_get, slice_set, nat_eq, if◌then◌else◌}
+use Rattle.std.specs.Prelude.{◌≡◌, ℕ, ◌-◌, ◌^◌, min, List, [], ◌∷◌, length, Bool, true, false, Option, Some, None, is_some, option_and_then, option_map, Result, Ok, Err, position, slice_get, slice_set, nat_eq, codes, if◌then◌else◌}
 use Rattle.std.specs.List.{before_last, after_last, list_any}
 use Rattle.std.specs.Str.{bytes_eq}
 use Rattle.click_packet.specs.Packet.{Packet}
@@ -14,6 +14,7 @@ use Rattle.click_handlers.specs.declared.fault.HandlerFault.{HandlerFault}
 use Rattle.click_ports.specs.Net.{names_of}
 use Rattle.click_router.specs.Globals.{global_value}
 use Rattle.click_router.specs.State.{RouterState}
+use Rattle.click_router.specs.Swap.{Swaps}
 use Rattle.click_router.specs.declared.call.Call.{Call}
 use Rattle.click_router.specs.declared.call.Call.TheVariants as call
 use Rattle.click_router.specs.declared.call.Refusal.{Refusal}
@@ -58,13 +59,17 @@ abbrev pub read_found : Option (ℕ × Element) → List ℕ → List ℕ → Re
 read_found (Some found) handler text = read_element found.1 handler text
 read_found None handler text = reply.Refused refusal.NoElement
 
+-- the one handler of the router itself that is written
+abbrev pub is_hotconfig : List ℕ → Bool
+is_hotconfig name = bytes_eq name (codes "hotconfig")
+
 -- a read of a handler of the router itself
-abbrev pub read_global : Option (List ℕ) → Reply
-read_global (Some value) = reply.Value value
-read_global None = reply.Refused refusal.NoHandler
+abbrev pub read_global : List ℕ → Option (List ℕ) → Reply
+read_global name (Some value) = reply.Value value
+read_global name None = reply.Refused (refusal_of (is_hotconfig name))
 
 abbrev pub read : RouterState → List ℕ → List ℕ → Reply
-read s name text = if list_any is_dot name then read_found (found s (before name)) (after name) text else read_global (global_value s name)
+read s name text = if list_any is_dot name then read_found (found s (before name)) (after name) text else read_global name (global_value s name)
 
 -- whether a handler can be asked one way
 abbrev pub check : Bool → Bool → Reply
@@ -74,17 +79,16 @@ abbrev pub check_read_found : Option (ℕ × Element) → List ℕ → Reply
 check_read_found (Some found) handler = check (has_read (class found.1.state) handler) (has_write (class found.1.state) handler)
 check_read_found None handler = reply.Refused refusal.NoElement
 
--- the router's own handlers can be read
+-- the router's own handlers can be read, but for the one that is written
 abbrev pub check_read : RouterState → List ℕ → Reply
-check_read s name = if list_any is_dot name then check_read_found (found s (before name)) (after name) else check (is_some (global_value s name)) false
+check_read s name = if list_any is_dot name then check_read_found (found s (before name)) (after name) else check (is_some (global_value s name)) (is_hotconfig name)
 
 abbrev pub check_write_found : Option (ℕ × Element) → List ℕ → Reply
 check_write_found (Some found) handler = check (has_write (class found.1.state) handler) (has_read (class found.1.state) handler)
 check_write_found None handler = reply.Refused refusal.NoElement
 
--- and not written
 abbrev pub check_write : RouterState → List ℕ → Reply
-check_write s name = if list_any is_dot name then check_write_found (found s (before name)) (after name) else check false (is_some (global_value s name))
+check_write s name = if list_any is_dot name then check_write_found (found s (before name)) (after name) else check (is_hotconfig name) (is_some (global_value s name))
 
 -- the plant with another element at a place
 abbrev pub with_element : Plant → ℕ → Element → Plant
@@ -108,6 +112,7 @@ write_found v None handler text = (v, reply.Refused refusal.NoElement)
 abbrev pub with_plant : RouterState → Plant × Reply → RouterState × Reply
 with_plant s done = (record s { plant = done.0 }, done.1)
 
+-- a write that is no swap
 abbrev pub write : RouterState → List ℕ → List ℕ → RouterState × Reply
 write s name text =
     if list_any is_dot name then with_plant s (write_found s.plant (found s (before name)) (after name) text)
@@ -136,32 +141,42 @@ sent s device = elim (sink_of s.plant device) [
   | Some at ↦ (record s { plant = transmit s.plant device }, reply.Sent (transmitted s.plant device))
 ]
 
-abbrev pub one : RouterState → Call → RouterState × Reply
-one s (call.Read name text) = (s, read s name text)
-one s (call.Write name text) = write s name text
-one s (call.CheckRead name) = (s, check_read s name)
-one s (call.CheckWrite name) = (s, check_write s name)
-one s (call.Arrive device p) = entered s device (p ∷ [])
-one s (call.Poll device ps) = entered s device ps
-one s call.Round = worked s
-one s (call.Transmit device) = sent s device
+-- A call, the state before it, the state after it and the reply. A swap, and a write of `hotconfig`, are by what the text opens.
+abbrev pub Answers : RouterState → Call → RouterState → Reply → Type 0
+Answers s (call.Read name text) t r = (t ≡ s) × (r ≡ read s name text)
+Answers s (call.Write name text) t r = elim (is_hotconfig name) [ true ↦ Swaps s text t r | false ↦ write s name text ≡ (t, r) ]
+Answers s (call.CheckRead name) t r = (t ≡ s) × (r ≡ check_read s name)
+Answers s (call.CheckWrite name) t r = (t ≡ s) × (r ≡ check_write s name)
+Answers s (call.Swap text) t r = Swaps s text t r
+Answers s (call.Arrive device p) t r = entered s device (p ∷ []) ≡ (t, r)
+Answers s (call.Poll device ps) t r = entered s device ps ≡ (t, r)
+Answers s call.Round t r = worked s ≡ (t, r)
+Answers s (call.Transmit device) t r = sent s device ≡ (t, r)
 
--- the calls that may take memory: a read's value, and what a write makes
+-- the calls that may take memory: a read's value, what a write makes, and the router of another text
 abbrev pub takes_memory : Call → Bool
 takes_memory (call.Read name text) = true
 takes_memory (call.Write name text) = true
 takes_memory (call.CheckRead name) = false
 takes_memory (call.CheckWrite name) = false
+takes_memory (call.Swap text) = true
 takes_memory (call.Arrive device p) = false
 takes_memory (call.Poll device ps) = false
 takes_memory call.Round = false
 takes_memory (call.Transmit device) = false
 
--- the replies that hold memory
+-- the replies that hold memory: a value, and a configuration's fault with the name of an element
+abbrev pub refusal_holds : Refusal → Bool
+refusal_holds refusal.NoElement = false
+refusal_holds refusal.NoHandler = false
+refusal_holds refusal.WrongWay = false
+refusal_holds (refusal.Handler f) = false
+refusal_holds (refusal.Config f) = true
+
 abbrev pub holds_memory : Reply → Bool
 holds_memory (reply.Value value) = true
 holds_memory reply.Done = false
-holds_memory (reply.Refused why) = false
+holds_memory (reply.Refused why) = refusal_holds why
 holds_memory (reply.Entered count) = false
 holds_memory (reply.Worked count) = false
 holds_memory (reply.Sent packet) = false

@@ -1,5 +1,9 @@
 //! What a router is asked, and what it answers.
 
+ghost use Rattle.std.specs.Prelude.{◌≡◌};
+ghost use Rattle.click_router.specs.One.{refusal_of};
+
+use crate::fault::ConfigFault;
 use click_handlers::HandlerFault;
 use click_packet::Packet;
 use click_text::sequence::Sequence;
@@ -13,7 +17,7 @@ pub enum Call {
         name: Sequence<u8>,
         text: Sequence<u8>,
     },
-    /// Writes a handler, named as `element.handler`, with the text.
+    /// Writes a handler, named as `element.handler`, with the text. A write of `hotconfig` is a swap.
     Write {
         name: Sequence<u8>,
         text: Sequence<u8>,
@@ -25,6 +29,10 @@ pub enum Call {
     /// Asks whether a handler can be written.
     CheckWrite {
         name: Sequence<u8>,
+    },
+    /// The configuration of the text takes the place of the running one, or is refused and changes nothing.
+    Swap {
+        text: Sequence<u8>,
     },
     /// A packet enters from a device.
     Arrive {
@@ -45,7 +53,7 @@ pub enum Call {
 }
 
 /// Why a call is refused.
-#[derive(Clone, Copy, Debug, PartialEq, Eq, Error)]
+#[derive(Debug, Drop, Error)]
 pub enum Refusal {
     #[error("no element has that name")]
     NoElement,
@@ -57,6 +65,9 @@ pub enum Refusal {
     /// What the handler says.
     #[error(transparent)]
     Handler(HandlerFault),
+    /// What is wrong with the configuration.
+    #[error(transparent)]
+    Config(ConfigFault),
 }
 
 /// What a call is answered.
@@ -64,7 +75,7 @@ pub enum Refusal {
 pub enum Reply {
     /// What was read.
     Value(Sequence<u8>),
-    /// The handler was written, or can be asked so.
+    /// The handler was written, or can be asked so; or the configuration runs.
     Done,
     Refused(Refusal),
     /// How many packets entered.
@@ -82,4 +93,15 @@ pub enum Reply {
 pub enum StepFault {
     #[error("out of memory")]
     NoMemory,
+}
+
+/// Why there is no handler of that name for one way.
+pub(crate) fn refusal_of(has_other: bool) -> Refusal
+    ensures { result ≡ refusal_of has_other }
+{
+    if has_other {
+        Refusal::WrongWay
+    } else {
+        Refusal::NoHandler
+    }
 }

@@ -4,10 +4,10 @@ ghost use Rattle.std.specs.Prelude.{◌≡◌, ◌++◌, None, Some, is_some, co
 ghost use Rattle.click_classes.specs.Classes.{name};
 ghost use Rattle.click_router.specs.State.{RouterState};
 ghost use Rattle.click_router.specs.Globals.{global_value, element_list, lines_of};
-ghost use Rattle.click_router.specs.One.{read_global};
+ghost use Rattle.click_router.specs.One.{read_global, is_hotconfig};
 ghost use Rattle.click_router.specs.kept.GlobalNames.{name_of};
 
-use crate::call::{Refusal, Reply, StepFault};
+use crate::call::{Reply, StepFault, refusal_of};
 use crate::opening::Prepared;
 use click_classes::{CLASSES, Class};
 use click_expand::{FlatElement, flat_text};
@@ -57,6 +57,13 @@ pub(crate) fn has_global(name: &[u8]) -> bool
     ensures { (s : RouterState) → result ≡ is_some (global_value s name.now) }
 {
     named(name).is_some()
+}
+
+/// Whether it is the name of the one handler of the router itself that is written.
+pub(crate) fn is_hotconfig(name: &[u8]) -> bool
+    ensures { result ≡ is_hotconfig name.now }
+{
+    name == b"hotconfig".as_slice()
 }
 
 /// Adds a line with its end.
@@ -122,10 +129,10 @@ impl Prepared {
 
     /// Reads a handler of the router itself.
     pub(crate) fn read_global(&self, alloc: Global, name: &[u8]) -> Result<Reply, StepFault>
-        ensures { IfOk result (λ reply. reply ≡ read_global (global_value self.now name.now)) }
+        ensures { IfOk result (λ reply. reply ≡ read_global name.now (global_value self.now name.now)) }
     {
         let Some(handler) = named(name) else {
-            return Ok(Reply::Refused(Refusal::NoHandler));
+            return Ok(Reply::Refused(refusal_of(is_hotconfig(name))));
         };
         match self.global_value(alloc, handler) {
             Ok(value) => Ok(Reply::Value(Sequence::of(value))),

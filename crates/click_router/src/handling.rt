@@ -6,11 +6,10 @@ ghost use Rattle.click_engine.specs.World.{blank};
 ghost use Rattle.click_handlers.specs.Answers.{IsReadAnswer, IsWriteAnswer};
 ghost use Rattle.click_handlers.specs.Reads.{read_value};
 ghost use Rattle.click_handlers.specs.Writes.{write_value};
-ghost use Rattle.click_router.specs.One.{refusal_of};
 ghost use Rattle.click_router.specs.One as spec;
 
-use crate::call::{Call, Refusal, Reply, StepFault};
-use crate::globals::has_global;
+use crate::call::{Call, Refusal, Reply, StepFault, refusal_of};
+use crate::globals::{has_global, is_hotconfig};
 use crate::handler_name::split;
 use crate::opening::Prepared;
 use click_engine::{Element, Plant};
@@ -21,11 +20,11 @@ use std::alloc::Global;
 /// What answers the calls of a router: a table of handlers. All that stands above a router is generic in it.
 pub trait Handlers {
     ghost use Rattle.std.specs.Prelude.{◌≡◌, true, IfOk, IfErr, MatchResult};
-    ghost use Rattle.click_router.specs.One.{one, takes_memory, holds_memory};
+    ghost use Rattle.click_router.specs.One.{Answers, takes_memory, holds_memory};
 
     /// Answers one call, as `Router::step` says it.
     fn step(&self, running: &mut Prepared, alloc: Global, call: &Call) -> Result<Reply, StepFault>
-        ensures answer { MatchResult result (λ reply. one running.old call.now ≡ (running.new, reply)) (λ _. running.new ≡ running.old) }
+        ensures answer { MatchResult result (λ reply. Answers running.old call.now running.new reply) (λ _. running.new ≡ running.old) }
         ensures refused { IfErr result (λ _. takes_memory call.now ≡ true) }
         ensures light { IfOk result (λ reply. holds_memory reply ≡ true → running.new ≡ running.old) };
 }
@@ -39,23 +38,12 @@ impl Prepared {
         ensures found { MatchOption result (spec.found self.now name.now ≡ None) (λ found. spec.found self.now name.now ≡ Some (found.0, found.1.now)) }
         ensures there { IfSome result (λ found. slice_get self.now.plant.elements found.0 ≡ Some found.1.now) }
     {
-        let at = self.names.place(name)?;
+        let at = self.plant.place(name)?;
         if at < self.plant.len() {
             Some((at, self.plant.element(at)))
         } else {
             None
         }
-    }
-}
-
-/// Why there is no handler of that name for one way.
-fn refusal_of(has_other: bool) -> Refusal
-    ensures { result ≡ refusal_of has_other }
-{
-    if has_other {
-        Refusal::WrongWay
-    } else {
-        Refusal::NoHandler
     }
 }
 
@@ -135,7 +123,7 @@ fn check_read(table: &Table, running: &Prepared, name: &[u8]) -> Reply
     ensures { result ≡ spec.check_read running.now name.now }
 {
     let Some((element, handler)) = split(name) else {
-        return check(has_global(name), false);
+        return check(has_global(name), is_hotconfig(name));
     };
     match running.find(element) {
         Some((_, found)) => {
@@ -153,7 +141,7 @@ fn check_write(table: &Table, running: &Prepared, name: &[u8]) -> Reply
     ensures { result ≡ spec.check_write running.now name.now }
 {
     let Some((element, handler)) = split(name) else {
-        return check(false, has_global(name));
+        return check(is_hotconfig(name), has_global(name));
     };
     match running.find(element) {
         Some((_, found)) => {
@@ -225,7 +213,7 @@ fn write_element(
     }
 }
 
-/// Writes a handler.
+/// Writes a handler that is no swap.
 fn write(
     table: &Table,
     running: &mut Prepared,
@@ -251,10 +239,14 @@ impl Handlers for Table {
                 read(self, running, alloc, name.as_slice(), text.as_slice())
             }
             Call::Write { name, text } => {
+                if is_hotconfig(name.as_slice()) {
+                    return running.swap(alloc, text.as_slice());
+                }
                 write(self, running, alloc, name.as_slice(), text.as_slice())
             }
             Call::CheckRead { name } => Ok(check_read(self, running, name.as_slice())),
             Call::CheckWrite { name } => Ok(check_write(self, running, name.as_slice())),
+            Call::Swap { text } => running.swap(alloc, text.as_slice()),
             Call::Arrive { device, packet } => Ok(running.arrive(device.as_slice(), packet)),
             Call::Poll { device, taken } => Ok(running.poll(device.as_slice(), taken.as_slice())),
             Call::Round => Ok(running.round()),

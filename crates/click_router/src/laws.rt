@@ -4,7 +4,8 @@ ghost use Rattle.std.specs.Prelude.{◌≡◌, ℕ, List, Some, true};
 ghost use Rattle.std.specs.List.{list_any};
 ghost use Rattle.click_engine.specs.declared.world.Element.{Element};
 ghost use Rattle.click_router.specs.declared.call.Call.TheVariants as call;
-ghost use Rattle.click_router.specs.One.{one, read, before, place_of, is_dot, with_element};
+ghost use Rattle.click_router.specs.declared.call.Reply.{Reply};
+ghost use Rattle.click_router.specs.One.{Answers, read, before, place_of, is_dot, with_element};
 ghost use Rattle.click_router.specs.State.{RouterState};
 ghost use Rattle.click_router.specs.declared.fault.ConfigFault.{ConfigFault};
 ghost use Rattle.click_router.specs.Opened.{IsOpened, IsFirstFault};
@@ -26,7 +27,9 @@ pub fn faults_once()
 
 /// A read changes nothing, and neither does asking whether a handler can be read or written.
 pub fn reads_change_nothing()
-    ensures { (s : RouterState) (name text : List ℕ) → ((one s (call.Read name text)).0 ≡ s) × ((one s (call.CheckRead name)).0 ≡ s) × ((one s (call.CheckWrite name)).0 ≡ s) }
+    ensures read { (s t : RouterState) (name text : List ℕ) (r : Reply) → Answers s (call.Read name text) t r → t ≡ s }
+    ensures check { (s t : RouterState) (name : List ℕ) (r : Reply) → Answers s (call.CheckRead name) t r → t ≡ s }
+    ensures check_write { (s t : RouterState) (name : List ℕ) (r : Reply) → Answers s (call.CheckWrite name) t r → t ≡ s }
 {}
 
 /// What a handler of one element answers does not depend on what stands in the place of another.

@@ -10,6 +10,7 @@ pub mod laws;
 mod opening;
 mod packets;
 mod router;
+mod swapping;
 
 pub use call::{Call, Refusal, Reply, StepFault};
 pub use fault::{ConfigFault, FaultKind, FaultPlace, Side};

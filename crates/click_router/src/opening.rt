@@ -4,8 +4,6 @@ ghost use Rattle.std.specs.Prelude.{◌≡◌, ◌⊎◌, ◌<◌, ◌≤◌, �
 ghost use Rattle.click_text.specs.Spelling.{longest_text};
 ghost use Rattle.click_router.specs.State.{RouterState};
 ghost use Rattle.click_text.specs.Spelling.{Spells};
-ghost use Rattle.click_expand.specs.Flat.{AreDistinct};
-ghost use Rattle.click_ports.specs.Net.{names_of};
 ghost use Rattle.click_router.specs.Opened as spec;
 ghost use Rattle.click_router.specs.Opened.{IsBegun, IsKnown, AreKnown, AreFresh, Begins, OpensAs, IsOpened, IsFirstFault, IsGiven, IsMemoryOr};
 ghost use Rattle.click_router.specs.kept.Refused.{IsUnfit, IsUnlawful, IsConfigFault};
@@ -13,7 +11,7 @@ ghost use Rattle.click_router.specs.kept.Refused.{IsUnfit, IsUnlawful, IsConfigF
 use crate::fault::{ConfigFault, FaultKind, FaultPlace};
 use click_classes::{ArgFault, State, class_of, make};
 use click_engine::Plant;
-use click_expand::{ExpandFault, FaultKind as ExpandKind, Flat, FlatElement, Names, flatten};
+use click_expand::{ExpandFault, FaultKind as ExpandKind, Flat, FlatElement, flatten};
 use click_ports::{FaultKind as PortKind, PortFault, resolve};
 use click_text::sequence::Sequence;
 use click_text::syntax::{Config, FaultKind as TextKind, Span, TextFault};
@@ -27,8 +25,6 @@ pub struct Prepared {
     pub(crate) text: Sequence<u8>,
     pub(crate) flat: Flat,
     pub(crate) plant: Plant,
-    /// The elements' names in their order, to look one up.
-    pub(crate) names: Names,
 }
 
 impl Model for Prepared {
@@ -40,7 +36,18 @@ impl Model for Prepared {
 
     ghost view = { λ p. record { text = p.text; flat = p.flat; plant = p.plant } };
 
-    ghost invariant = { λ p. p.names ≡ names_of p.flat.elements };
+    ghost invariant = { λ p. p.plant.net.names ≡ names_of p.flat.elements };
+}
+
+impl Prepared {
+    ghost use Rattle.std.specs.Prelude.{◌≡◌};
+
+    /// Its flat form.
+    pub fn flat(&self) -> &Flat
+        ensures { result.now ≡ self.now.flat }
+    {
+        &self.flat
+    }
 }
 
 /// The line of the place: one more than the LF bytes before it.
@@ -278,22 +285,9 @@ fn push(states: &mut Vec<State>, state: State) -> Result<(), AllocError>
     Ok(())
 }
 
-/// The names of the elements, of which no two are equal.
-fn names_from(alloc: Global, elements: &[FlatElement]) -> Result<Names, AllocError>
-    requires { AreDistinct (names_of elements.now) }
-    ensures { IfOk result (λ names. names ≡ names_of elements.now) }
-{
-    let mut names = Names::new(alloc);
-    for element in elements {
-        names.add(alloc, element.name.as_slice())?;
-    }
-    Ok(names)
-}
-
 /// The router of a flat form, or its first fault.
 fn prepare_flat(alloc: Global, text: Sequence<u8>, flat: Flat) -> Result<Prepared, ConfigFault>
     requires known { AreKnown flat.elements }
-    requires distinct { AreDistinct (names_of flat.elements) }
     ensures is { IfOk result (λ p. (p.text ≡ text) × (p.flat ≡ flat)) }
     ensures begins { IfOk result (λ p. Begins flat p.plant) }
     ensures err { IfErr result (λ f. IsMemoryOr f (IsUnfit flat.elements f ⊎ IsUnlawful flat f)) }
@@ -302,14 +296,8 @@ fn prepare_flat(alloc: Global, text: Sequence<u8>, flat: Flat) -> Result<Prepare
     match resolve(alloc, &flat, states.as_slice()) {
         Err(fault) => Err(of_ports(alloc, flat.elements.as_slice(), fault)?),
         Ok(net) => {
-            let names = names_from(alloc, flat.elements.as_slice())?;
             let plant = Plant::new(alloc, net, states)?;
-            Ok(Prepared {
-                text,
-                flat,
-                plant,
-                names,
-            })
+            Ok(Prepared { text, flat, plant })
         }
     }
 }

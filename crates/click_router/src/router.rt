@@ -24,6 +24,7 @@ impl<T> Model for Router<T> {
 impl<T> Router<T> {
     ghost use Rattle.std.specs.Prelude.{◌≡◌, ◌↔◌, IsTrue, IsSome};
     ghost use Rattle.click_engine.specs.Rounds.{source_of};
+    ghost use Rattle.click_router.specs.Swap.{taken};
 
     /// Begins with what was prepared, and answers handlers through the table. It takes no memory.
     pub fn open(table: T, prepared: Prepared) -> Router<T>
@@ -41,15 +42,23 @@ impl<T> Router<T> {
     {
         self.running.plant.has_source(device)
     }
+
+    /// What was prepared takes the place of what runs: a swap to a text that opens. Like-named queues of one class keep the packets that they have room for, and
+    /// the overruns go on. It takes no memory.
+    pub fn install(&mut self, prepared: Prepared)
+        ensures { self.new ≡ taken prepared self.old }
+    {
+        self.running.install(prepared);
+    }
 }
 
 impl<T: Handlers> Router<T> {
     ghost use Rattle.std.specs.Prelude.{◌≡◌, true, IfOk, IfErr, MatchResult};
-    ghost use Rattle.click_router.specs.One.{one, takes_memory, holds_memory};
+    ghost use Rattle.click_router.specs.One.{Answers, takes_memory, holds_memory};
 
-    /// Answers one call. Where memory is refused nothing has changed, and only a read or a write takes memory. A reply that holds memory comes only from a call that changed nothing.
+    /// Answers one call. Where memory is refused nothing has changed, and only a read, a write or a swap takes memory. A reply that holds memory comes only from a call that changed nothing.
     pub fn step(&mut self, alloc: Global, call: &Call) -> Result<Reply, StepFault>
-        ensures answer { MatchResult result (λ reply. one self.old call.now ≡ (self.new, reply)) (λ _. self.new ≡ self.old) }
+        ensures answer { MatchResult result (λ reply. Answers self.old call.now self.new reply) (λ _. self.new ≡ self.old) }
         ensures refused { IfErr result (λ _. takes_memory call.now ≡ true) }
         ensures light { IfOk result (λ reply. holds_memory reply ≡ true → self.new ≡ self.old) }
     {

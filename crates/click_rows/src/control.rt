@@ -70,9 +70,11 @@ impl Port for OneCounter {
             },
             Call::Write { name, text } => Ok(write_of(name.as_slice(), text.as_slice())),
             Call::CheckWrite { name } => Ok(write_of(name.as_slice(), b"ab")),
-            Call::Arrive { .. } | Call::Poll { .. } | Call::Round | Call::Transmit { .. } => {
-                Ok(Reply::NoDevice)
-            }
+            Call::Swap { .. }
+            | Call::Arrive { .. }
+            | Call::Poll { .. }
+            | Call::Round
+            | Call::Transmit { .. } => Ok(Reply::NoDevice),
         }
     }
 }

@@ -22,14 +22,14 @@ enum Row<'a> {
 enum Wanted<'a> {
     Value(&'a [u8]),
     Done,
-    Refused(Refusal),
+    Refused(HandlerFault),
 }
 
-const BAD_NUMBER: Wanted<'static> = Wanted::Refused(Refusal::Handler(HandlerFault::BadNumber));
+const BAD_NUMBER: Wanted<'static> = Wanted::Refused(HandlerFault::BadNumber);
 
-const OUT_OF_RANGE: Wanted<'static> = Wanted::Refused(Refusal::Handler(HandlerFault::OutOfRange));
+const OUT_OF_RANGE: Wanted<'static> = Wanted::Refused(HandlerFault::OutOfRange);
 
-const BAD_ADDRESS: Wanted<'static> = Wanted::Refused(Refusal::Handler(HandlerFault::BadAddress));
+const BAD_ADDRESS: Wanted<'static> = Wanted::Refused(HandlerFault::BadAddress);
 
 fn kept(alloc: Global, bytes: &[u8]) -> Result<Sequence<u8>, AllocError> {
     Ok(Sequence::of(Vec::from_slice(alloc, bytes)?))
@@ -57,7 +57,7 @@ fn is_wanted(reply: &Reply, wanted: Wanted<'_>) -> bool {
     match (reply, wanted) {
         (Reply::Value(value), Wanted::Value(bytes)) => value.as_slice() == bytes,
         (Reply::Done, Wanted::Done) => true,
-        (Reply::Refused(refusal), Wanted::Refused(why)) => *refusal == why,
+        (Reply::Refused(Refusal::Handler(fault)), Wanted::Refused(why)) => *fault == why,
         _ => false,
     }
 }

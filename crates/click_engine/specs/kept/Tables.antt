@@ -1,8 +1,9 @@
 -- The tables of connections.
-use Rattle.std.specs.Prelude.{◌≡◌, ℕ, ◌-◌, ◌^◌, List, [], ◌∷◌, map, slice_index_or, Option, Some, None, Bool, if◌then◌else◌}
+use Rattle.std.specs.Prelude.{◌≡◌, ℕ, ◌-◌, ◌^◌, List, [], ◌∷◌, map, position, slice_index_or, Option, Some, None, Bool, if◌then◌else◌}
 use Rattle.std.specs.declared.vec.Vec.{Vec}
 use Rattle.std.specs.declared.alloc.Global.{Global}
-use Rattle.click_engine.specs.Devices.{Device}
+use Rattle.std.specs.Str.{bytes_eq}
+use Rattle.click_engine.specs.Devices.{Device, element_with}
 use Rattle.click_engine.specs.Wires.{is_port}
 use Rattle.click_engine.specs.declared.world.Port.{Port}
 
@@ -49,3 +50,7 @@ devices (name ∷ names) (at ∷ places) = record { name = name; element = at } 
 -- the bytes of texts
 abbrev pub texts : List (Vec ℕ Global) → List (List ℕ)
 texts names = map (λ (name : Vec ℕ Global). name.items) names
+
+-- the table finds the first of those with a name
+abbrev pub FindsFirst : List Device → List (List ℕ) → Type 0
+FindsFirst table names = (name : List ℕ) → element_with table name ≡ position (bytes_eq name) names

@@ -3,11 +3,11 @@ use Rattle.std.proofs.Common.{◌≡◌, ◌+◌, ◌∷◌, [], ◌++◌, take,
 use Rattle.std.proofs.lemmas.List.{take_more}
 use Rattle.std.proofs.lemmas.Option.{slice_get_within, get_or_from_slice_get}
 use Rattle.click_classes.specs.PacketList.{PacketList}
-use Rattle.click_classes.proofs.packet_list.PacketList.resized.Goals as goal
+use Rattle.click_classes.proofs.packet_list.PacketList.fill.Goals as goal
 
 pub loop-place-preserved : goal.loop-place-preserved
 loop-place-preserved c =
-    let ps = c.args.self.now.packets in
+    let ps = c.args.old.now.packets in
     let at = c.loop-place.place in
     let p = c.packet.result.now in
     let more = take_more ps at p (slice_get_within ps at p c.packet.ensures) in

@@ -1,0 +1,9 @@
+-- Elements take over one after the other.
+use Rattle.std.specs.Prelude.{ℕ, List, [], slice_set, slice_index_or}
+use Rattle.click_engine.specs.Plant.{Plant}
+use Rattle.click_engine.specs.TakeOver.{named, after_it}
+use Rattle.click_engine.specs.World.{blank}
+
+-- the element at a place takes over from the one that had its name
+abbrev pub taken_at : Plant → Plant → ℕ → Plant
+taken_at v old at = record v { elements = slice_set v.elements at (after_it (slice_index_or v.elements at blank) (named old (slice_index_or v.net.names at []))) }

@@ -1,0 +1,1 @@
+FromDevice(a) -> q :: Queue(3) -> ToDevice(b);

@@ -1,0 +1,1 @@
+FromDevice(a) -> n :: Null -> n;
