@@ -73,3 +73,25 @@ is_not_empty() {
         fail "$2: wanted some bytes, came none"
     fi
 }
+
+# code CELL: what stands in the backquotes of a table's cell.
+code() {
+    local text=${1#*\`}
+    printf '%s' "${text%\`*}"
+}
+
+# fault_rows PAGE: of each row of a page as docs/FAULTS.md the fault's number and name, its example, and the line that it shows, with tabs between. A row is
+# `| number name | meaning | place | example | line | what to do |`; example and line are in backquotes, where a bar is written `\|`.
+fault_rows() {
+    local row fault example line
+    while IFS= read -r row; do
+        # A bar that separates cells becomes a byte that no cell has.
+        IFS=$'\x1f' read -r _ fault _ _ example line _ < <(sed -e 's/\\|/\x1e/g' -e 's/|/\x1f/g' -e 's/\x1e/|/g' <<< "$row")
+        printf '%s\t%s\t%s\n' "$(xargs <<< "$fault")" "$(code "$example")" "$(code "$line")"
+    done < <(grep '^| [0-9]' "$1")
+}
+
+# fault_kinds: the number and the name of each fault in crates/click_router/src/fault.rt, one a line.
+fault_kinds() {
+    sed -n '/^pub enum FaultKind/,/^}/s/^ *\([A-Za-z]*\) = \([0-9]*\),$/\2 \1/p' "$top/crates/click_router/src/fault.rt"
+}

@@ -2,19 +2,11 @@
 # The rows of docs/FAULTS.md: that there is one for each fault's number, in order and with its name in crates/click_router/src/fault.rt; and that the
 # program refuses each row's example with just the line that the row shows. The programs must have been built.
 #
-# A row is `| number name | meaning | place | example | line | what to do |`; example and line are in backquotes, where a bar is written `\|`.
-#
 #   tools/fault_examples.sh [PAGE]
 set -eu
 . "$(dirname "$(readlink -f "$0")")/checking.sh"
 is_built "$program" "$bench"
 page=${1:-$top/docs/FAULTS.md}
-
-# code CELL: what stands in its backquotes.
-code() {
-    local text=${1#*\`}
-    printf '%s' "${text%\`*}"
-}
 
 # prepares SIZE WORD: of so many blanks click_bench says that.
 prepares() {
@@ -26,10 +18,7 @@ prepares() {
 
 tried=0
 : > "$work/numbers"
-while IFS= read -r row; do
-    # A bar that separates cells becomes a byte that no cell has.
-    IFS=$'\x1f' read -r _ fault _ _ example line _ < <(sed -e 's/\\|/\x1e/g' -e 's/|/\x1f/g' -e 's/\x1e/|/g' <<< "$row")
-    fault=$(xargs <<< "$fault")
+while IFS=$'\t' read -r fault example line; do
     printf '%s\n' "$fault" >> "$work/numbers"
     case "$fault" in
     '6 TooLarge')
@@ -38,19 +27,19 @@ while IFS= read -r row; do
         prepares 1048577 TooLarge ;;
     '7 NoMemory') ;; # tools/refuse.sh
     *)
-        ran "$program" -e "$(code "$example")" < /dev/null
-        printf '%s\n' "$(code "$line")" > "$work/wanted"
+        ran "$program" -e "$example" < /dev/null
+        printf '%s\n' "$line" > "$work/wanted"
         same_bytes "$work/wanted" "$work/err" "the example of fault $fault"
         is_empty "$work/out" "standard output beside fault $fault"
         same_status 1 "$status" "the example of fault $fault"
-        case "$(code "$line")" in
+        case "$line" in
         "click_prog: $fault" | "click_prog: $fault "*) ;;
-        *) fail "the row of $fault shows the line $(code "$line")" ;;
+        *) fail "the row of $fault shows the line $line" ;;
         esac
         tried=$((tried + 1)) ;;
     esac
-done < <(grep '^| [0-9]' "$page")
-sed -n '/^pub enum FaultKind/,/^}/s/^ *\([A-Za-z]*\) = \([0-9]*\),$/\2 \1/p' "$top/crates/click_router/src/fault.rt" > "$work/kinds"
+done < <(fault_rows "$page")
+fault_kinds > "$work/kinds"
 is_not_empty "$work/kinds" 'the faults of crates/click_router/src/fault.rt'
 same_bytes "$work/kinds" "$work/numbers" "the faults of $page"
 echo "$tried faults of $(basename "$page") shown by their examples"

@@ -7,17 +7,19 @@
 #include <string.h>
 #include <unistd.h>
 
-static long left = -1;
+// How many requests are still to come until the refused one has; none is refused once it is 0.
+static long left;
+static int is_known;
 
 static int refused(void)
 {
     if (strncmp(program_invocation_short_name, "click_", 6) != 0) return 0;
-    if (left < 0) {
+    if (!is_known) {
         const char *nth = getenv("REFUSE");
         left = nth ? atol(nth) : 0;
-        left = left > 0 ? left : 1L << 60;
+        is_known = 1;
     }
-    if (--left == 0) {
+    if (left > 0 && --left == 0) {
         // Tells the caller of the program that the request came.
         (void)!write(9, "refused\n", 8);
         return 1;

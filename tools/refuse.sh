@@ -1,6 +1,6 @@
 #!/usr/bin/env bash
 # Refuses each request for memory of some runs in turn, until a run has none refused: the program's stored session and some others, handlers that are read and written, the
-# preparing and the parsing of some texts, the making of some elements. The programs must have been built.
+# preparing and the parsing of some texts, the making of some elements, swaps that are tried again. The programs must have been built.
 #
 #   tools/refuse.sh [program|calls|bench]    the runs of click_prog, of click_calls, or of click_bench, alone
 set -eu
@@ -11,11 +11,13 @@ if ! cc -O1 -shared -fPIC -o "$work/refuse.so" "$top/tools/refuse.c" -ldl; then 
 tried=0 answered=0 first=1
 
 # in_turn WHAT INPUT WHOLE ANSWER BROKEN FRONT COMMAND..: runs the command, over that input, with each request from number $first on refused in turn.
-# Where none is refused it writes WHOLE, with status 0. Else it writes ANSWER, with status 0, or it breaks off with status BROKEN, after some first bytes of FRONT. These
-# four are files; ANSWER is `none` where a refused request has no answer.
+# Where none is refused it writes WHOLE, with status 0. Else it writes ANSWER, with status 0, or it breaks off with status BROKEN, after some first bytes of FRONT. WHOLE,
+# ANSWER and FRONT are files, but ANSWER may be a folder, of which a file has to come, and each of them at some request; it is `none` where a refused request has no answer.
+# One request of a run may go unnoticed: the words of the command line are collected with room that is asked for beforehand, and without it as well.
 in_turn() {
     local what=$1 input=$2 whole=$3 answer=$4 broken=$5 front=$6 nth=$first run
     shift 6
+    answered_last=0 answered_first=0 unnoticed=0
     ran "$@" < "$input"
     is_whole "$whole" "$what"
     while :; do
@@ -24,9 +26,12 @@ in_turn() {
         : > "$work/refused"
         LD_PRELOAD="$work/refuse.so" REFUSE=$nth ran "$@" < "$input" 9> "$work/refused"
         if ! [ -s "$work/refused" ]; then break; fi
-        if [ "$status" = 0 ] && [ "$answer" != none ]; then
-            same_bytes "$answer" "$work/out" "$run"
-            answered=$((answered + 1))
+        if [ "$status" = 0 ] && [ "$unnoticed" = 0 ] && cmp -s "$whole" "$work/out"; then
+            unnoticed=$nth
+        elif [ "$status" = 0 ] && [ "$answer" != none ]; then
+            is_answer "$answer" "$run"
+            answered=$((answered + 1)) answered_last=$nth
+            if [ "$answered_first" = 0 ]; then answered_first=$nth; fi
         else
             same_status "$broken" "$status" "$run"
             begins "$work/out" "$front" "$run"
@@ -42,6 +47,32 @@ is_whole() {
     same_bytes "$1" "$work/out" "$2"
     is_empty "$work/err" "$2: standard error"
     same_status 0 "$status" "$2"
+}
+
+# in_one_row WHAT: the requests of the last run that were answered stand one after another; what asks for them breaks off at none of them.
+in_one_row() { same "$((answered_last - answered_first + 1))" "$answered" "$1: the requests that were answered, of those from the first to the last of them"; }
+
+# is_answer ANSWER WHAT: what came is that file, or one of the folder's, which is noted.
+is_answer() {
+    local one
+    if ! [ -d "$1" ]; then
+        same_bytes "$1" "$work/out" "$2"
+        return
+    fi
+    for one in "$1"/*; do
+        if cmp -s "$one" "$work/out"; then
+            printf '%s\n' "$one" >> "$work/came"
+            return
+        fi
+    done
+    fail "$2: none of the answers came, but:" "$(shown "$work/out")"
+}
+
+# each_came FOLDER WHAT: each of its files was an answer.
+each_came() {
+    printf '%s\n' "$1"/* > "$work/wanted"
+    sort -u "$work/came" > "$work/noted"
+    same_bytes "$work/wanted" "$work/noted" "$2: the answers that came"
 }
 
 # passed ANSWER WHAT: says how many requests of these runs were refused. Where there is an answer, some have to be answered by it.
@@ -60,6 +91,8 @@ asks_for_itself() {
 }
 
 refuse_program() {
+    refuse_swaps
+
     # The router's own request is answered, and the session goes on.
     printf 'Click::ControlSocket/1.3\r\n520 Out of memory\r\n200 Goodbye!\r\n' > "$work/answer"
     mapfile -t arguments < "$top/crates/click_prog/args"
@@ -88,13 +121,50 @@ E
     passed none 'while texts are prepared'
 }
 
+# swap_session REFUSED: what the session of refuse_swaps writes where the command of that number, counted from 1, has its request refused; 0 for none.
+swap_session() {
+    local at config=$text capacity=3
+    printf 'Click::ControlSocket/1.3\r\n'
+    for at in 1 2 3 4 5 6 7; do
+        case "$at" in
+        "$1") printf '520 Out of memory\r\n' ;;
+        1) printf "200 Write handler 'q.capacity' OK\r\n" ;;
+        2 | 5) printf "200 Write handler 'hotconfig' OK\r\n" ;;
+        3 | 6) printf "200 Read handler 'config' OK\r\nDATA %s\r\n%s" "${#config}" "$config" ;;
+        4 | 7) printf "200 Read handler 'q.capacity' OK\r\nDATA 1\r\n%s" "$capacity" ;;
+        esac
+        # What stands after it, if it was not refused.
+        case "$at" in
+        "$1") ;;
+        1) capacity=9 ;;
+        2 | 5) config=$next capacity=2 ;;
+        esac
+    done
+    printf '200 Goodbye!\r\n'
+}
+
+# A swap in a session, and again: where a request of the first is refused all is as it was, and the second takes over.
+refuse_swaps() {
+    local at
+    text='FromDevice(a) -> q :: Queue(3) -> ToDevice(b);'
+    next='FromDevice(a) -> q :: Queue(2) -> ToDevice(b);'
+    printf '%s\n' 'WRITE q.capacity 9' "WRITE hotconfig $next" 'READ config' 'READ q.capacity' "WRITE hotconfig $next" 'READ config' 'READ q.capacity' QUIT > "$work/session"
+    mkdir -p "$work/answers"
+    for at in 1 2 3 4 5 6 7; do swap_session "$at" > "$work/answers/$at"; done
+    swap_session 0 > "$work/whole"
+    : > "$work/came"
+    in_turn 'a session with swaps' "$work/session" "$work/whole" "$work/answers" 3 "$work/whole" "$program" -e "$text"
+    each_came "$work/answers" 'a session with swaps'
+    passed "$work/answers" 'in a session with swaps'
+}
+
 refuse_calls() {
     # The table of handlers, reads and writes, of elements and of the router itself: the replies before the refused request stand.
-    for config in capacity lookup suppressor switches source_handlers globals globals_of_compounds; do
+    for config in swap capacity lookup suppressor switches source_handlers globals globals_of_compounds; do
         example=$top/examples/calls/$config
         in_turn "the calls of $config" "$example.calls" "$example.out" none 3 "$example.out" "$calls" -e "$(cat "$example.click")"
     done
-    passed none 'while handlers are read and written'
+    passed none 'while handlers are read and written, and configurations are swapped'
 }
 
 refuse_bench() {
@@ -107,6 +177,16 @@ refuse_bench() {
         in_turn "the parser with $text" "$top/tools/texts/$text" "$work/whole" "$work/answer" 1 "$work/nothing" "$bench" input
     done
     passed "$work/answer" 'while texts are parsed'
+
+    # A router with three packets of five, and a text that has room for two of them. Where a request of the swap is refused it has its three, its drops and its text still, and
+    # the swap is made again.
+    taken='done\n2\n1\n2\nFromDevice(a) -> q :: Queue(2) -> ToDevice(b);\nsent [1]\nsent [2]\n'
+    printf '%s' 'FromDevice(a) -> q :: Queue(2) -> ToDevice(b);' > "$work/text"
+    printf "$taken" > "$work/whole"
+    printf "out of memory\n3\n2\n3\nFromDevice(a) -> q :: Queue(3) -> ToDevice(b);\n$taken" > "$work/answer"
+    in_turn 'a swap' "$work/text" "$work/whole" "$work/answer" 1 "$work/nothing" "$bench" retry
+    in_one_row 'a swap'
+    passed "$work/answer" 'in a swap of a router with packets'
 
     # What click_bench asks for itself comes first, as for an element without arguments; it is left out.
     while asks_for_itself "$first"; do first=$((first + 1)); done

@@ -173,6 +173,71 @@ for change in ': > "$out"' 'sed -i 1d "$out"' 'sed -i "s/ 255 / 254 /" "$out"' '
     wrapped "$work/wrong_calls" "$calls" "$change"
     CALLS=$work/wrong_calls is_refused "a click_calls with the change $change" tools/element_pages.sh
 done
+# Hot swap. A wrong click_calls is sent other calls than those that come, or its replies are changed.
+# other_calls CHANGE: makes $work/wrong_calls, which is sent the calls with the change, a script of sed; replies to lines that it marks by a `+` are left out.
+other_calls() {
+    local folder
+    folder=$(mktemp -d "$work/other.XXXX")
+    cat > "$work/wrong_calls" << E
+#!/bin/sh
+sed '$1' > "$folder/sent"
+status=0
+sed 's/^+//' "$folder/sent" | "$calls" "\$@" > "$folder/out" || status=\$?
+awk 'NR == FNR { added[FNR] = /^[+]/; next } !added[FNR]' "$folder/sent" "$folder/out"
+exit \$status
+E
+    chmod +x "$work/wrong_calls"
+}
+# swaps_wrong WHAT: both scripts of swaps refuse $work/wrong_calls.
+swaps_wrong() {
+    local script
+    for script in tools/swap_faults.sh tools/swap_sizes.sh; do
+        PROGRAM=$program CALLS=$work/wrong_calls is_refused "a click_calls with $1" $script
+    done
+}
+wrapped "$work/click_calls" "$calls" ''
+other_calls ''
+for script in tools/swap_faults.sh tools/swap_sizes.sh; do
+    for right in "$work/click_calls" "$work/wrong_calls"; do
+        PROGRAM=$work/click_prog CALLS=$right ran $script
+        same_status 0 "$status" "$script, with programs that change nothing"
+    done
+done
+# No swap is made, or none to a queue; a swap, or one to a queue alone, empties it; packets are lost or come, and counts and rooms change.
+for change in 's/^swap .*/checkwrite hotconfig/' 's/^swap FromDevice(a) -> q :: [a-zA-Z]*([0-9]*) -> ToDevice(b);$/checkwrite hotconfig/' '/^swap /a+write q.reset' \
+    '/^swap FromDevice(a) -> q :: /a+write q.reset' '/^swap /i+transmit b' '/^swap /a+transmit b' '/^swap /a+arrive a ff' '/^swap /a+write q.reset_counts' \
+    '/^swap /a+write q.capacity 7'; do
+    other_calls "$change"
+    swaps_wrong "the calls $change"
+done
+for change in 's/^refused Config .*/done/' 's/^refused Config \([0-9]*\) /refused Config 1\1 /' 's/^done$/refused Config 16 TooMany/' '$d' '$p'; do
+    wrapped "$work/wrong_calls" "$calls" "sed -i '$change' \"\$out\""
+    swaps_wrong "the change $change"
+done
+for change in ': > "$out"' 'status=3' 'echo junk >> "$err"'; do
+    wrapped "$work/wrong_calls" "$calls" "$change"
+    swaps_wrong "the change $change"
+done
+# Of the refused texts alone: what is told of the place, and what a session writes.
+wrapped "$work/wrong_calls" "$calls" 'sed -i "s/^\(refused Config [0-9]* [a-zA-Z]*\) .*/\1/" "$out"'
+PROGRAM=$program CALLS=$work/wrong_calls is_refused 'a click_calls with faults that have no place' tools/swap_faults.sh
+for change in 's/^520 \([0-9]*\) /520 1\1 /' '/^520-Write/,+1d' 's/^520-Write.*/200 Write handler '"'hotconfig'"' OK\r/;/^520 /d' 's/^7200 /2200 /' 's/^5510 /7510 /' \
+    's/500 Data too long/500 Line too long/'; do
+    wrapped "$work/wrong" "$program" "sed -i \"$change\" \"\$out\""
+    PROGRAM=$work/wrong CALLS=$calls is_refused "a program with the change $change" tools/swap_faults.sh
+done
+# Of the packets alone: two that are exchanged, one with another byte, and those that found no room but are not counted.
+for change in '/^sent 00c3f0 /{h;d};/^sent 00c3f1/G' 's/^sent 00c3f1/sent 00c3f0/' 's/^value 33393939$/value 30/'; do
+    wrapped "$work/wrong_calls" "$calls" "sed -i '$change' \"\$out\""
+    CALLS=$work/wrong_calls is_refused "a click_calls with the change $change" tools/swap_sizes.sh
+done
+# Where memory runs out in a swap: a queue that is emptied, drops that are forgotten, the other text, a swap that is not made again, a packet that is lost.
+for change in '2s/3/0/' '3s/2/0/' '5s/3/2/' '6s/done/out of memory/' '$d'; do
+    wrong_bench F "the change $change where a swap has no memory" "if grep -q '^out of' \"\$out\"; then sed -i '$change' \"\$out\"; fi"
+done
+wrong_bench F 'a swap that breaks off at some requests' 'if grep -q "^out of" "$out" && [ $((REFUSE % 2)) = 0 ]; then : > "$out"; status=1; fi'
+wrong F 'the other text where a swap has no memory' 'sed -i "/^520 Out/,\$ s/Queue(3)/Queue(2)/" "$out"'
+wrong F 'a refused swap that is told as made' 'sed -i "s/^520 Out.*/200 Write handler '"'hotconfig'"' OK\r/" "$out"'
 echo "$refused times a wrong program was refused"
 
 # changed FILE CHANGE: the file with the change, a script of sed that has to change something, as $work/page.
@@ -194,6 +259,8 @@ PROGRAM=$program wrong_page tools/readme.sh README.md '/^    \.\/run\.sh/d' 's/^
     '/^    DATA 1/d' 's/^    200 Read/    201 Read/' 's/^    0200/    200/'
 wrong_page tools/tries.sh README.md '/^    rt try/d' '/^    cd crates/d' 's/^    cd crates\/click_prog/    cd crates\/click_text/'
 wrong_page tools/control_example.sh docs/CONTROL.md '/^An example, with/d' 's/^    > QUIT/    > STOP/' 's/^    510/    511/' '/^    DATA 1/d'
+wrong_page tools/control_example.sh docs/HOTSWAP.md '/^An example, with/d' 's/^    > QUIT/    > STOP/' 's/^    520 31/    520 32/' 's/^    2> /    3> /' 's/^    >   ->/    > ->/' \
+    's/^      ->/     ->/'
 wrong_page tools/calls_examples.sh docs/CALLS.md '/^An example, with/d' 's/^    > transmit b/    > transmit a/' 's/^    value 32/    value 33/' '/^    sent none/d'
 CALLS=$calls wrong_page tools/element_pages.sh docs/ELEMENTS.md 's/^## Tee$/## Tea/' '/^## Tee$/,/^## PullTee$/d' 's/Tee(2)/Tee(3)/' 's/Packets pass\./Packets pass on./' \
     '0,/^```calls$/s//```/' '0,/^> transmit b/s//> transmit a/' 's/^sent 61 255 /sent 61 254 /' '/^nodevice$/d' '$a ```calls\nIdle;\n> round\nworked 0\n```' '$d'

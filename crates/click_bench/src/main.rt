@@ -3,6 +3,7 @@
 //!
 //! - `KIND SIZE` parses a text of that kind and size in bytes: its kind, its size, how many statements and bodies it has;
 //! - `input` parses what stands on standard input, `flat` expands it too, and `router` prepares a router from it;
+//! - `retry` swaps a router with queued packets to what stands on standard input, and again where memory was refused;
 //! - `lookup COUNT`, `classifier COUNT` make an element of that many arguments;
 //! - `engine CASE COUNT` drives a plant that many times (bench/engine);
 //! - `read ELEMENTS COUNT` reads a Counter's count that many times in a router of so many elements (bench/handlers);
@@ -14,6 +15,7 @@ mod expanding;
 mod making;
 mod preparing;
 mod reading;
+mod retrying;
 
 use click_classes::Class;
 use click_text::{LONGEST_TEXT, parse};
@@ -135,6 +137,7 @@ fn run(rt: &HostRuntime) -> io::Result<()> {
             "input" => return read_input(rt),
             "flat" => return expanding::input(rt),
             "router" => return preparing::input(rt),
+            "retry" => return retrying::input(rt),
             _ => {}
         }
     }

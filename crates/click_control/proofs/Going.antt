@@ -1,5 +1,5 @@
 -- Lemmas on a session that goes on.
-use Rattle.std.proofs.Common.{◌≡◌, ℕ, ◌+◌, ◌≤◌, ◌<◌, List, [], ◌∷◌, ◌++◌, length, Bool, true, false, ◌||◌, Option, None, Some, Result, Ok, Err, refl, sym, ap, ◌∙◌, inl, inr, le_trans, append_assoc, append-nil, add-zero, add_assoc, length-append, arith}
+use Rattle.std.proofs.Common.{◌≡◌, ℕ, ◌+◌, ◌≤◌, ◌<◌, List, [], ◌∷◌, ◌++◌, length, Bool, true, false, ◌||◌, Option, None, Some, Result, Ok, Err, refl, sym, ap, subst, ◌∙◌, inl, inr, le_trans, append_assoc, append-nil, add-zero, add_assoc, length-append, arith}
 use Rattle.std.specs.Io.KnownBytes.{Keeps, Consumes}
 use Rattle.std.proofs.KnownBytes.{Consumes-nil, Consumes-trans, Appends-trans}
 use Rattle.std.proofs.lemmas.List.Elements.{All-nil, All-push}
@@ -17,7 +17,7 @@ use Rattle.click_control.specs.Commands.{commands, in_line, is_last}
 use Rattle.click_control.specs.Taking.{Pending, fresh, to_come, Gives, GivesOne}
 use Rattle.click_control.specs.Peers.{Input, Output, HasRead, HasWritten}
 use Rattle.click_control.specs.ReplyText.{greeting, text_of}
-use Rattle.click_control.specs.Serving.{Answered, Asked, nothing, then_one, call_of, replies, most_reads, Course, IsWhole, IsFront, EndsWith, Ends, Serves}
+use Rattle.click_control.specs.Serving.{Answered, Asked, nothing, then_one, call_of, replies, most_reads, Course, IsWhole, IsFront, EndsWith, Ends, Serves, Turned, not_yet, once_more, WentThrough, NoneRefused, ServesTurns}
 use Rattle.click_control.specs.kept.Going.{Written, TakesIn, ending_of, SoFar, Goes}
 use Rattle.click_control.proofs.Streams.{commands_from-nil, to_come-fed}
 
@@ -132,10 +132,18 @@ module _ {P : Type 0} (asks : P → Call → Result Reply AskFault → P → Typ
       ap (λ l. l ++ text_of c a) e ∙ append_assoc greeting (replies taken answers) (text_of c a)
       ∙ ap (λ l. greeting ++ l) (sym (replies-push taken answers c a (Asked-length p taken answers q h)))
 
+module _ {P : Type 0} (asks : P → Call → Result Reply AskFault → P → Type 0) {T : Type 0} (turn : T → ℕ → Bool → T → Type 0) (done : T → ℕ → T → Type 0)
+    (readonly : Bool) (most : ℕ) where
+  -- the turns went through all commands taken up
+  turned-all : (old now : P) (was is : T) (had left : Input) (held holds : Output) (s : Pending) (n reads : ℕ)
+      → (h : SoFar asks turn done readonly most old now was is had left held holds s n reads) → Turned turn done was (length h.taken) is
+  turned-all old now was is had left held holds s n reads h = subst (λ (k : ℕ). Turned turn done was k is) (sym h.counted) h.turned
+
   -- the commands that come after a line
-  pub SoFar-line : (old now : P) (had left : Input) (held holds : Output) (s t : Pending) (reads : ℕ)
-      → SoFar asks readonly old now had left held holds s reads → Gives s t [] → SoFar asks readonly old now had left held holds t reads
-  SoFar-line old now had left held holds s t reads h gives = record {
+  pub SoFar-line : (old now : P) (was is : T) (had left : Input) (held holds : Output) (s t : Pending) (n reads : ℕ)
+      → SoFar asks turn done readonly most old now was is had left held holds s n reads → Gives s t []
+      → SoFar asks turn done readonly most old now was is had left held holds t n reads
+  SoFar-line old now was is had left held holds s t n reads h gives = record {
     input = h.input;
     read = h.read;
     many = h.many;
@@ -148,21 +156,25 @@ module _ {P : Type 0} (asks : P → Call → Result Reply AskFault → P → Typ
     output = h.output;
     written = h.written;
     whole = h.whole;
+    counted = h.counted;
+    turned = h.turned;
   }
 
   -- what was read is the commands taken up and those still to come
-  all-read : (old now : P) (had left : Input) (held holds : Output) (s : Pending) (reads : ℕ)
-      → (h : SoFar asks readonly old now had left held holds s reads) → commands h.input ≡ h.taken ++ to_come s []
-  all-read old now had left held holds s reads h = ap commands (sym (append-nil h.input)) ∙ h.spelled []
+  all-read : (old now : P) (was is : T) (had left : Input) (held holds : Output) (s : Pending) (n reads : ℕ)
+      → (h : SoFar asks turn done readonly most old now was is had left held holds s n reads) → commands h.input ≡ h.taken ++ to_come s []
+  all-read old now was is had left held holds s n reads h = ap commands (sym (append-nil h.input)) ∙ h.spelled []
 
-  all-taken : (old now : P) (had left : Input) (held holds : Output) (s : Pending) (reads : ℕ)
-      → (h : SoFar asks readonly old now had left held holds s reads) → to_come s [] ≡ [] → commands h.input ≡ h.taken ++ []
-  all-taken old now had left held holds s reads h none = all-read old now had left held holds s reads h ∙ ap (λ l. h.taken ++ l) none
+  all-taken : (old now : P) (was is : T) (had left : Input) (held holds : Output) (s : Pending) (n reads : ℕ)
+      → (h : SoFar asks turn done readonly most old now was is had left held holds s n reads) → to_come s [] ≡ [] → commands h.input ≡ h.taken ++ []
+  all-taken old now was is had left held holds s n reads h none =
+      all-read old now was is had left held holds s n reads h ∙ ap (λ l. h.taken ++ l) none
 
   -- nothing was done, and memory ran out
-  pub Serves-no_memory : (old now : P) (had left : Input) (held holds : Output) (s : Pending) (reads : ℕ)
-      → SoFar asks readonly old now had left held holds s reads → Serves asks readonly old now had left held holds (Err fault.NoMemory)
-  Serves-no_memory old now had left held holds s reads h = record {
+  pub Serves-no_memory : (old now : P) (was is : T) (had left : Input) (held holds : Output) (s : Pending) (n reads : ℕ)
+      → SoFar asks turn done readonly most old now was is had left held holds s n reads
+      → ServesTurns asks turn done readonly most old now was is had left held holds (Err fault.NoMemory)
+  Serves-no_memory old now was is had left held holds s n reads h = record {
     course = record {
       input = h.input;
       reads = reads;
@@ -175,7 +187,7 @@ module _ {P : Type 0} (asks : P → Call → Result Reply AskFault → P → Typ
     };
     read = h.read;
     within = h.within;
-    spelled = all-read old now had left held holds s reads h;
+    spelled = all-read old now was is had left held holds s n reads h;
     asked = h.asked;
     written = h.written;
     ends = (
@@ -186,11 +198,36 @@ module _ {P : Type 0} (asks : P → Call → Result Reply AskFault → P → Typ
       refl,
       refl,
     );
+    turned = inl (turned-all old now was is had left held holds s n reads h, inr h.whole);
+  }
+
+  -- the turn of the next command was refused
+  pub Serves-held : (old now : P) (was is refused : T) (had left : Input) (held holds : Output) (s t : Pending) (n reads : ℕ) (c : Command)
+      → SoFar asks turn done readonly most old now was is had left held holds s n reads → GivesOne s t c → turn is (n + 1) false refused
+      → ServesTurns asks turn done readonly most old now was refused had left held holds (Ok ended.GateClosed)
+  Serves-held old now was is refused had left held holds s t n reads c h one step = record {
+    course = record {
+      input = h.input;
+      reads = reads;
+      read_failed = false;
+      taken = h.taken;
+      more = c ∷ to_come t [];
+      answers = h.answers;
+      output = h.output;
+      write_failed = false;
+    };
+    read = h.read;
+    within = h.within;
+    spelled = all-read old now was is had left held holds s n reads h ∙ ap (λ l. h.taken ++ l) (one.gives []);
+    asked = h.asked;
+    written = h.written;
+    ends = (((c, to_come t [], refl), h.whole), h.goes_on, refl, refl);
+    turned = (is, turned-all old now was is had left held holds s n reads h, subst (λ (k : ℕ). turn is (k + 1) false refused) (sym h.counted) step);
   }
 
   -- a front of a reply was written after all earlier replies
-  part-front : (old now : P) (had left : Input) (held holds : Output) (s : Pending) (reads : ℕ) (c : Command) (a : Answer) (more : List Command) (failed : Bool)
-      (front rest : List ℕ) → (h : SoFar asks readonly old now had left held holds s reads) → text_of c a ≡ front ++ rest
+  part-front : (old now : P) (was is : T) (had left : Input) (held holds : Output) (s : Pending) (n reads : ℕ) (c : Command) (a : Answer) (more : List Command)
+      (failed : Bool) (front rest : List ℕ) → (h : SoFar asks turn done readonly most old now was is had left held holds s n reads) → text_of c a ≡ front ++ rest
       → IsFront (record {
         input = h.input;
         reads = reads;
@@ -201,21 +238,27 @@ module _ {P : Type 0} (asks : P → Call → Result Reply AskFault → P → Typ
         output = h.output ++ front;
         write_failed = failed;
       })
-  part-front old now had left held holds s reads c a more failed front rest h is = record {
+  part-front old now was is had left held holds s n reads c a more failed front rest h text = record {
     front = (
       rest,
-      sym (whole-push old now h.taken h.answers c a h.output h.asked h.whole) ∙ ap (λ l. h.output ++ l) is ∙ sym (append_assoc h.output front rest),
+      sym (whole-push asks readonly old now h.taken h.answers c a h.output h.asked h.whole) ∙ ap (λ l. h.output ++ l) text
+          ∙ sym (append_assoc h.output front rest),
     );
-    all_but_last = written-part h.taken c h.answers a h.output front (Asked-length old h.taken h.answers now h.asked) h.whole;
+    all_but_last = written-part h.taken c h.answers a h.output front (Asked-length asks readonly old h.taken h.answers now h.asked) h.whole;
   }
 
+  -- one more is counted
+  counted-push : (taken : List Command) (c : Command) (n : ℕ) → length taken ≡ n → length (taken ++ c ∷ []) ≡ n + 1
+  counted-push taken c n e = omega (arith, e, length-append taken (c ∷ []))
+
   -- a reply that was not written in full
-  pub Serves-reply : (f : ServeFault) (old now next : P) (had left : Input) (held holds then : Output) (s t : Pending) (reads : ℕ) (c : Command) (a : Answer)
-      → SoFar asks readonly old now had left held holds s reads → GivesOne s t c → Answered asks now (call_of readonly c) a next
-      → Written {T = Unit {0}} (Err f) holds then (text_of c a)
-      → Serves asks readonly old next had left held then (Err f)
-  Serves-reply fault.ReadFailed old now next had left held holds then s t reads c a h one answered w = absurd w
-  Serves-reply fault.WriteFailed old now next had left held holds then s t reads c a h one answered w = record {
+  pub Serves-reply : (f : ServeFault) (old now next : P) (was is given : T) (had left : Input) (held holds then : Output) (s t : Pending) (n reads : ℕ) (c : Command)
+      (a : Answer)
+      → SoFar asks turn done readonly most old now was is had left held holds s n reads → GivesOne s t c → turn is (n + 1) true given
+      → Answered asks now (call_of readonly c) a next → Written {T = Unit {0}} (Err f) holds then (text_of c a)
+      → ServesTurns asks turn done readonly most old next was given had left held then (Err f)
+  Serves-reply fault.ReadFailed old now next was is given had left held holds then s t n reads c a h one step answered w = absurd w
+  Serves-reply fault.WriteFailed old now next was is given had left held holds then s t n reads c a h one step answered w = record {
     course = record {
       input = h.input;
       reads = reads;
@@ -228,12 +271,13 @@ module _ {P : Type 0} (asks : P → Call → Result Reply AskFault → P → Typ
     };
     read = h.read;
     within = h.within;
-    spelled = read-push h.taken c (commands h.input) (to_come s []) (to_come t []) (all-read old now had left held holds s reads h) (one.gives []);
+    spelled = read-push h.taken c (commands h.input) (to_come s []) (to_come t []) (all-read old now was is had left held holds s n reads h) (one.gives []);
     asked = then_one old now next h.taken h.answers c a h.asked answered;
     written = HasWritten-trans held holds then h.output w.0 true h.written w.3;
-    ends = (part-front old now had left held holds s reads c a (to_come t []) true w.0 w.1 h w.2, refl, refl);
+    ends = (part-front old now was is had left held holds s n reads c a (to_come t []) true w.0 w.1 h w.2, refl, refl);
+    turned = inr (n, is, counted-push h.taken c n h.counted, h.turned, step);
   }
-  Serves-reply fault.NoMemory old now next had left held holds then s t reads c a h one answered w = record {
+  Serves-reply fault.NoMemory old now next was is given had left held holds then s t n reads c a h one step answered w = record {
     course = record {
       input = h.input;
       reads = reads;
@@ -246,18 +290,19 @@ module _ {P : Type 0} (asks : P → Call → Result Reply AskFault → P → Typ
     };
     read = h.read;
     within = h.within;
-    spelled = read-push h.taken c (commands h.input) (to_come s []) (to_come t []) (all-read old now had left held holds s reads h) (one.gives []);
+    spelled = read-push h.taken c (commands h.input) (to_come s []) (to_come t []) (all-read old now was is had left held holds s n reads h) (one.gives []);
     asked = then_one old now next h.taken h.answers c a h.asked answered;
     written = HasWritten-trans held holds then h.output w.0 false h.written w.3;
-    ends = (part-front old now had left held holds s reads c a (to_come t []) false w.0 w.1 h w.2, refl, refl);
+    ends = (part-front old now was is had left held holds s n reads c a (to_come t []) false w.0 w.1 h w.2, refl, refl);
+    turned = inr (n, is, counted-push h.taken c n h.counted, h.turned, step);
   }
 
   -- a command that does not end the session, answered in full
-  SoFar-replied : (old now next : P) (had left : Input) (held holds then : Output) (s t : Pending) (reads : ℕ) (c : Command) (a : Answer)
-      → SoFar asks readonly old now had left held holds s reads → GivesOne s t c → Answered asks now (call_of readonly c) a next
-      → HasWritten holds then (text_of c a) false → is_last c ≡ false
-      → SoFar asks readonly old next had left held then t reads
-  SoFar-replied old now next had left held holds then s t reads c a h one answered text on = record {
+  SoFar-replied : (old now next : P) (was is given told : T) (had left : Input) (held holds then : Output) (s t : Pending) (n reads : ℕ) (c : Command) (a : Answer)
+      → SoFar asks turn done readonly most old now was is had left held holds s n reads → GivesOne s t c → turn is (n + 1) true given → done given (n + 1) told
+      → Answered asks now (call_of readonly c) a next → HasWritten holds then (text_of c a) false → is_last c ≡ false
+      → SoFar asks turn done readonly most old next was told had left held then t (n + 1) reads
+  SoFar-replied old now next was is given told had left held holds then s t n reads c a h one step after answered text on = record {
     input = h.input;
     read = h.read;
     many = h.many;
@@ -269,16 +314,19 @@ module _ {P : Type 0} (asks : P → Call → Result Reply AskFault → P → Typ
     asked = then_one old now next h.taken h.answers c a h.asked answered;
     output = h.output ++ text_of c a;
     written = HasWritten-trans held holds then h.output (text_of c a) false h.written text;
-    whole = whole-push old now h.taken h.answers c a h.output h.asked h.whole;
+    whole = whole-push asks readonly old now h.taken h.answers c a h.output h.asked h.whole;
+    counted = counted-push h.taken c n h.counted;
+    turned = once_more was is given told n h.turned step after;
   }
 
   -- a command that ends the session, answered in full
-  Serves-last : (e : Ended) (old now next : P) (had left : Input) (held holds then : Output) (s t : Pending) (reads : ℕ) (c : Command) (a : Answer)
-      → SoFar asks readonly old now had left held holds s reads → GivesOne s t c → Answered asks now (call_of readonly c) a next
-      → HasWritten holds then (text_of c a) false → is_last c ≡ true
-      → ((course : Course) → IsWhole course → EndsWith course.taken c → course.read_failed ≡ false → course.write_failed ≡ false → Ends (Ok e) course left)
-      → Serves asks readonly old next had left held then (Ok e)
-  Serves-last e old now next had left held holds then s t reads c a h one answered text last ends = record {
+  Serves-last : (e : Ended) (old now next : P) (was is given told : T) (had left : Input) (held holds then : Output) (s t : Pending) (n reads : ℕ) (c : Command) (a : Answer)
+      → SoFar asks turn done readonly most old now was is had left held holds s n reads → GivesOne s t c → turn is (n + 1) true given → done given (n + 1) told
+      → Answered asks now (call_of readonly c) a next → HasWritten holds then (text_of c a) false → is_last c ≡ true
+      → ((course : Course) → IsWhole course → EndsWith course.taken c → course.read_failed ≡ false → course.write_failed ≡ false → Ends most (Ok e) course left)
+      → ((course : Course) → Turned turn done was (length course.taken) told → WentThrough turn done was told (Ok e) course)
+      → ServesTurns asks turn done readonly most old next was told had left held then (Ok e)
+  Serves-last e old now next was is given told had left held holds then s t n reads c a h one step after answered text last ends went = record {
     course = record {
       input = h.input;
       reads = reads;
@@ -291,43 +339,47 @@ module _ {P : Type 0} (asks : P → Call → Result Reply AskFault → P → Typ
     };
     read = h.read;
     within = h.within;
-    spelled = read-push h.taken c (commands h.input) (to_come s []) [] (all-read old now had left held holds s reads h) (one.gives [] ∙ ap (λ l. c ∷ l) (one.last last []));
+    spelled = read-push h.taken c (commands h.input) (to_come s []) [] (all-read old now was is had left held holds s n reads h)
+        (one.gives [] ∙ ap (λ l. c ∷ l) (one.last last []));
     asked = then_one old now next h.taken h.answers c a h.asked answered;
     written = HasWritten-trans held holds then h.output (text_of c a) false h.written text;
-    ends = ends _ (refl, whole-push old now h.taken h.answers c a h.output h.asked h.whole) (h.taken, refl) refl refl;
+    ends = ends _ (refl, whole-push asks readonly old now h.taken h.answers c a h.output h.asked h.whole) (h.taken, refl) refl refl;
+    turned = went _ (subst (λ (k : ℕ). Turned turn done was k told) (sym (counted-push h.taken c n h.counted))
+        (once_more was is given told n h.turned step after));
   }
 
   -- a command whose reply was written in full
-  pub Goes-replied : (c : Command) (old now next : P) (had left : Input) (held holds then : Output) (s t : Pending) (reads : ℕ) (a : Answer)
-      → SoFar asks readonly old now had left held holds s reads → GivesOne s t c → Answered asks now (call_of readonly c) a next
-      → HasWritten holds then (text_of c a) false
-      → Goes asks readonly old next had left held then t reads (Ok (ending_of c))
-  Goes-replied (command.Read name text) old now next had left held holds then s t reads a h one answered w =
-      SoFar-replied old now next had left held holds then s t reads (command.Read name text) a h one answered w refl
-  Goes-replied (command.Write name text) old now next had left held holds then s t reads a h one answered w =
-      SoFar-replied old now next had left held holds then s t reads (command.Write name text) a h one answered w refl
-  Goes-replied (command.CheckRead name) old now next had left held holds then s t reads a h one answered w =
-      SoFar-replied old now next had left held holds then s t reads (command.CheckRead name) a h one answered w refl
-  Goes-replied (command.CheckWrite name) old now next had left held holds then s t reads a h one answered w =
-      SoFar-replied old now next had left held holds then s t reads (command.CheckWrite name) a h one answered w refl
-  Goes-replied command.Quit old now next had left held holds then s t reads a h one answered w =
-      Serves-last ended.Quit old now next had left held holds then s t reads command.Quit a h one answered w refl
-      (λ course whole last read write. (whole, last, read, write))
-  Goes-replied command.Syntax old now next had left held holds then s t reads a h one answered w =
-      SoFar-replied old now next had left held holds then s t reads command.Syntax a h one answered w refl
-  Goes-replied command.LineTooLong old now next had left held holds then s t reads a h one answered w =
-      Serves-last ended.TooLong old now next had left held holds then s t reads command.LineTooLong a h one answered w refl
-      (λ course whole last read write. (whole, inl last, read, write))
-  Goes-replied command.DataTooLong old now next had left held holds then s t reads a h one answered w =
-      Serves-last ended.TooLong old now next had left held holds then s t reads command.DataTooLong a h one answered w refl
-      (λ course whole last read write. (whole, inr last, read, write))
-  Goes-replied (command.Unknown word) old now next had left held holds then s t reads a h one answered w =
-      SoFar-replied old now next had left held holds then s t reads (command.Unknown word) a h one answered w refl
+  pub Goes-replied : (c : Command) (old now next : P) (was is given told : T) (had left : Input) (held holds then : Output) (s t : Pending) (n reads : ℕ) (a : Answer)
+      → SoFar asks turn done readonly most old now was is had left held holds s n reads → GivesOne s t c → turn is (n + 1) true given → done given (n + 1) told
+      → Answered asks now (call_of readonly c) a next → HasWritten holds then (text_of c a) false
+      → Goes asks turn done readonly most old next was told had left held then t (n + 1) reads (Ok (ending_of c))
+  Goes-replied (command.Read name text) old now next was is given told had left held holds then s t n reads a h one step after answered w =
+      SoFar-replied old now next was is given told had left held holds then s t n reads (command.Read name text) a h one step after answered w refl
+  Goes-replied (command.Write name text) old now next was is given told had left held holds then s t n reads a h one step after answered w =
+      SoFar-replied old now next was is given told had left held holds then s t n reads (command.Write name text) a h one step after answered w refl
+  Goes-replied (command.CheckRead name) old now next was is given told had left held holds then s t n reads a h one step after answered w =
+      SoFar-replied old now next was is given told had left held holds then s t n reads (command.CheckRead name) a h one step after answered w refl
+  Goes-replied (command.CheckWrite name) old now next was is given told had left held holds then s t n reads a h one step after answered w =
+      SoFar-replied old now next was is given told had left held holds then s t n reads (command.CheckWrite name) a h one step after answered w refl
+  Goes-replied command.Quit old now next was is given told had left held holds then s t n reads a h one step after answered w =
+      Serves-last ended.Quit old now next was is given told had left held holds then s t n reads command.Quit a h one step after answered w refl
+      (λ course whole last read write. (whole, last, read, write)) (λ course all. all)
+  Goes-replied command.Syntax old now next was is given told had left held holds then s t n reads a h one step after answered w =
+      SoFar-replied old now next was is given told had left held holds then s t n reads command.Syntax a h one step after answered w refl
+  Goes-replied command.LineTooLong old now next was is given told had left held holds then s t n reads a h one step after answered w =
+      Serves-last ended.TooLong old now next was is given told had left held holds then s t n reads command.LineTooLong a h one step after answered w refl
+      (λ course whole last read write. (whole, inl last, read, write)) (λ course all. all)
+  Goes-replied command.DataTooLong old now next was is given told had left held holds then s t n reads a h one step after answered w =
+      Serves-last ended.TooLong old now next was is given told had left held holds then s t n reads command.DataTooLong a h one step after answered w refl
+      (λ course whole last read write. (whole, inr last, read, write)) (λ course all. all)
+  Goes-replied (command.Unknown word) old now next was is given told had left held holds then s t n reads a h one step after answered w =
+      SoFar-replied old now next was is given told had left held holds then s t n reads (command.Unknown word) a h one step after answered w refl
 
   -- ---- the greeting
 
-  pub SoFar-greeted : (p : P) (had : Input) (held holds : Output) → HasWritten held holds greeting false → SoFar asks readonly p p had had held holds fresh 0
-  SoFar-greeted p had held holds text = record {
+  pub SoFar-greeted : (p : P) (t : T) (had : Input) (held holds : Output) → HasWritten held holds greeting false
+      → SoFar asks turn done readonly most p p t t had had held holds fresh 0 0
+  SoFar-greeted p t had held holds text = record {
     input = [];
     read = HasRead-none had;
     many = omega arith;
@@ -340,16 +392,18 @@ module _ {P : Type 0} (asks : P → Call → Result Reply AskFault → P → Typ
     output = greeting;
     written = text;
     whole = sym (append-nil greeting);
+    counted = refl;
+    turned = not_yet t;
   }
 
   none-taken : (output : List ℕ) (earlier : List Command) (last : Command) → [] ≡ earlier ++ last ∷ []
       → (rest : List ℕ) × (output ≡ greeting ++ replies earlier [] ++ rest)
   none-taken output earlier last e = absurd (omega (arith, ap length e, length-append earlier (last ∷ [])))
 
-  pub Serves-greeting : (f : ServeFault) (p : P) (had : Input) (held holds : Output) → Written {T = Unit {0}} (Err f) held holds greeting
-      → Serves asks readonly p p had had held holds (Err f)
-  Serves-greeting fault.ReadFailed p had held holds w = absurd w
-  Serves-greeting fault.WriteFailed p had held holds w = record {
+  pub Serves-greeting : (f : ServeFault) (p : P) (t : T) (had : Input) (held holds : Output) → Written {T = Unit {0}} (Err f) held holds greeting
+      → ServesTurns asks turn done readonly most p p t t had had held holds (Err f)
+  Serves-greeting fault.ReadFailed p t had held holds w = absurd w
+  Serves-greeting fault.WriteFailed p t had held holds w = record {
     course = record {
       input = [];
       reads = 0;
@@ -373,8 +427,9 @@ module _ {P : Type 0} (asks : P → Call → Result Reply AskFault → P → Typ
       refl,
       refl,
     );
+    turned = inl (not_yet t, inl refl);
   }
-  Serves-greeting fault.NoMemory p had held holds w = record {
+  Serves-greeting fault.NoMemory p t had held holds w = record {
     course = record {
       input = [];
       reads = 0;
@@ -398,14 +453,15 @@ module _ {P : Type 0} (asks : P → Call → Result Reply AskFault → P → Typ
       refl,
       refl,
     );
+    turned = inl (not_yet t, inl refl);
   }
 
   -- ---- a read
 
-  pub SoFar-took : (old now : P) (had left then : Input) (held holds : Output) (s t : Pending) (reads : ℕ)
-      → SoFar asks readonly old now had left held holds s reads → reads < most_reads → TakesIn left then s t (Ok true)
-      → SoFar asks readonly old now had then held holds t (reads + 1)
-  SoFar-took old now had left then held holds s t reads h room took =
+  pub SoFar-took : (old now : P) (was is : T) (had left then : Input) (held holds : Output) (s t : Pending) (n reads : ℕ)
+      → SoFar asks turn done readonly most old now was is had left held holds s n reads → reads < most → TakesIn left then s t (Ok true)
+      → SoFar asks turn done readonly most old now was is had then held holds t n (reads + 1)
+  SoFar-took old now was is had left then held holds s t n reads h room took =
       let piece = took.0 in
       record {
         input = h.input ++ piece;
@@ -421,12 +477,14 @@ module _ {P : Type 0} (asks : P → Call → Result Reply AskFault → P → Typ
         output = h.output;
         written = h.written;
         whole = h.whole;
+        counted = h.counted;
+        turned = h.turned;
       }
 
-  pub Serves-end : (old now : P) (had left then : Input) (held holds : Output) (s t : Pending) (reads : ℕ)
-      → SoFar asks readonly old now had left held holds s reads → to_come s [] ≡ [] → reads < most_reads → TakesIn left then s t (Ok false)
-      → Serves asks readonly old now had then held holds (Ok ended.EndOfInput)
-  Serves-end old now had left then held holds s t reads h none room took = record {
+  pub Serves-end : (old now : P) (was is : T) (had left then : Input) (held holds : Output) (s t : Pending) (n reads : ℕ)
+      → SoFar asks turn done readonly most old now was is had left held holds s n reads → to_come s [] ≡ [] → reads < most → TakesIn left then s t (Ok false)
+      → ServesTurns asks turn done readonly most old now was is had then held holds (Ok ended.EndOfInput)
+  Serves-end old now was is had left then held holds s t n reads h none room took = record {
     course = record {
       input = h.input ++ [];
       reads = reads + 1;
@@ -439,16 +497,17 @@ module _ {P : Type 0} (asks : P → Call → Result Reply AskFault → P → Typ
     };
     read = HasRead-trans had left then h.input [] reads 1 false h.read took.0;
     within = omega (arith, room);
-    spelled = ap commands (append-nil h.input) ∙ all-taken old now had left held holds s reads h none;
+    spelled = ap commands (append-nil h.input) ∙ all-taken old now was is had left held holds s n reads h none;
     asked = h.asked;
     written = h.written;
     ends = ((refl, h.whole), h.goes_on, took.1, refl, refl);
+    turned = turned-all old now was is had left held holds s n reads h;
   }
 
-  pub Serves-read : (f : ServeFault) (old now : P) (had left then : Input) (held holds : Output) (s t : Pending) (reads : ℕ)
-      → SoFar asks readonly old now had left held holds s reads → to_come s [] ≡ [] → reads < most_reads → TakesIn left then s t (Err f)
-      → Serves asks readonly old now had then held holds (Err f)
-  Serves-read fault.ReadFailed old now had left then held holds s t reads h none room took = record {
+  pub Serves-read : (f : ServeFault) (old now : P) (was is : T) (had left then : Input) (held holds : Output) (s t : Pending) (n reads : ℕ)
+      → SoFar asks turn done readonly most old now was is had left held holds s n reads → to_come s [] ≡ [] → reads < most → TakesIn left then s t (Err f)
+      → ServesTurns asks turn done readonly most old now was is had then held holds (Err f)
+  Serves-read fault.ReadFailed old now was is had left then held holds s t n reads h none room took = record {
     course = record {
       input = h.input ++ [];
       reads = reads + 0;
@@ -461,12 +520,13 @@ module _ {P : Type 0} (asks : P → Call → Result Reply AskFault → P → Typ
     };
     read = HasRead-trans had left then h.input [] reads 0 true h.read took;
     within = omega (arith, room);
-    spelled = ap commands (append-nil h.input) ∙ all-taken old now had left held holds s reads h none;
+    spelled = ap commands (append-nil h.input) ∙ all-taken old now was is had left held holds s n reads h none;
     asked = h.asked;
     written = h.written;
     ends = ((refl, h.whole), h.goes_on, inl (refl, omega (arith, room)), refl);
+    turned = turned-all old now was is had left held holds s n reads h;
   }
-  Serves-read fault.NoMemory old now had left then held holds s t reads h none room took = record {
+  Serves-read fault.NoMemory old now was is had left then held holds s t n reads h none room took = record {
     course = record {
       input = h.input ++ took.0;
       reads = reads + 1;
@@ -490,14 +550,15 @@ module _ {P : Type 0} (asks : P → Call → Result Reply AskFault → P → Typ
       refl,
       refl,
     );
+    turned = inl (turned-all old now was is had left held holds s n reads h, inr h.whole);
   }
-  Serves-read fault.WriteFailed old now had left then held holds s t reads h none room took = absurd took
+  Serves-read fault.WriteFailed old now was is had left then held holds s t n reads h none room took = absurd took
 
   -- all the reads are used up
-  pub Serves-spent : (old now : P) (had left : Input) (held holds : Output) (s : Pending) (reads : ℕ)
-      → SoFar asks readonly old now had left held holds s reads → to_come s [] ≡ [] → most_reads ≤ reads
-      → Serves asks readonly old now had left held holds (Err fault.ReadFailed)
-  Serves-spent old now had left held holds s reads h none spent = record {
+  pub Serves-spent : (old now : P) (was is : T) (had left : Input) (held holds : Output) (s : Pending) (n reads : ℕ)
+      → SoFar asks turn done readonly most old now was is had left held holds s n reads → to_come s [] ≡ [] → most ≤ reads
+      → ServesTurns asks turn done readonly most old now was is had left held holds (Err fault.ReadFailed)
+  Serves-spent old now was is had left held holds s n reads h none spent = record {
     course = record {
       input = h.input;
       reads = reads;
@@ -510,8 +571,34 @@ module _ {P : Type 0} (asks : P → Call → Result Reply AskFault → P → Typ
     };
     read = h.read;
     within = h.within;
-    spelled = all-taken old now had left held holds s reads h none;
+    spelled = all-taken old now was is had left held holds s n reads h none;
     asked = h.asked;
     written = h.written;
     ends = ((refl, h.whole), h.goes_on, inr (refl, omega (arith, spent, h.within), le_trans spent h.many), refl);
+    turned = turned-all old now was is had left held holds s n reads h;
   }
+
+-- ---- turns that are all given
+
+given-none : {T : Type 0} (turn : T → ℕ → Bool → T → Type 0) (done : T → ℕ → T → Type 0) → ((t u : T) (n : ℕ) → turn t n false u → ⊥)
+    → (was is : T) (result : Result Ended ServeFault) (course : Course) → WentThrough turn done was is result course → NoneRefused result course
+given-none turn done never was is (Ok ended.Quit) course w = tt
+given-none turn done never was is (Ok ended.TooLong) course w = tt
+given-none turn done never was is (Ok ended.EndOfInput) course w = tt
+given-none turn done never was is (Ok ended.GateClosed) course w = never w.0 is (length course.taken + 1) w.2
+given-none turn done never was is (Err f) course w = tt
+
+pub Serves-open : {P T : Type 0} (asks : P → Call → Result Reply AskFault → P → Type 0) (turn : T → ℕ → Bool → T → Type 0) (done : T → ℕ → T → Type 0)
+    (readonly : Bool) → ((t u : T) (n : ℕ) → turn t n false u → ⊥) → (old new : P) (was is : T) (had left : Input) (held holds : Output)
+    (result : Result Ended ServeFault) → ServesTurns asks turn done readonly most_reads old new was is had left held holds result
+    → Serves asks readonly old new had left held holds result
+Serves-open asks turn done readonly never old new was is had left held holds result h = record {
+  course = h.course;
+  read = h.read;
+  within = h.within;
+  spelled = h.spelled;
+  asked = h.asked;
+  written = h.written;
+  ends = h.ends;
+  turned = given-none turn done never was is result h.course h.turned;
+}

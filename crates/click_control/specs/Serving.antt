@@ -1,5 +1,5 @@
 -- A whole session: what it asked, and what it wrote.
-use Rattle.std.specs.Prelude.{◌≡◌, ◌⊎◌, ℕ, ◌≤◌, ◌<◌, List, [], ◌∷◌, ◌++◌, length, All, Bool, true, false, Option, Some, None, Result, Ok, Err, if◌then◌else◌}
+use Rattle.std.specs.Prelude.{◌≡◌, ◌⊎◌, ℕ, ◌+◌, ◌≤◌, ◌<◌, List, [], ◌∷◌, ◌++◌, length, All, Bool, true, false, Option, Some, None, Result, Ok, Err, if◌then◌else◌}
 use Rattle.std.specs.Io.KnownBytes.{IsAtEnd}
 use Rattle.click_router.specs.declared.call.Call.{Call}
 use Rattle.click_router.specs.declared.call.Call.TheVariants as call
@@ -51,7 +51,7 @@ replies [] answers = []
 replies (c ∷ cs) [] = []
 replies (c ∷ cs) (a ∷ answers) = text_of c a ++ replies cs answers
 
--- how many reads a session may have
+-- how many reads a session may have, where its caller does not say
 abbrev pub most_reads : ℕ
 most_reads = 4294967295
 
@@ -89,34 +89,92 @@ pub record IsFront (course : Course) : Type 0 where
   pub all_but_last : (earlier : List Command) (last : Command) → course.taken ≡ earlier ++ last ∷ []
       → (rest : List ℕ) × (course.output ≡ greeting ++ replies earlier course.answers ++ rest)
 
--- Why a session reads no more of its input: a read failed, or it had as many as it may have, each of which gave a byte.
-abbrev pub ReadsNoMore : Course → Type 0
-ReadsNoMore course =
-    ((course.read_failed ≡ true) × (course.reads < most_reads))
-    ⊎ ((course.read_failed ≡ false) × (course.reads ≡ most_reads) × (most_reads ≤ length course.input))
+-- A session of such a course stands before a command: it was read and not taken up. The replies to those before it are written.
+abbrev pub StandsBeforeOne : Course → Type 0
+StandsBeforeOne course =
+    ((c : Command) × (rest : List Command) × (course.more ≡ c ∷ rest)) × (course.output ≡ greeting ++ replies course.taken course.answers)
 
--- How a session ends, which leaves its reader like this.
-abbrev pub Ends : Result Ended ServeFault → Course → Input → Type 0
-Ends (Ok ended.Quit) course left =
+-- Why a session reads no more of its input: a read failed, or it had as many as it may have, each of which gave a byte.
+abbrev pub ReadsNoMore : ℕ → Course → Type 0
+ReadsNoMore most course =
+    ((course.read_failed ≡ true) × (course.reads < most))
+    ⊎ ((course.read_failed ≡ false) × (course.reads ≡ most) × (most ≤ length course.input))
+
+-- How a session of so many reads at most ends, which leaves its reader like this.
+abbrev pub Ends : ℕ → Result Ended ServeFault → Course → Input → Type 0
+Ends most (Ok ended.Quit) course left =
     IsWhole course × EndsWith course.taken command.Quit × (course.read_failed ≡ false) × (course.write_failed ≡ false)
-Ends (Ok ended.TooLong) course left =
+Ends most (Ok ended.TooLong) course left =
     IsWhole course × EndsTooLong course.taken × (course.read_failed ≡ false) × (course.write_failed ≡ false)
-Ends (Ok ended.EndOfInput) course left =
+Ends most (Ok ended.EndOfInput) course left =
     IsWhole course × GoesOn course.taken × IsAtEnd left.remaining × (course.read_failed ≡ false) × (course.write_failed ≡ false)
-Ends (Err fault.ReadFailed) course left =
-    IsWhole course × GoesOn course.taken × ReadsNoMore course × (course.write_failed ≡ false)
-Ends (Err fault.WriteFailed) course left =
+Ends most (Ok ended.GateClosed) course left =
+    StandsBeforeOne course × GoesOn course.taken × (course.read_failed ≡ false) × (course.write_failed ≡ false)
+Ends most (Err fault.ReadFailed) course left =
+    IsWhole course × GoesOn course.taken × ReadsNoMore most course × (course.write_failed ≡ false)
+Ends most (Err fault.WriteFailed) course left =
     IsFront course × (course.read_failed ≡ false) × (course.write_failed ≡ true)
-Ends (Err fault.NoMemory) course left =
+Ends most (Err fault.NoMemory) course left =
     IsFront course × (course.read_failed ≡ false) × (course.write_failed ≡ false)
 
--- A session with a port, a reader and a writer, each before and after it; it may be one that only reads.
-pub record Serves {P : Type 0} (asks : P → Call → Result Reply AskFault → P → Type 0) (readonly : Bool) (old new : P) (had left : Input) (held holds : Output)
-    (result : Result Ended ServeFault) : Type 0 where
+-- A session with a port, a reader and a writer, each before and after it; it may be one that only reads. It makes so many reads at most, and its turns went
+-- as this says of how it ended and of its course.
+pub record ServesSo {P : Type 0} (asks : P → Call → Result Reply AskFault → P → Type 0) (readonly : Bool) (most : ℕ) (went : Result Ended ServeFault → Course → Type 0)
+    (old new : P) (had left : Input) (held holds : Output) (result : Result Ended ServeFault) : Type 0 where
   pub course : Course
   pub read : HasRead had left course.input course.reads course.read_failed
-  pub within : course.reads ≤ most_reads
+  pub within : course.reads ≤ most
   pub spelled : commands course.input ≡ course.taken ++ course.more
   pub asked : Asked asks readonly old course.taken course.answers new
   pub written : HasWritten held holds course.output course.write_failed
-  pub ends : Ends result course left
+  pub ends : Ends most result course left
+  pub turned : went result course
+
+-- no turn was refused
+abbrev pub NoneRefused : Result Ended ServeFault → Course → Type 0
+NoneRefused (Ok ended.Quit) course = Unit {0}
+NoneRefused (Ok ended.TooLong) course = Unit {0}
+NoneRefused (Ok ended.EndOfInput) course = Unit {0}
+NoneRefused (Ok ended.GateClosed) course = ⊥
+NoneRefused (Err f) course = Unit {0}
+
+-- A session with as many reads as one may have, none of whose turns is refused: it never ends at a closed gate.
+abbrev pub Serves : {P : Type 0} → (P → Call → Result Reply AskFault → P → Type 0) → Bool → P → P → Input → Input → Output → Output
+    → Result Ended ServeFault → Type 0
+Serves asks readonly old new had left held holds result =
+    ServesSo asks readonly most_reads NoneRefused old new had left held holds result
+
+-- ---- a session's turns
+
+-- From one state to another the turns go through so many commands, one after another, from the first: each is asked for and given, and then told that its
+-- command is answered.
+pub data Turned {T : Type 0} (turn : T → ℕ → Bool → T → Type 0) (done : T → ℕ → T → Type 0) : T → ℕ → T → Type 0 where
+  not_yet : (t : T) → Turned turn done t 0 t
+  once_more : (t mid given new : T) (n : ℕ) →
+      Turned turn done t n mid → turn mid (n + 1) true given → done given (n + 1) new → Turned turn done t (n + 1) new
+
+-- Where a session breaks off: the turns went through all commands taken up, and the replies to them are written, if there are any; or the turn of the last of
+-- them was given, and was not told that it is answered.
+abbrev pub BreaksOff : {T : Type 0} → (T → ℕ → Bool → T → Type 0) → (T → ℕ → T → Type 0) → T → T → Course → Type 0
+BreaksOff turn done was is course =
+    (Turned turn done was (length course.taken) is
+    × ((course.taken ≡ []) ⊎ (course.output ≡ greeting ++ replies course.taken course.answers)))
+    ⊎ ((n : ℕ) × (mid : _) × (length course.taken ≡ n + 1) × Turned turn done was n mid × turn mid (n + 1) true is)
+
+-- How the turns of a session went, from one state to another, by how it ended: through all commands taken up; at a closed gate the turn after these was asked
+-- for and refused.
+abbrev pub WentThrough : {T : Type 0} → (T → ℕ → Bool → T → Type 0) → (T → ℕ → T → Type 0) → T → T → Result Ended ServeFault → Course → Type 0
+WentThrough turn done was is (Ok ended.Quit) course = Turned turn done was (length course.taken) is
+WentThrough turn done was is (Ok ended.TooLong) course = Turned turn done was (length course.taken) is
+WentThrough turn done was is (Ok ended.EndOfInput) course = Turned turn done was (length course.taken) is
+WentThrough turn done was is (Ok ended.GateClosed) course =
+    (mid : _) × Turned turn done was (length course.taken) mid × turn mid (length course.taken + 1) false is
+WentThrough turn done was is (Err fault.ReadFailed) course = Turned turn done was (length course.taken) is
+WentThrough turn done was is (Err fault.WriteFailed) course = BreaksOff turn done was is course
+WentThrough turn done was is (Err fault.NoMemory) course = BreaksOff turn done was is course
+
+-- A session with a port, turns, a reader and a writer, each before and after it; it makes so many reads at most.
+abbrev pub ServesTurns : {P : Type 0} → (P → Call → Result Reply AskFault → P → Type 0) → {T : Type 0} → (T → ℕ → Bool → T → Type 0) → (T → ℕ → T → Type 0)
+    → Bool → ℕ → P → P → T → T → Input → Input → Output → Output → Result Ended ServeFault → Type 0
+ServesTurns asks turn done readonly reads old new was is had left held holds result =
+    ServesSo asks readonly reads (WentThrough turn done was is) old new had left held holds result

@@ -13,6 +13,7 @@ mod said;
 mod serving;
 mod session;
 mod start;
+mod turns;
 mod way;
 
 pub use command::{Answer, Command};
@@ -20,5 +21,6 @@ pub use device::{InputDevice, OutputDevice, Reading, Writing};
 pub use peer::{Failed, Sink, Source};
 pub use port::{AskFault, Port};
 pub use reply::reply_text;
-pub use serving::{Ended, ServeFault, serve};
+pub use serving::{Ended, ServeFault, serve, serve_turns};
 pub use session::Session;
+pub use turns::{Open, Turns};

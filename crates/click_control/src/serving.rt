@@ -1,7 +1,7 @@
 //! A whole session.
 
-ghost use Rattle.std.specs.Prelude.{◌≡◌, ◌++◌, ◌<◌, ℕ, List, [], false, true, length, IfNone, IfOk, OnOk, OnErr};
-ghost use Rattle.click_control.specs.Serving.{Serves, Answered, call_of};
+ghost use Rattle.std.specs.Prelude.{◌≡◌, ◌++◌, ◌+◌, ◌-◌, ◌≤◌, ◌<◌, ◌^◌, ℕ, List, [], false, true, length, IfNone, IfOk, OnOk, OnErr};
+ghost use Rattle.click_control.specs.Serving.{Serves, ServesTurns, Answered, call_of};
 ghost use Rattle.click_control.specs.Taking.{Pending, GivesOne, to_come};
 ghost use Rattle.click_control.specs.Peers.{Input, Output, HasWritten};
 ghost use Rattle.click_control.specs.kept.Going.{SoFar, Goes, Written, WroteFront, TakesIn, ending_of};
@@ -13,6 +13,7 @@ use crate::peer::{Failed, Sink, Source};
 use crate::port::Port;
 use crate::reply::reply_text;
 use crate::session::Session;
+use crate::turns::{Open, Turns};
 use click_router::Call;
 use click_text::sequence::Sequence;
 use std::alloc::{AllocError, Global};
@@ -27,6 +28,8 @@ pub enum Ended {
     EndOfInput,
     /// By a line or a payload that is too long.
     TooLong,
+    /// At a closed gate: the turn of a command was refused.
+    GateClosed,
 }
 
 /// Why a session breaks off.
@@ -41,7 +44,7 @@ pub enum ServeFault {
     NoMemory,
 }
 
-/// How many reads a session may have.
+/// How many reads a session may have, where its caller does not say.
 pub const MOST_READS: u32 = 4_294_967_295;
 
 /// How many bytes one read may give.
@@ -49,7 +52,7 @@ const PIECE: usize = 4096;
 
 /// Greets, and answers each command as soon as it is whole, before the next read. Bytes may come in any pieces.
 ///
-/// A read-only session makes no call for `WRITE`, `WRITEDATA` and `CHECKWRITE`: it denies them.
+/// A read-only session makes no call for `WRITE`, `WRITEDATA` and `CHECKWRITE`: it denies them. No session ends at a closed gate.
 pub fn serve<R: Source, W: Sink, P: Port>(
     alloc: Global,
     reader: &mut R,
@@ -59,14 +62,40 @@ pub fn serve<R: Source, W: Sink, P: Port>(
 ) -> Result<Ended, ServeFault>
     ensures { Serves P.asks readonly port.old port.new (R.input reader.old) (R.input reader.new) (W.output writer.old) (W.output writer.new) result }
 {
+    serve_turns(alloc, reader, writer, port, readonly, &mut Open, MOST_READS)
+}
+
+/// The same with turns, and with so many reads at most: ahead of each command its turn is asked for, and once its reply is written the turn is told.
+/// Where a turn is refused the session ends there, and the command makes no call.
+pub fn serve_turns<R: Source, W: Sink, P: Port, T: Turns>(
+    alloc: Global,
+    reader: &mut R,
+    writer: &mut W,
+    port: &mut P,
+    readonly: bool,
+    turns: &mut T,
+    reads: u32,
+) -> Result<Ended, ServeFault>
+    ensures { ServesTurns P.asks T.turn T.done readonly reads port.old port.new turns.old turns.new (R.input reader.old) (R.input reader.new)
+        (W.output writer.old) (W.output writer.new) result }
+{
     greet(writer)?;
     let mut session = Session::new(alloc);
     let mut piece = [0; PIECE];
-    for _reads in 0..MOST_READS {
+    let mut taken = 0;
+    for _reads in 0..reads {
         if !take_in(reader, &mut piece, &mut session)? {
             return Ok(Ended::EndOfInput);
         }
-        if let Some(ended) = answer_whole(alloc, writer, port, readonly, &mut session)? {
+        if let Some(ended) = answer_whole(
+            alloc,
+            writer,
+            port,
+            readonly,
+            turns,
+            &mut taken,
+            &mut session,
+        )? {
             return Ok(ended);
         }
     }
@@ -90,7 +119,9 @@ fn take_in<R: Source>(
     session: &mut Session,
 ) -> Result<bool, ServeFault>
     requires { 0 < length piece.old }
-    ensures { TakesIn (R.input reader.old) (R.input reader.new) session.old session.new result }
+    ensures takes { TakesIn (R.input reader.old) (R.input reader.new) session.old session.new result }
+    ensures room { length piece.new ≡ length piece.old }
+    ensures bound { length session.new.bytes ≤ length session.old.bytes + length piece.old }
 {
     match reader.read(piece) {
         Err(Failed) => Err(ServeFault::ReadFailed),
@@ -102,51 +133,67 @@ fn take_in<R: Source>(
     }
 }
 
-/// Takes up each command that is whole, and answers it; says how the session ends, where one of them ends it.
-fn answer_whole<W: Sink, P: Port>(
+/// Takes up each command that is whole, and answers it; says how the session ends, where one of them ends it. So many were taken up before, and `taken` counts on.
+fn answer_whole<W: Sink, P: Port, T: Turns>(
     alloc: Global,
     writer: &mut W,
     port: &mut P,
     readonly: bool,
+    turns: &mut T,
+    taken: &mut u64,
     session: &mut Session,
 ) -> Result<Option<Ended>, ServeFault>
-    ensures goes { (first : P) (had left : Input) (held : Output) (reads : ℕ)
-        → SoFar P.asks readonly first port.old had left held (W.output writer.old) session.old reads
-        → Goes P.asks readonly first port.new had left held (W.output writer.new) session.new reads result }
+    requires { taken.old + length session.old.bytes < 2 ^ 64 }
+    ensures goes { (most : ℕ) (first : P) (was : T) (had left : Input) (held : Output) (reads : ℕ)
+        → SoFar P.asks T.turn T.done readonly most first port.old was turns.old had left held (W.output writer.old) session.old taken.old reads
+        → Goes P.asks T.turn T.done readonly most first port.new was turns.new had left held (W.output writer.new) session.new taken.new reads result }
     ensures all_taken { IfOk result (λ ended. IfNone ended (to_come session.new [] ≡ [])) }
+    // Each command has a byte at least.
+    ensures bound { taken.new + length session.new.bytes ≤ taken.old + length session.old.bytes }
 {
     loop {
         match session.next(alloc) {
             Err(_) => return Err(ServeFault::NoMemory),
             Ok(None) => return Ok(None),
-            Ok(Some(command)) => match take_up(alloc, writer, port, readonly, command) {
-                Ok(None) => {}
-                Ok(Some(ended)) => return Ok(Some(ended)),
-                Err(fault) => return Err(fault),
-            },
+            Ok(Some(command)) => {
+                match take_up(alloc, writer, port, readonly, turns, *taken, command) {
+                    Ok(None) => *taken += 1,
+                    Ok(Some(ended)) => return Ok(Some(ended)),
+                    Err(fault) => return Err(fault),
+                }
+            }
         }
     }
 }
 
-/// Answers one command; says how the session ends, where the command ends it.
-fn take_up<W: Sink, P: Port>(
+/// Answers the command after so many, where its turn is given; says how the session ends, where the command ends it or its turn is refused.
+fn take_up<W: Sink, P: Port, T: Turns>(
     alloc: Global,
     writer: &mut W,
     port: &mut P,
     readonly: bool,
+    turns: &mut T,
+    taken: u64,
     command: Command,
 ) -> Result<Option<Ended>, ServeFault>
-    ensures { (first : P) (had left : Input) (held : Output) (old new : Pending) (reads : ℕ)
-        → SoFar P.asks readonly first port.old had left held (W.output writer.old) old reads
+    requires { taken < 2 ^ 64 - 1 }
+    ensures { (most : ℕ) (first : P) (was : T) (had left : Input) (held : Output) (old new : Pending) (reads : ℕ)
+        → SoFar P.asks T.turn T.done readonly most first port.old was turns.old had left held (W.output writer.old) old taken reads
         → GivesOne old new command
-        → Goes P.asks readonly first port.new had left held (W.output writer.new) new reads result }
+        → Goes P.asks T.turn T.done readonly most first port.new was turns.new had left held (W.output writer.new) new (taken + 1) reads result }
 {
+    let nth = taken + 1;
     let ending = ending_of(&command);
+    // All memory that the call takes is taken before the turn: where it runs out no turn was given.
     let Ok((call, command)) = call_of(alloc, readonly, command) else {
         return Err(ServeFault::NoMemory);
     };
+    if !turns.before(nth) {
+        return Ok(Some(Ended::GateClosed));
+    }
     let answer = ask(alloc, port, call);
     reply(alloc, writer, &command, &answer)?;
+    turns.after(nth);
     Ok(ending)
 }
 

@@ -6,6 +6,7 @@ use Rattle.click_router.specs.declared.fault.FaultKind.{FaultKind}
 use Rattle.click_router.specs.declared.fault.FaultKind.TheVariants as kind
 use Rattle.click_control.specs.Peers.{Input, Output}
 use Rattle.click_control.specs.declared.serving.Ended.{Ended}
+use Rattle.click_control.specs.declared.serving.Ended.TheVariants as ended
 use Rattle.click_control.specs.declared.serving.ServeFault.{ServeFault}
 use Rattle.click_control.specs.declared.serving.ServeFault.TheVariants as serve
 use Rattle.click_prog.specs.declared.Status.{Status}
@@ -20,6 +21,7 @@ code status.Good = 0
 code status.FaultyConfiguration = 1
 code status.WrongArguments = 2
 code status.NoMemory = 3
+code status.GateClosed = 3
 code status.DeviceFailed = 4
 
 -- by the fault of a configuration
@@ -33,9 +35,16 @@ serve_status serve.NoMemory = status.NoMemory
 serve_status serve.ReadFailed = status.DeviceFailed
 serve_status serve.WriteFailed = status.DeviceFailed
 
+-- by the end of a session
+abbrev pub end_status : Ended → Status
+end_status ended.Quit = status.Good
+end_status ended.EndOfInput = status.Good
+end_status ended.TooLong = status.Good
+end_status ended.GateClosed = status.GateClosed
+
 -- by a run
 abbrev pub status_of : Result Ended RunFault → Status
-status_of (Ok ended) = status.Good
+status_of (Ok e) = end_status e
 status_of (Err (fault.Config f)) = config_status f.kind
 status_of (Err (fault.Serve f)) = serve_status f
 

@@ -28,6 +28,7 @@ enum Status {
     FaultyConfiguration,
     WrongArguments,
     NoMemory,
+    GateClosed,
     DeviceFailed,
 }
 
@@ -40,7 +41,7 @@ impl Status {
             Status::Good => 0,
             Status::FaultyConfiguration => 1,
             Status::WrongArguments => 2,
-            Status::NoMemory => 3,
+            Status::NoMemory | Status::GateClosed => 3,
             Status::DeviceFailed => 4,
         }
     }
@@ -171,7 +172,8 @@ fn status_of(ended: &Result<Ended, RunFault>) -> Status
     ensures { result ≡ status_of ended.now }
 {
     match ended {
-        Ok(_) => Status::Good,
+        Ok(Ended::Quit | Ended::EndOfInput | Ended::TooLong) => Status::Good,
+        Ok(Ended::GateClosed) => Status::GateClosed,
         Err(RunFault::Config(fault)) if fault.kind == FaultKind::NoMemory => Status::NoMemory,
         Err(RunFault::Config(_)) => Status::FaultyConfiguration,
         Err(RunFault::Serve(ServeFault::NoMemory)) => Status::NoMemory,

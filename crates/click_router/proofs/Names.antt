@@ -1,15 +1,13 @@
--- The names of a flat form's elements are distinct.
-use Rattle.std.proofs.Common.{◌≡◌, ℕ, List, [], ◌∷◌, ◌++◌, map, Bool, true, false, Contains, refl, sym, ap, ◌∙◌, subst, ◌||◌, if◌then◌else◌}
+-- The names of a flat form's elements are distinct, so that each element is found by its name.
+use Rattle.std.proofs.Common.{◌≡◌, ℕ, zero, suc, ◌+◌, ◌<◌, List, [], ◌∷◌, map, length, Bool, true, false, cond, Option, Some, slice_get, get_or, position, Contains, refl, sym, ap, ◌∙◌, subst, arith}
+use Rattle.std.specs.List.{position_from}
 use Rattle.std.specs.Str.{bytes_eq}
-use Rattle.std.proofs.lemmas.List.{map-append}
+use Rattle.std.proofs.lemmas.Iterator.Adapters.{position_from-zero}
 use Rattle.std.proofs.lemmas.Slice.Eq.{bytes_eq-Decides}
 use Rattle.click_text.specs.declared.syntax.Config.{Config}
 use Rattle.click_expand.specs.Instances.{Leaf}
-use Rattle.click_expand.specs.Elements.{has_name}
 use Rattle.click_expand.specs.Flat.{AreDistinct, IsFlat, flat_names, flat_element}
-use Rattle.click_expand.specs.declared.flat.FlatElement.{FlatElement}
 use Rattle.click_expand.specs.declared.flat.Flat.{Flat}
-use Rattle.click_expand.proofs.Contained.{contains-here, contains-behind}
 use Rattle.click_ports.specs.Net.{names_of}
 
 names_leaves : (leaves : List Leaf) → names_of (map flat_element leaves) ≡ flat_names leaves
@@ -19,22 +17,38 @@ names_leaves (l ∷ leaves) = ap (λ ns. (flat_element l).name ∷ ns) (names_le
 pub flat-distinct : (c : Config) (f : Flat) → IsFlat c f → AreDistinct (names_of f.elements)
 flat-distinct c f h = subst AreDistinct (sym (ap names_of h.elements ∙ names_leaves h.leaves)) h.distinct
 
-has-between : (xs : List FlatElement) (e : FlatElement) (more : List FlatElement) → Contains (names_of (xs ++ e ∷ more)) e.name
-has-between [] e more = contains-here e.name (names_of more)
-has-between (x ∷ xs) e more = contains-behind x.name (names_of (xs ++ e ∷ more)) e.name (has-between xs e more)
+pub inside : {X : Type 0} (xs : List X) (at : ℕ) (x : X) → slice_get xs at ≡ Some x → at < length xs
+inside [] at x h = absurd (let y = h in cc)
+inside (y ∷ xs) zero x h = omega arith
+inside (y ∷ xs) (suc at) x h = let l = inside xs at x h in omega (arith, l)
 
-differs : (n : List ℕ) (m : List ℕ) (ns : List (List ℕ)) (others t : Bool) → bytes_eq n m ≡ t → others ≡ false → (Contains ns m → ⊥) → Contains ns n → (t || others) ≡ false
-differs n m ns others true e o f k = absurd (f (subst (Contains ns) ((bytes_eq-Decides n m).0 e) k))
-differs n m ns others false e o f k = o
+pub gets : {X : Type 0} (xs : List X) (at : ℕ) → at < length xs → (x : X) × (slice_get xs at ≡ Some x)
+gets [] at l = absurd (omega (arith, l))
+gets (x ∷ xs) zero l = (x, refl)
+gets (x ∷ xs) (suc at) l = gets xs at (omega (arith, l))
 
-pub is-new : (xs : List FlatElement) (e : FlatElement) (more : List FlatElement) → AreDistinct (names_of (xs ++ e ∷ more)) → has_name e.name (names_of xs) ≡ false
-is-new [] e more d = refl
-is-new (x ∷ xs) e more d =
-    differs e.name x.name (names_of (xs ++ e ∷ more)) (has_name e.name (names_of xs)) (bytes_eq e.name x.name) refl (is-new xs e more d.1) d.0 (has-between xs e more)
+read : (xs : List (List ℕ)) (at : ℕ) (x d : List ℕ) → slice_get xs at ≡ Some x → get_or xs at d ≡ x
+read [] at x d h = absurd (let y = h in cc)
+read (y ∷ xs) zero x d h = let k = h in cc
+read (y ∷ xs) (suc at) x d h = read xs at x d h
 
--- one name more
-pub names-more : (xs : List FlatElement) (e : FlatElement) (more : List FlatElement) (old : List (List ℕ)) (n : List ℕ) → n ≡ e.name → AreDistinct (names_of (xs ++ e ∷ more)) → old ≡ names_of xs →
-    (if has_name n old then old else old ++ n ∷ []) ≡ names_of (xs ++ e ∷ [])
-names-more xs e more old n same d is =
-    let f : has_name n old ≡ false = ap (λ m. has_name m old) same ∙ (ap (has_name e.name) is ∙ is-new xs e more d) in
-    ap (λ t. if t then old else old ++ n ∷ []) f ∙ (ap (λ ns. ns ++ n ∷ []) is ∙ (ap (λ m. names_of xs ++ m ∷ []) same ∙ sym (map-append (λ (e : FlatElement). e.name) xs (e ∷ []))))
+first : (b : Bool) (name n : List ℕ) (k : ℕ) (o : Option ℕ) → bytes_eq name n ≡ b → n ≡ name → cond b (Some k) o ≡ Some (k + 0)
+first true name n k o t is = let e : k ≡ k + 0 = omega arith in ap Some e
+first false name n k o t is = absurd (let x : bytes_eq name n ≡ true = (bytes_eq-Decides name n).1 (sym is) in let y = t in cc)
+
+later : (b : Bool) (name n : List ℕ) (k : ℕ) (o : Option ℕ) → bytes_eq name n ≡ b → (name ≡ n → ⊥) → cond b (Some k) o ≡ o
+later true name n k o t apart = absurd (apart ((bytes_eq-Decides name n).0 t))
+later false name n k o t apart = refl
+
+from : (names : List (List ℕ)) (k at : ℕ) (name : List ℕ) → AreDistinct names → slice_get names at ≡ Some name → position_from (bytes_eq name) k names ≡ Some (k + at)
+from [] k at name d h = absurd (let x = h in cc)
+from (n ∷ ns) k zero name d h = first (bytes_eq name n) name n k (position_from (bytes_eq name) (k + 1) ns) refl (let x = h in cc)
+from (n ∷ ns) k (suc at) name d h =
+    let there : Contains ns name = (at, inside ns at name h, read ns at name name h) in
+    let apart : name ≡ n → ⊥ = λ is. d.0 (subst (Contains ns) is there) in
+    let e : (k + 1) + at ≡ k + suc at = omega arith in
+    later (bytes_eq name n) name n k (position_from (bytes_eq name) (k + 1) ns) refl apart ∙ (from ns (k + 1) at name d.1 h ∙ ap Some e)
+
+-- where a name stands among distinct ones, it is found
+pub at_its_place : (names : List (List ℕ)) (at : ℕ) (name : List ℕ) → AreDistinct names → slice_get names at ≡ Some name → position (bytes_eq name) names ≡ Some at
+at_its_place names at name d h = let e : 0 + at ≡ at = omega arith in position_from-zero (bytes_eq name) names ∙ (from names 0 at name d h ∙ ap Some e)

@@ -153,6 +153,18 @@ Answers s (call.Poll device ps) t r = entered s device ps ≡ (t, r)
 Answers s call.Round t r = worked s ≡ (t, r)
 Answers s (call.Transmit device) t r = sent s device ≡ (t, r)
 
+-- the text that a call asks to take over: that of a swap, and what is written to `hotconfig`
+abbrev pub swap_text : Call → Option (List ℕ)
+swap_text (call.Read name text) = None
+swap_text (call.Write name text) = if is_hotconfig name then Some text else None
+swap_text (call.CheckRead name) = None
+swap_text (call.CheckWrite name) = None
+swap_text (call.Swap text) = Some text
+swap_text (call.Arrive device p) = None
+swap_text (call.Poll device ps) = None
+swap_text call.Round = None
+swap_text (call.Transmit device) = None
+
 -- the calls that may take memory: a read's value, what a write makes, and the router of another text
 abbrev pub takes_memory : Call → Bool
 takes_memory (call.Read name text) = true

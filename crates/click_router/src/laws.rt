@@ -1,12 +1,18 @@
 //! What holds of the definitions, in the router's words.
 
-ghost use Rattle.std.specs.Prelude.{◌≡◌, ℕ, List, Some, true};
+ghost use Rattle.std.specs.Prelude.{◌≡◌, ℕ, List, Some, slice_get, true};
 ghost use Rattle.std.specs.List.{list_any};
+ghost use Rattle.click_engine.specs.TakeOver.{after_it};
 ghost use Rattle.click_engine.specs.declared.world.Element.{Element};
 ghost use Rattle.click_router.specs.declared.call.Call.TheVariants as call;
+ghost use Rattle.click_router.specs.declared.call.Call.{Call};
+ghost use Rattle.click_router.specs.declared.call.Refusal.{Refusal};
+ghost use Rattle.click_router.specs.declared.call.Refusal.TheVariants as refusal;
 ghost use Rattle.click_router.specs.declared.call.Reply.{Reply};
-ghost use Rattle.click_router.specs.One.{Answers, read, before, place_of, is_dot, with_element};
+ghost use Rattle.click_router.specs.declared.call.Reply.TheVariants as reply;
+ghost use Rattle.click_router.specs.One.{Answers, swap_text, read, before, place_of, is_dot, with_element};
 ghost use Rattle.click_router.specs.State.{RouterState};
+ghost use Rattle.click_router.specs.Swap.{taken};
 ghost use Rattle.click_router.specs.declared.fault.ConfigFault.{ConfigFault};
 ghost use Rattle.click_router.specs.Opened.{IsOpened, IsFirstFault};
 
@@ -36,4 +42,28 @@ pub fn reads_change_nothing()
 pub fn reads_ask_one_element()
     ensures { (s : RouterState) (at : ℕ) (other : Element) (name text : List ℕ) → list_any is_dot name ≡ true → (place_of s (before name) ≡ Some at → ⊥)
         → read (record s { plant = with_element s.plant at other }) name text ≡ read s name text }
+{}
+
+/// A call has one answer, and leaves one state.
+pub fn calls_have_one_answer()
+    ensures { (s t u : RouterState) (c : Call) (q r : Reply) → Answers s c t q → Answers s c u r → (t ≡ u) × (q ≡ r) }
+{}
+
+/// A swap that is refused changed nothing, and is refused for the first fault of its text.
+pub fn refused_swaps_change_nothing()
+    ensures { (s t : RouterState) (c : Call) (text : List ℕ) (why : Refusal) → swap_text c ≡ Some text → Answers s c t (reply.Refused why)
+        → (t ≡ s) × ((f : ConfigFault) × IsFirstFault text f × (why ≡ refusal.Config f)) }
+{}
+
+/// A swap that is done leaves the router that its text opens, with what that takes over from the one before.
+pub fn good_swaps_take_over()
+    ensures { (s t : RouterState) (c : Call) (text : List ℕ) → swap_text c ≡ Some text → Answers s c t reply.Done
+        → (new : RouterState) × IsOpened text new × (t ≡ taken new s) }
+{}
+
+/// Where a text's elements have the names of those that run, as those of the text that runs have, each element takes over from the one at its own place.
+pub fn same_names_take_over_from_themselves()
+    ensures { (old new : RouterState) (text : List ℕ) (at : ℕ) (e before : Element) → IsOpened text new → old.plant.net.names ≡ new.plant.net.names
+        → slice_get new.plant.elements at ≡ Some e → slice_get old.plant.elements at ≡ Some before
+        → slice_get (taken new old).plant.elements at ≡ Some (after_it e (Some before)) }
 {}

@@ -2,6 +2,7 @@
 #![tactic(auto)]
 
 mod call;
+mod copying;
 mod fault;
 mod globals;
 mod handler_name;

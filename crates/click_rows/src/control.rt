@@ -17,8 +17,8 @@ const LARGE: usize = 70_000;
 /// A port with one element `c`, which counts its calls. `c.count` and `c.large` can be read, `c.echo` gives its text back, `c.reset_counts` can be
 /// written, and `c.two` with a text of two bytes.
 #[derive(Drop)]
-struct OneCounter {
-    calls: usize,
+pub struct OneCounter {
+    pub calls: usize,
 }
 
 /// The value of some bytes.
@@ -81,7 +81,7 @@ impl Port for OneCounter {
 
 /// A reader that gives a few bytes at a time, and fails at one of its calls.
 #[derive(Drop)]
-struct Trickle<'a> {
+pub struct Trickle<'a> {
     bytes: &'a [u8],
     size: usize,
     calls: usize,
@@ -103,8 +103,8 @@ impl Read for Trickle<'_> {
 
 /// A writer that takes a few bytes at a time, and fails at one of its calls.
 #[derive(Drop)]
-struct Narrow {
-    taken: Vec<u8>,
+pub struct Narrow {
+    pub taken: Vec<u8>,
     size: usize,
     calls: usize,
     fails_at: usize,
@@ -126,7 +126,7 @@ impl Write for Narrow {
     }
 }
 
-fn reader_of(bytes: &[u8], size: usize, fails_at: usize) -> Trickle<'_> {
+pub fn reader_of(bytes: &[u8], size: usize, fails_at: usize) -> Trickle<'_> {
     Trickle {
         bytes,
         size,
@@ -135,7 +135,7 @@ fn reader_of(bytes: &[u8], size: usize, fails_at: usize) -> Trickle<'_> {
     }
 }
 
-fn writer_of(alloc: Global, size: usize, fails_at: usize) -> Narrow {
+pub fn writer_of(alloc: Global, size: usize, fails_at: usize) -> Narrow {
     Narrow {
         taken: Vec::new(alloc),
         size,
@@ -165,7 +165,7 @@ fn session(
 const GREETING: &[u8] = b"Click::ControlSocket/1.3\r\n";
 
 /// The bytes after the greeting.
-fn replies(written: &[u8]) -> &[u8] {
+pub fn replies(written: &[u8]) -> &[u8] {
     match written.strip_prefix(GREETING) {
         Some(replies) => replies,
         None => b"no greeting",

@@ -8,6 +8,8 @@ mod classes;
 #[cfg(test)]
 mod control;
 #[cfg(test)]
+mod desk;
+#[cfg(test)]
 mod expand;
 #[cfg(test)]
 mod handlers;
@@ -16,6 +18,10 @@ mod packet;
 #[cfg(test)]
 mod ports;
 #[cfg(test)]
+mod swapping;
+#[cfg(test)]
 mod tables;
 #[cfg(test)]
 mod text;
+#[cfg(test)]
+mod turns;

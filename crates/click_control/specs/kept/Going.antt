@@ -15,7 +15,7 @@ use Rattle.click_control.specs.Commands.{commands}
 use Rattle.click_control.specs.Taking.{Pending, fed, to_come}
 use Rattle.click_control.specs.Peers.{Input, Output, HasRead, HasWritten}
 use Rattle.click_control.specs.ReplyText.{greeting}
-use Rattle.click_control.specs.Serving.{Asked, replies, most_reads, GoesOn, Serves}
+use Rattle.click_control.specs.Serving.{Asked, replies, GoesOn, Turned, ServesTurns}
 
 -- a front of the text was written
 abbrev pub WroteFront : Output → Output → List ℕ → Bool → Type 0
@@ -49,14 +49,14 @@ ending_of command.LineTooLong = Some ended.TooLong
 ending_of command.DataTooLong = Some ended.TooLong
 ending_of (command.Unknown word) = None
 
--- A session so far, whose commands to come are those of this state. Each command that was taken up is answered in full.
-pub record SoFar {P : Type 0} (asks : P → Call → Result Reply AskFault → P → Type 0) (readonly : Bool) (old now : P) (had left : Input) (held holds : Output)
-    (s : Pending) (reads : ℕ) : Type 0 where
+-- A session so far, whose commands to come are those of this state: each of the n commands that were taken up is answered in full, and its turn went through.
+pub record SoFar {P : Type 0} (asks : P → Call → Result Reply AskFault → P → Type 0) {T : Type 0} (turn : T → ℕ → Bool → T → Type 0) (done : T → ℕ → T → Type 0)
+    (readonly : Bool) (most : ℕ) (old now : P) (was is : T) (had left : Input) (held holds : Output) (s : Pending) (n reads : ℕ) : Type 0 where
   pub input : List ℕ
   pub read : HasRead had left input reads false
   -- each read gave a byte
   pub many : reads ≤ length input
-  pub within : reads ≤ most_reads
+  pub within : reads ≤ most
   pub taken : List Command
   pub goes_on : GoesOn taken
   pub spelled : (more : List ℕ) → commands (input ++ more) ≡ taken ++ to_come s more
@@ -65,10 +65,15 @@ pub record SoFar {P : Type 0} (asks : P → Call → Result Reply AskFault → P
   pub output : List ℕ
   pub written : HasWritten held holds output false
   pub whole : output ≡ greeting ++ replies taken answers
+  pub counted : length taken ≡ n
+  pub turned : Turned turn done was n is
 
 -- What came of answering commands: the session goes on, or it ends.
-abbrev pub Goes : {P : Type 0} → (P → Call → Result Reply AskFault → P → Type 0) → Bool → P → P → Input → Input → Output → Output → Pending → ℕ
-    → Result (Option Ended) ServeFault → Type 0
-Goes asks readonly old new had left held holds s reads (Ok None) = SoFar asks readonly old new had left held holds s reads
-Goes asks readonly old new had left held holds s reads (Ok (Some e)) = Serves asks readonly old new had left held holds (Ok e)
-Goes asks readonly old new had left held holds s reads (Err f) = Serves asks readonly old new had left held holds (Err f)
+abbrev pub Goes : {P : Type 0} → (P → Call → Result Reply AskFault → P → Type 0) → {T : Type 0} → (T → ℕ → Bool → T → Type 0) → (T → ℕ → T → Type 0) → Bool → ℕ
+    → P → P → T → T → Input → Input → Output → Output → Pending → ℕ → ℕ → Result (Option Ended) ServeFault → Type 0
+Goes asks turn done readonly most old new was is had left held holds s n reads (Ok None) =
+    SoFar asks turn done readonly most old new was is had left held holds s n reads
+Goes asks turn done readonly most old new was is had left held holds s n reads (Ok (Some e)) =
+    ServesTurns asks turn done readonly most old new was is had left held holds (Ok e)
+Goes asks turn done readonly most old new was is had left held holds s n reads (Err f) =
+    ServesTurns asks turn done readonly most old new was is had left held holds (Err f)

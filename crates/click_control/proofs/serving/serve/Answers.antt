@@ -1,62 +1,7 @@
-use Rattle.std.proofs.Common.{lit<, arith}
-use Rattle.std.proofs.lemmas.Result.{err_from_is_err_and}
-use Rattle.click_control.proofs.Going.{Serves-greeting, SoFar-greeted, SoFar-took, Serves-end, Serves-read, Serves-spent, commands-nil}
+use Rattle.std.proofs.Common.{◌≡◌, true, false}
+use Rattle.click_control.proofs.Going.{Serves-open}
 use Rattle.click_control.proofs.serving.serve.Goals as goal
-
-pub returns-in_err-greet : goal.returns-in_err-greet
-returns-in_err-greet g c =
-    let p = err_from_is_err_and c.from_residual.result c.from_residual.ensures.1 in
-    rw (p.1, p.2) (Serves-greeting g.P.Port.asks c.args.readonly c.in_err-greet.field-0.0 c.args.port.now _ _ _ c.in_err-greet.ensures)
-
-pub loop-reads-init : goal.loop-reads-init
-loop-reads-init g c = record {
-  so_far = rw c.new-session.ensures (SoFar-greeted g.P.Port.asks c.args.readonly c.args.port.now _ _ _ c.in_ok-greet.ensures);
-  all_taken = rw c.new-session.ensures commands-nil;
-  room = lit< tt;
-}
-
-pub returns-in_err-take_in : goal.returns-in_err-take_in
-returns-in_err-take_in g c =
-    let p = err_from_is_err_and c.from_residual-in_err-take_in.result c.from_residual-in_err-take_in.ensures.1 in
-    let now = c.loop-reads in
-    rw (p.1, p.2) (Serves-read g.P.Port.asks c.args.readonly c.in_err-take_in.field-0.0 c.args.port.now now.port _ _ _ _ _ now.session c.take_in.new.session now._reads
-    now.invariant.so_far now.invariant.all_taken (omega arith) c.in_err-take_in.ensures)
-
-pub returns-then-not-branch : goal.returns-then-not-branch
-returns-then-not-branch g c =
-    let now = c.loop-reads in
-    let took = rw c.if-not-branch.true at c.in_ok-take_in.ensures in
-    Serves-end g.P.Port.asks c.args.readonly c.args.port.now now.port _ _ _ _ _ now.session c.take_in.new.session now._reads now.invariant.so_far now.invariant.all_taken (omega arith) took
-
-pub returns-in_err-ended : goal.returns-in_err-ended
-returns-in_err-ended g c =
-    let p = err_from_is_err_and c.from_residual-in_err-ended.result c.from_residual-in_err-ended.ensures.1 in
-    let now = c.loop-reads in
-    let took = rw c.if-not-branch.false at c.in_ok-take_in.ensures in
-    let so_far = SoFar-took g.P.Port.asks c.args.readonly c.args.port.now now.port _ _ _ _ _ now.session c.take_in.new.session now._reads now.invariant.so_far (omega arith) took in
-    rw (p.1, p.2) (c.in_err-ended.ensures.goes c.args.port.now _ _ _ _ so_far)
-
-pub returns-in-Some : goal.returns-in-Some
-returns-in-Some g c =
-    let now = c.loop-reads in
-    let took = rw c.if-not-branch.false at c.in_ok-take_in.ensures in
-    let so_far = SoFar-took g.P.Port.asks c.args.readonly c.args.port.now now.port _ _ _ _ _ now.session c.take_in.new.session now._reads now.invariant.so_far (omega arith) took in
-    let went = rw c.in-Some.is at c.in_ok-ended.ensures.goes in
-    went c.args.port.now _ _ _ _ so_far
-
-pub loop-reads-preserved : goal.loop-reads-preserved
-loop-reads-preserved g c =
-    let now = c.loop-reads in
-    let took = rw c.if-not-branch.false at c.in_ok-take_in.ensures in
-    let so_far = SoFar-took g.P.Port.asks c.args.readonly c.args.port.now now.port _ _ _ _ _ now.session c.take_in.new.session now._reads now.invariant.so_far (omega arith) took in
-    let went = rw c.in_default.is at c.in_ok-ended.ensures.goes in
-    record {
-      so_far = went c.args.port.now _ _ _ _ so_far;
-      all_taken = rw c.in_default.is at c.in_ok-ended.ensures.all_taken;
-      room = omega arith;
-    }
 
 pub returns : goal.returns
 returns g c =
-    let now = c.loop-reads in
-    Serves-spent g.P.Port.asks c.args.readonly c.args.port.now now.port _ _ _ _ now.session now._reads now.invariant.so_far now.invariant.all_taken (omega arith)
+    Serves-open g.P.Port.asks _ _ c.args.readonly (λ t u n given. let e : false ≡ true = given in cc) c.args.port.now _ _ _ _ _ _ _ _ c.serve_turns.ensures

@@ -1,0 +1,90 @@
+-- What a close rests on.
+use Rattle.std.proofs.Common.{◌≡◌, ◌⊎◌, inl, inr, ⊎_elim, ℕ, zero, suc, Bool, true, false, ◌==◌, cond, if◌then◌else◌, List, [], ◌∷◌, ◌++◌, length, ◌<◌, ◌≤◌, ◌+◌, slice_index_or, count_by, map, sym, refl, ap, ◌∙◌, arith}
+use Rattle.std.proofs.lemmas.Bool.{cases_lt}
+use Rattle.std.proofs.lemmas.Bool.Decides.{nat_tests}
+use mathlib.Core.Option.{some, some-injective, some-ne-none}
+use lib.ListN.{get_elem?}
+use Rattle.std.specs.List.{All}
+use Rattle.std.proofs.lemmas.List.Elements.{All-push}
+use Rattle.std.proofs.lemmas.List.Sums.{sum_by_push, sum_by-cons}
+use Rattle.click_router.specs.declared.call.Call.{Call}
+use Rattle.click_router.specs.declared.call.Reply.{Reply}
+use Rattle.click_desk.specs.declared.entry.Entry.{Entry}
+use Rattle.click_desk.specs.History.{entries}
+use Rattle.click_desk.specs.Sittings.{DeskName, Sitting, new_seat, seats_below}
+use Rattle.click_desk.specs.Closing.{IsEachOnce}
+
+pub index_of : (l : List Sitting) (i : ℕ) (x d : Sitting) → get_elem? l i ≡ some x → slice_index_or l i d ≡ x
+index_of [] i x d e = absurd (some-ne-none x (sym e))
+index_of (y ∷ l) zero x d e = some-injective y x e
+index_of (y ∷ l) (suc i) x d e = index_of l i x d e
+
+-- where each number is there once, some seat is there
+pub some_seat : (n : ℕ) (seats : List Sitting) → 0 < n → IsEachOnce n seats → 0 < length seats
+some_seat n [] above once = absurd (let e : 0 ≡ 1 = once 0 above in omega arith)
+some_seat n (s ∷ seats) above once = omega arith
+
+nil_cons : (x : Call × Reply) (xs : List (Call × Reply)) → x ∷ xs ≡ [] → ⊥
+nil_cons x xs e = cc
+
+-- an entry bears a number that has entries
+none_later : (e : Entry) (es : List Entry) (n : ℕ) → entries (e ∷ es) n ≡ [] → entries es n ≡ []
+none_later e es n =
+    elim (e.seat == n) as (λ (t : Bool). (if t then ((e.call, e.reply) ∷ entries es n) else entries es n) ≡ [] → entries es n ≡ []) [
+      | true ↦ λ h. absurd (nil_cons (e.call, e.reply) (entries es n) h)
+      | false ↦ λ h. h
+    ]
+
+bears : (es : List Entry) (k : ℕ) (d : Entry) → k < length es → entries es (slice_index_or es k d).seat ≡ [] → ⊥
+bears [] k d below none = absurd (omega arith)
+bears (e ∷ es) zero d below none =
+    let same : (e.seat == e.seat) ≡ true = grind (arith, nat_tests) in
+    let more : entries (e ∷ es) e.seat ≡ (e.call, e.reply) ∷ entries es e.seat = rw same refl in
+    nil_cons (e.call, e.reply) (entries es e.seat) (sym more ∙ none)
+bears (e ∷ es) (suc k) d below none = bears es k d (omega arith) (none_later e es (slice_index_or es k d).seat none)
+
+-- where each number below n is a seat's, and no other number has entries, each entry bears the number of one seat
+pub each_seated : (n : ℕ) (seats : List Sitting) (es : List Entry) → IsEachOnce n seats → ((k : ℕ) → n ≤ k → entries es k ≡ []) → All (λ e. count_by (λ s. s.number == e.seat) seats ≡ 1) es
+each_seated n seats es once none k d below =
+    let at = (slice_index_or es k d).seat in
+    let small : at < n = ⊎_elim (λ (h : at < n). h) (λ (h : n ≤ at). absurd (bears es k d below (none at h))) (cases_lt at n) in
+    once at small
+
+-- new seats belong to their desk
+pub all_belong : (desk : DeskName) (n : ℕ) → All (λ s. s.desk ≡ desk) (seats_below desk n)
+all_belong desk zero = λ k d below. absurd (omega arith)
+all_belong desk (suc n) = All-push (λ s. s.desk ≡ desk) (seats_below desk n) (new_seat desk n) (all_belong desk n) refl
+
+-- how often a number stands there, one seat more
+count_more : (k : ℕ) (xs : List Sitting) (x : Sitting) → count_by (λ s. s.number == k) (xs ++ x ∷ []) ≡ count_by (λ s. s.number == k) xs + cond (x.number == k) 1 0
+count_more k xs x = sum_by_push (λ (s : Sitting). cond (s.number == k) 1 0) xs x
+
+count_above : (desk : DeskName) (n k : ℕ) → n ≤ k → count_by (λ s. s.number == k) (seats_below desk n) ≡ 0
+count_above desk zero k above = refl
+count_above desk (suc n) k above =
+    let e = count_above desk n k (omega arith) in
+    let other : (n == k) ≡ false = grind (arith, nat_tests) in
+    count_more k (seats_below desk n) (new_seat desk n) ∙ (ap (λ a. a + cond (n == k) 1 0) e ∙ ap (λ b. 0 + cond b 1 0) other)
+
+count_here : (desk : DeskName) (n k : ℕ) → ((k < n) ⊎ (n ≤ k)) → k < suc n → IsEachOnce n (seats_below desk n) → count_by (λ s. s.number == k) (seats_below desk (suc n)) ≡ 1
+count_here desk n k (inl less) below once =
+    let other : (n == k) ≡ false = grind (arith, nat_tests) in
+    count_more k (seats_below desk n) (new_seat desk n) ∙ (ap (λ a. a + cond (n == k) 1 0) (once k less) ∙ ap (λ b. 1 + cond b 1 0) other)
+count_here desk n k (inr above) below once =
+    let same : (n == k) ≡ true = grind (arith, nat_tests) in
+    count_more k (seats_below desk n) (new_seat desk n) ∙ (ap (λ a. a + cond (n == k) 1 0) (count_above desk n k above) ∙ ap (λ b. 0 + cond b 1 0) same)
+
+-- new seats have each number once
+pub new_once : (desk : DeskName) (n : ℕ) → IsEachOnce n (seats_below desk n)
+new_once desk zero = λ k below. absurd (omega arith)
+new_once desk (suc n) = λ k below. count_here desk n k (cases_lt k n) below (new_once desk n)
+
+count_numbers : (k : ℕ) (xs : List Sitting) → count_by (λ s. s.number == k) xs ≡ count_by (λ m. m == k) (map (λ (s : Sitting). s.number) xs)
+count_numbers k [] = refl
+count_numbers k (x ∷ xs) =
+    sum_by-cons (λ (s : Sitting). cond (s.number == k) 1 0) x xs
+    ∙ (ap (λ m. cond (x.number == k) 1 0 + m) (count_numbers k xs) ∙ sym (sum_by-cons (λ (m : ℕ). cond (m == k) 1 0) x.number (map (λ (s : Sitting). s.number) xs)))
+
+-- seats with the same numbers have each number once
+pub same_once : (n : ℕ) (xs ys : List Sitting) → map (λ (s : Sitting). s.number) xs ≡ map (λ (s : Sitting). s.number) ys → IsEachOnce n xs → IsEachOnce n ys
+same_once n xs ys same once k below = count_numbers k ys ∙ (ap (λ l. count_by (λ m. m == k) l) (sym same) ∙ (sym (count_numbers k xs) ∙ once k below))

@@ -1,0 +1,124 @@
+-- What a seat knows after a take, an entering and a give.
+use Rattle.std.proofs.Common.{◌≡◌, ◌↔◌, ℕ, List, [], ◌∷◌, ◌++◌, length, ◌<◌, ◌≤◌, Result, Ok, Err, IfOk, IfErr, OnErr, sym, refl, ap, ◌∙◌, subst, arith, append-nil}
+use Rattle.atomic_table.specs.Seated.{TableId}
+use Rattle.click_router.specs.declared.call.Call.{Call}
+use Rattle.click_router.specs.declared.call.Reply.{Reply}
+use Rattle.click_desk.specs.Booking.{Booking}
+use Rattle.click_desk.specs.declared.booked.DeskFault.{DeskFault}
+use Rattle.click_desk.specs.declared.booked.DeskFault.TheVariants.{HistoryFull}
+use Rattle.click_desk.specs.declared.entry.Entry.{Entry}
+use Rattle.click_desk.specs.declared.terms.Terms.{Terms}
+use Rattle.click_desk.specs.declared.view.View.{View}
+use Rattle.click_desk.specs.History.{entry, entries, Legal}
+use Rattle.click_desk.specs.Views.{seated, taken, given, Finds, Takes, Gives, MayGive}
+use Rattle.click_desk.specs.Sittings.{Sitting, IsSeat, Calls as HasCalled, IsRefused}
+use Rattle.click_desk.proofs.Histories.{entries_mine, entries_other}
+
+-- what an entering of a call says of the booked router and of the seat's list
+pub record Enters (b b2 : Booking) (n : ℕ) (calls calls2 : List (Call × Reply)) (call : Call) (result : Result Reply DeskFault) : Type 0 where
+  pub terms : b2.terms ≡ b.terms
+  pub legal : Legal b2.terms.opening b2.entries b2.state
+  pub ok : IfOk result (λ reply. (b2.entries ≡ b.entries ++ entry n call reply ∷ []) × (calls2 ≡ calls ++ (call, reply) ∷ []) × (length b2.entries ≤ b2.terms.room))
+  pub err : OnErr result ((b2 ≡ b) × (calls2 ≡ calls))
+  pub full : (result ≡ Err HistoryFull) ↔ (b.terms.room ≤ length b.entries)
+
+may_give_at : (t : Terms) (n : ℕ) (calls : List (Call × Reply)) (seen : List Entry) (b b2 : Booking) (calls2 : List (Call × Reply)) (call : Call) (result : Result Reply DeskFault)
+    → n < t.seats → Finds (seated t n calls seen) b → Enters b b2 n calls calls2 call result → MayGive (taken (seated t n calls seen) b) b2
+may_give_at t n calls seen b b2 calls2 call (Ok reply) made finds enters = record {
+  opened = refl;
+  holds = refl;
+  acts = refl;
+  makes = refl;
+  number = made;
+  terms = enters.terms ∙ finds.0;
+  within = enters.ok.2;
+  longer = (entry n call reply ∷ [], enters.ok.0);
+  others = λ m apart. ap (λ l. entries l m) enters.ok.0 ∙ entries_other b.entries n call reply m apart;
+}
+may_give_at t n calls seen b b2 calls2 call (Err fault) made finds enters =
+    let is : b2 ≡ b = enters.err.0 in record {
+      opened = refl;
+      holds = refl;
+      acts = refl;
+      makes = refl;
+      number = made;
+      terms = enters.terms ∙ finds.0;
+      within = subst (λ (x : Booking). length x.entries ≤ x.terms.room) (sym is) finds.2;
+      longer = ([], ap (λ (x : Booking). x.entries) is ∙ sym (append-nil b.entries));
+      others = λ m apart. ap (λ (x : Booking). entries x.entries m) is;
+    }
+
+pub may_give : (n : ℕ) (calls : List (Call × Reply)) (v v1 : View) (b b2 : Booking) (calls2 : List (Call × Reply)) (call : Call) (result : Result Reply DeskFault)
+    → v ≡ seated v.terms n calls v.seen → n < v.terms.seats → Takes v b v1 → Enters b b2 n calls calls2 call result → MayGive v1 b2
+may_give n calls v v1 b b2 calls2 call result is made takes enters =
+    let s : View = seated v.terms n calls v.seen in
+    let now : taken s b ≡ v1 = ap (λ y. taken y b) (sym is) ∙ sym takes.0 in
+    subst (λ (y : View). MayGive y b2) now (may_give_at v.terms n calls v.seen b b2 calls2 call result made (subst (λ (y : View). Finds y b) is takes.1) enters)
+
+-- the seat's pass is again one that gave everything back
+pub settled : (n : ℕ) (calls : List (Call × Reply)) (v v1 v2 : View) (b b2 : Booking) → v ≡ seated v.terms n calls v.seen → Takes v b v1 → Gives v1 b2 v2 → v2 ≡ seated b2.terms n (entries b2.entries n) b2.entries
+settled n calls v v1 v2 b b2 is takes gives = gives ∙ (ap (λ y. given y b2) takes.0 ∙ ap (λ y. given (taken y b) b2) is)
+
+own_at : (n : ℕ) (calls : List (Call × Reply)) (b b2 : Booking) (calls2 : List (Call × Reply)) (call : Call) (result : Result Reply DeskFault) → entries b.entries n ≡ calls → Enters b b2 n calls calls2 call result → entries b2.entries n ≡ calls2
+own_at n calls b b2 calls2 call (Ok reply) own enters =
+    ap (λ l. entries l n) enters.ok.0 ∙ (entries_mine b.entries n call reply ∙ (ap (λ l. l ++ (call, reply) ∷ []) own ∙ sym enters.ok.1))
+own_at n calls b b2 calls2 call (Err fault) own enters = ap (λ (x : Booking). entries x.entries n) enters.err.0 ∙ (own ∙ sym enters.err.1)
+
+-- a seat as contracts see it, by its pass
+abbrev pub sitting : TableId → ℕ → List (Call × Reply) → View → Sitting
+sitting table n calls v = record { desk = record { table = table; terms = v.terms }; number = n; calls = calls; seen = v.seen }
+
+pub own : (n : ℕ) (calls : List (Call × Reply)) (v v1 : View) (b b2 : Booking) (calls2 : List (Call × Reply)) (call : Call) (result : Result Reply DeskFault)
+    → v ≡ seated v.terms n calls v.seen → Takes v b v1 → Enters b b2 n calls calls2 call result → entries b2.entries n ≡ calls2
+own n calls v v1 b b2 calls2 call result is takes enters =
+    let finds = subst (λ (y : View). Finds y b) is takes.1 in
+    own_at n calls b b2 calls2 call result (finds.3 refl) enters
+
+pub sound : (table : TableId) (n : ℕ) (calls : List (Call × Reply)) (v v1 v2 : View) (b b2 : Booking) (calls2 : List (Call × Reply)) (call : Call) (result : Result Reply DeskFault)
+    → v ≡ seated v.terms n calls v.seen → n < v.terms.seats → Takes v b v1 → Enters b b2 n calls calls2 call result → Gives v1 b2 v2
+    → (v2 ≡ seated v2.terms n calls2 v2.seen) × IsSeat (sitting table n calls2 v2)
+sound table n calls v v1 v2 b b2 calls2 call result is made takes enters gives =
+    let mine = own n calls v v1 b b2 calls2 call result is takes enters in
+    let at : v2 ≡ seated b2.terms n calls2 b2.entries = settled n calls v v1 v2 b b2 is takes gives ∙ ap (λ l. seated b2.terms n l b2.entries) mine in
+    let here : IsSeat (sitting table n calls2 (seated b2.terms n calls2 b2.entries)) = record {
+      legal = (b2.state, enters.legal);
+      own = mine;
+      made = subst (λ (t : Terms). n < t.seats) (sym (enters.terms ∙ takes.1.0)) made;
+    } in (
+      at ∙ ap (λ (y : View). seated y.terms n calls2 y.seen) (sym at),
+      subst (λ (y : View). IsSeat (sitting table n calls2 y)) (sym at) here,
+    )
+
+pub answers : (table table2 : TableId) (n : ℕ) (calls : List (Call × Reply)) (v v1 v2 : View) (b b2 : Booking) (calls2 : List (Call × Reply)) (call : Call) (result : Result Reply DeskFault)
+    → v ≡ seated v.terms n calls v.seen → n < v.terms.seats → Takes v b v1 → Enters b b2 n calls calls2 call result → Gives v1 b2 v2
+    → IfOk result (λ reply. HasCalled (sitting table n calls v) (sitting table2 n calls2 v2) call reply)
+answers table table2 n calls v v1 v2 b b2 calls2 call (Err fault) is made takes enters gives = tt
+answers table table2 n calls v v1 v2 b b2 calls2 call (Ok reply) is made takes enters gives =
+    let seen : v2.seen ≡ b2.entries = ap (λ (y : View). y.seen) (settled n calls v v1 v2 b b2 is takes gives) in
+    let longer = takes.1.1 in record {
+      between = longer.0;
+      seen = seen ∙ (enters.ok.0 ∙ ap (λ l. l ++ entry n call reply ∷ []) longer.1);
+      calls = enters.ok.1;
+      sound = (sound table2 n calls v v1 v2 b b2 calls2 call (Ok reply) is made takes enters gives).1;
+    }
+
+pub refuses : (table table2 : TableId) (n : ℕ) (calls : List (Call × Reply)) (v v1 v2 : View) (b b2 : Booking) (calls2 : List (Call × Reply)) (call : Call) (result : Result Reply DeskFault)
+    → v ≡ seated v.terms n calls v.seen → n < v.terms.seats → Takes v b v1 → Enters b b2 n calls calls2 call result → Gives v1 b2 v2
+    → IfErr result (λ fault. IsRefused (sitting table n calls v) (sitting table2 n calls2 v2) fault)
+refuses table table2 n calls v v1 v2 b b2 calls2 call (Ok reply) is made takes enters gives = tt
+refuses table table2 n calls v v1 v2 b b2 calls2 call (Err fault) is made takes enters gives =
+    let at = settled n calls v v1 v2 b b2 is takes gives in
+    let seen : v2.seen ≡ b2.entries = ap (λ (y : View). y.seen) at in
+    let same : b2.entries ≡ b.entries = ap (λ (x : Booking). x.entries) enters.err.0 in
+    let terms : v2.terms ≡ b.terms = ap (λ (y : View). y.terms) at ∙ enters.terms in
+    let longer = takes.1.1 in record {
+      seen = (longer.0, seen ∙ (same ∙ longer.1));
+      calls = enters.err.1;
+      full = λ e.
+          let room = enters.full.0 (ap (λ f. Err f) e) in
+          let within = takes.1.2 in
+          let len = ap length (seen ∙ same) in
+          let rooms = ap (λ (t : Terms). t.room) terms in
+          omega arith;
+      sound = (sound table2 n calls v v1 v2 b b2 calls2 call (Err fault) is made takes enters gives).1;
+    }

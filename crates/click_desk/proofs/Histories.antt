@@ -1,0 +1,47 @@
+-- Laws of histories.
+use Rattle.std.proofs.Common.{◌≡◌, ◌≢◌, ℕ, Bool, true, false, ◌==◌, if◌then◌else◌, List, [], ◌∷◌, ◌++◌, sym, refl, ap, ◌∙◌, subst, append_assoc, arith, append-nil}
+use Rattle.std.proofs.lemmas.Bool.Decides.{nat_tests}
+use Rattle.click_router.specs.State.{RouterState}
+use Rattle.click_router.specs.One.{Answers}
+use Rattle.click_router.specs.declared.call.Call.{Call}
+use Rattle.click_router.specs.declared.call.Reply.{Reply}
+use Rattle.click_desk.specs.declared.entry.Entry.{Entry}
+use Rattle.click_desk.specs.History.{entry, Replays, Legal, entries, StartsWith}
+
+-- one entry more is replayed from where the others end
+pub replays_more : (s : RouterState) (es : List Entry) (mid : RouterState) (e : Entry) (last : RouterState) → Replays s es mid → Answers mid e.call last e.reply → Replays s (es ++ e ∷ []) last
+replays_more s [] mid e last h is = (last, subst (λ t. Answers t e.call last e.reply) (sym h) is, refl)
+replays_more s (x ∷ es) mid e last h is = (h.0, h.1, replays_more h.0 es mid e last h.2 is)
+
+pub legal_more : (text : List ℕ) (es : List Entry) (mid : RouterState) (e : Entry) (last : RouterState) → Legal text es mid → Answers mid e.call last e.reply → Legal text (es ++ e ∷ []) last
+legal_more text es mid e last h is = (h.0, h.1, replays_more h.0 es mid e last h.2 is)
+
+pub starts_here : (h : List Entry) → StartsWith h h
+starts_here h = ([], sym (append-nil h))
+
+pub starts_empty : (h : List Entry) → StartsWith h []
+starts_empty h = (h, refl)
+
+pub starts_along : (a b c : List Entry) → StartsWith a b → StartsWith b c → StartsWith a c
+starts_along a b c p q = (q.0 ++ p.0, p.1 ∙ ap (λ l. l ++ p.0) q.1 ∙ append_assoc c q.0 p.0)
+
+pub entries_append : (a b : List Entry) (n : ℕ) → entries (a ++ b) n ≡ entries a n ++ entries b n
+entries_append [] b n = refl
+entries_append (e ∷ a) b n =
+    elim (e.seat == n) as (λ (t : Bool). (if t then ((e.call, e.reply) ∷ entries (a ++ b) n) else entries (a ++ b) n) ≡ (if t then ((e.call, e.reply) ∷ entries a n) else entries a n) ++ entries b n) [
+      | true ↦ ap (λ l. (e.call, e.reply) ∷ l) (entries_append a b n)
+      | false ↦ entries_append a b n
+    ]
+
+-- an entry of a seat is one more of its own, and none of the others'
+pub entries_mine : (a : List Entry) (n : ℕ) (call : Call) (reply : Reply) → entries (a ++ entry n call reply ∷ []) n ≡ entries a n ++ (call, reply) ∷ []
+entries_mine a n call reply =
+    let same : (n == n) ≡ true = grind (arith, nat_tests) in
+    let last : entries (entry n call reply ∷ []) n ≡ (call, reply) ∷ [] = rw same refl in
+    entries_append a (entry n call reply ∷ []) n ∙ ap (λ l. entries a n ++ l) last
+
+pub entries_other : (a : List Entry) (n : ℕ) (call : Call) (reply : Reply) (m : ℕ) → m ≢ n → entries (a ++ entry n call reply ∷ []) m ≡ entries a m
+entries_other a n call reply m apart =
+    let other : (n == m) ≡ false = grind (arith, nat_tests) in
+    let last : entries (entry n call reply ∷ []) m ≡ [] = rw other refl in
+    entries_append a (entry n call reply ∷ []) m ∙ (ap (λ l. entries a m ++ l) last ∙ append-nil (entries a m))

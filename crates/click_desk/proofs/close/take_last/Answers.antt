@@ -1,0 +1,23 @@
+use Rattle.std.proofs.Common.{◌≡◌, List, slice_index_or, ap, ◌∙◌, sym, subst}
+use Rattle.std.specs.Prelude.{slice_set}
+use Rattle.std.specs.List.{All}
+use lib.ListN.{get_elem?}
+use mathlib.Core.Option.{some}
+use Rattle.crossbeam_queue.specs.Passes.{view}
+use Rattle.crossbeam_queue.proofs.Lists.{at_index, set_again}
+use Rattle.click_desk.specs.declared.entry.Entry.{Entry}
+use Rattle.click_desk.specs.declared.view.View.{View}
+use Rattle.click_desk.specs.Sittings.{Sitting}
+use Rattle.click_desk.specs.Closing.{IsEntered}
+use Rattle.click_desk.proofs.close.take_last.Goals as goal
+
+pub returns-clause-entered : goal.returns-clause-entered
+returns-clause-entered g c =
+    let seats = c.args.seats.now in
+    let x = c.index-seats-0.result in
+    let read : x ≡ slice_index_or seats 0 x = c.index-seats-0.is in
+    let at : get_elem? seats 0 ≡ some x = at_index seats 0 x c.requires.some read in
+    let same : slice_set seats 0 c.agent-agent.new.seat ≡ seats = ap (λ y. slice_set seats 0 y) (c.agent-agent.ensures.same ∙ sym read) ∙ set_again seats 0 x at in
+    let seen : (view c.take-booked.new.pass).seen ≡ c.take-booked.result.entries = ap (λ (v : View). v.seen) c.take-booked.ensures.taken.0 in
+    let all : All (IsEntered (view c.take-booked.new.pass).seen) (slice_set seats 0 c.agent-agent.new.seat) = c.audit_all.ensures.entered in
+    subst (λ (y : List Entry × List Sitting). All (IsEntered y.0) y.1) (λ i. (seen i, same i)) all

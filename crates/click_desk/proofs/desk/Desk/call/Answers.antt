@@ -1,0 +1,22 @@
+use Rattle.std.proofs.Common.{inl}
+use Rattle.click_desk.proofs.Calls.{may_give, sound, answers}
+use Rattle.click_desk.proofs.desk.Desk.call.Goals as goal
+
+pub give-requires-clause-rule : goal.give-requires-clause-rule
+give-requires-clause-rule g c =
+    let e = c.enter-result.ensures in
+    inl (may_give c.seat.inside.number c.seat.inside.calls.items _ _ _ _ c.enter-result.new.calls.items c.args.call c.enter-result.result c.seat.invariant.1 c.seat.invariant.2.made c.take-booked.ensures.taken
+    (record { terms = e.terms; legal = e.legal; ok = e.ok; err = e.err; full = e.full }))
+
+pub invariant_of-seat : goal.invariant_of-seat
+invariant_of-seat g c =
+    let e = c.enter-result.ensures in
+    let s = sound _ c.seat.inside.number c.seat.inside.calls.items _ _ _ _ _ c.enter-result.new.calls.items c.args.call c.enter-result.result c.seat.invariant.1 c.seat.invariant.2.made c.take-booked.ensures.taken
+    (record { terms = e.terms; legal = e.legal; ok = e.ok; err = e.err; full = e.full }) c.give.ensures.given in
+    (c.give.ensures.queue.1, s.0, s.1)
+
+pub returns-clause-ok : goal.returns-clause-ok
+returns-clause-ok g c =
+    let e = c.enter-result.ensures in
+    rw (← c.seat.view_is) (answers _ _ c.seat.inside.number c.seat.inside.calls.items _ _ _ _ _ c.enter-result.new.calls.items c.args.call c.enter-result.result c.seat.invariant.1 c.seat.invariant.2.made c.take-booked.ensures.taken
+    (record { terms = e.terms; legal = e.legal; ok = e.ok; err = e.err; full = e.full }) c.give.ensures.given)

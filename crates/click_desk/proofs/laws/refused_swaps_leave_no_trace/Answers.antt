@@ -1,0 +1,5 @@
+use Rattle.click_desk.proofs.Lawful.{no_trace}
+use Rattle.click_desk.proofs.laws.refused_swaps_leave_no_trace.Goals as goal
+
+pub returns : goal.returns
+returns c = no_trace

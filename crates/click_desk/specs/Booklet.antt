@@ -1,0 +1,11 @@
+-- A closed desk's book as contracts see it.
+use Rattle.std.specs.Prelude.{ℕ, List}
+use Rattle.click_router.specs.State.{RouterState}
+use Rattle.click_desk.specs.declared.entry.Entry.{Entry}
+use Rattle.click_desk.specs.Sittings.{Sitting}
+
+pub record Booklet : Type 0 where
+  pub opening : List ℕ
+  pub entries : List Entry
+  pub router : RouterState
+  pub seats : List Sitting

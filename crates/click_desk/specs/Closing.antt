@@ -1,0 +1,24 @@
+-- What a closed desk's book says.
+use Rattle.std.specs.Prelude.{◌≡◌, ℕ, ◌<◌, ◌==◌, List, count_by}
+use Rattle.std.specs.List.{All}
+use Rattle.click_desk.specs.declared.entry.Entry.{Entry}
+use Rattle.click_desk.specs.Booklet.{Booklet}
+use Rattle.click_desk.specs.History.{Legal, entries, StartsWith, installs, EachLawful}
+use Rattle.click_desk.specs.Sittings.{DeskName, Sitting}
+
+-- each seat number below n stands there once
+abbrev pub IsEachOnce : ℕ → List Sitting → Type 0
+IsEachOnce n seats = (k : ℕ) → k < n → count_by (λ s. s.number == k) seats ≡ 1
+
+-- the history has of the seat just the calls that it made, with the replies that it got, and begins with what it had seen
+abbrev pub IsEntered : List Entry → Sitting → Type 0
+IsEntered history s = (entries history s.number ≡ s.calls) × StartsWith history s.seen
+
+-- the book of a desk whose seats are these
+pub record Closes (desk : DeskName) (seats : List Sitting) (book : Booklet) : Type 0 where
+  pub seats_are : book.seats ≡ seats
+  pub opening : book.opening ≡ desk.terms.opening
+  pub replayed : Legal book.opening book.entries book.router
+  pub lawful : EachLawful (installs book.opening book.entries)
+  pub entered : All (IsEntered book.entries) seats
+  pub numbered : All (λ e. count_by (λ s. s.number == e.seat) seats ≡ 1) book.entries

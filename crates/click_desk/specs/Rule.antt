@@ -1,0 +1,45 @@
+-- The rule of the queue of one place. It speaks of histories, seat numbers, opening and room alone.
+use Rattle.std.specs.Prelude.{◌≡◌, ℕ, ◌≤◌, ◌⊎◌, true, List, [], ◌∷◌, length}
+use mathlib.Core.Option.{some}
+use lib.ListN.{get_elem?}
+use Rattle.click_desk.specs.Booking.{Booking}
+use Rattle.click_desk.specs.declared.entry.Entry.{Entry}
+use Rattle.click_desk.specs.declared.terms.Terms.{Terms}
+use Rattle.click_desk.specs.declared.view.View.{View}
+use Rattle.click_desk.specs.History.{entries, StartsWith}
+use Rattle.click_desk.specs.Views.{first}
+
+-- what one pass knows fits the history: the terms, what it has seen, that it holds the booked router alone,
+-- that the entries of its seat are those that it knows as its own, and that a seat that is not yet made has none
+pub record Fits (items : List Booking) (history : List Entry) (terms : Terms) (owner : ℕ → ℕ) (holder pass : ℕ) (v : View) : Type 0 where
+  pub knows : v.opened ≡ true → v.terms ≡ terms
+  pub seen : StartsWith history v.seen
+  pub back : StartsWith history v.back
+  pub holds : v.holds ≡ true → (v.opened ≡ true) × (items ≡ []) × (pass ≡ holder) × (v.seen ≡ history)
+  pub acts : v.acts ≡ true → (owner v.number ≡ pass) × (entries history v.number ≡ v.mine)
+  pub makes : v.makes ≡ true → (n : ℕ) → v.made ≤ n → (owner n ≡ pass) × (entries history n ≡ [])
+
+abbrev pub IsHeld : List View → ℕ → Type 0
+IsHeld views holder = (v : View) × (get_elem? views holder ≡ some v) × (v.holds ≡ true)
+
+-- the booked router is in the queue, with this history, or a pass holds it and the queue is empty
+abbrev pub Place : List Booking → List View → List Entry → Terms → ℕ → Type 0
+Place items views history terms holder =
+    ((items ≡ []) × IsHeld views holder) ⊎ ((b : Booking) × (items ≡ b ∷ []) × (b.terms ≡ terms) × (b.entries ≡ history))
+
+abbrev pub All : (ℕ → View → Type 0) → List View → Type 0
+All F views = (pass : ℕ) (v : View) → get_elem? views pass ≡ some v → F pass v
+
+pub record Kept (items : List Booking) (views : List View) : Type 0 where
+  pub history : List Entry
+  pub terms : Terms
+  pub owner : ℕ → ℕ
+  pub holder : ℕ
+  pub place : Place items views history terms holder
+  pub within : length history ≤ terms.room
+  pub numbered : (n : ℕ) → terms.seats ≤ n → entries history n ≡ []
+  pub fits : All (Fits items history terms owner holder) views
+
+-- at first there is one pass, which holds the empty history; from its give on the rest is kept
+abbrev pub OnePlace : List Booking → List View → Type 0
+OnePlace items views = ((items ≡ []) × (views ≡ first ∷ [])) ⊎ Kept items views

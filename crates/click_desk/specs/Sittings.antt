@@ -1,0 +1,51 @@
+-- Desks and seats as contracts see them.
+use Rattle.std.specs.Prelude.{◌≡◌, ℕ, zero, suc, ◌<◌, List, [], ◌∷◌, ◌++◌, length}
+use Rattle.atomic_table.specs.Seated.{TableId}
+use Rattle.click_router.specs.declared.call.Call.{Call}
+use Rattle.click_router.specs.declared.call.Reply.{Reply}
+use Rattle.click_desk.specs.declared.entry.Entry.{Entry}
+use Rattle.click_desk.specs.declared.terms.Terms.{Terms}
+use Rattle.click_desk.specs.declared.booked.DeskFault.{DeskFault}
+use Rattle.click_desk.specs.declared.booked.DeskFault.TheVariants.{HistoryFull}
+use Rattle.click_desk.specs.History.{entry, IsLegal, entries, StartsWith}
+
+-- which desk it is: its queue, and what it was opened with. No other desk has this name
+pub record DeskName : Type 0 where
+  pub table : TableId
+  pub terms : Terms
+
+-- a seat: the desk that it belongs to, its number, the calls that it made with their replies, and the history as far as it has seen it
+pub record Sitting : Type 0 where
+  pub desk : DeskName
+  pub number : ℕ
+  pub calls : List (Call × Reply)
+  pub seen : List Entry
+
+-- what a seat saw is a history from the opening text, which has of this seat just its calls
+pub record IsSeat (s : Sitting) : Type 0 where
+  pub legal : IsLegal s.desk.terms.opening s.seen
+  pub own : entries s.seen s.number ≡ s.calls
+  pub made : s.number < s.desk.terms.seats
+
+-- the seat has seen a longer history, which ends with this call and this reply, one more of its own
+pub record Calls (old new : Sitting) (call : Call) (reply : Reply) : Type 0 where
+  pub between : List Entry
+  pub seen : new.seen ≡ (old.seen ++ between) ++ entry new.number call reply ∷ []
+  pub calls : new.calls ≡ old.calls ++ (call, reply) ∷ []
+  pub sound : IsSeat new
+
+-- the seat made no call; it has seen the history so far, which has room entries where the history was full
+pub record IsRefused (old new : Sitting) (fault : DeskFault) : Type 0 where
+  pub seen : StartsWith new.seen old.seen
+  pub calls : new.calls ≡ old.calls
+  pub full : fault ≡ HistoryFull → length new.seen ≡ new.desk.terms.room
+  pub sound : IsSeat new
+
+-- a seat that has made no call
+abbrev pub new_seat : DeskName → ℕ → Sitting
+new_seat desk number = record { desk = desk; number = number; calls = []; seen = [] }
+
+-- the new seats with the numbers below n, in order
+abbrev pub seats_below : DeskName → ℕ → List Sitting
+seats_below desk zero = []
+seats_below desk (suc n) = seats_below desk n ++ new_seat desk n ∷ []

@@ -1,0 +1,136 @@
+//! The close of a desk.
+
+ghost use Rattle.std.specs.Prelude.{◌≡◌, ◌==◌, ◌↔◌, ◌<◌, ◌≤◌, ℕ, [], IsTrue, IfOk, IfErr, count_by, MatchResult, slice_index_or, length};
+ghost use Rattle.std.specs.List.{All};
+ghost use Rattle.crossbeam_queue.specs.Passes.{view, IsPassOf};
+ghost use Rattle.click_desk.specs.Views.{agent as agent_of, holding};
+ghost use Rattle.click_desk.specs.History.{entries};
+ghost use Rattle.click_desk.specs.Closing.{IsEachOnce, IsEntered, Closes};
+
+use crate::book::Book;
+use crate::booked::Booked;
+use crate::desk::{Desk, take};
+use crate::rule::{Agent, DeskPass, Meeting, Queue};
+use crate::seat::Seat;
+use crate::terms::Terms;
+use std::sync::Wait;
+use thiserror::Error;
+
+/// Why a desk was not closed.
+#[derive(Clone, Copy, Debug, PartialEq, Eq, Error)]
+pub enum CloseFault {
+    /// Not each seat number was handed in once.
+    #[error("not each seat was given back once")]
+    SeatsMissing,
+    /// A seat's list differs from its entries. The rule of the queue leaves no way to it.
+    #[error("a seat's calls are not its entries")]
+    Mismatch,
+}
+
+/// A desk that was not closed, with the seats that were handed in.
+#[derive(Drop)]
+pub struct CloseRefused<T> {
+    pub desk: Desk<T>,
+    pub seats: Vec<Seat<T>>,
+    pub fault: CloseFault,
+}
+
+/// How many seats have this number.
+fn count_of<T>(seats: &[Seat<T>], number: usize) -> usize
+    ensures { result ≡ count_by (λ s. s.number == number) seats.now }
+{
+    seats.iter().filter(|s| s.number() == number).count()
+}
+
+/// Each number below `count` stands there once.
+fn is_each_once<T>(seats: &[Seat<T>], count: usize) -> bool
+    ensures { IsTrue result ↔ IsEachOnce count seats.now }
+{
+    for number in 0..count {
+        if count_of(seats, number) != 1 {
+            return false;
+        }
+    }
+    true
+}
+
+/// A pass of no seat.
+fn agent<T>(queue: &Queue<T>, seat: &mut Seat<T>) -> DeskPass<T>
+    requires { seat.old.desk.table ≡ queue.now.table.shared.table_id }
+    ensures same { seat.new ≡ seat.old }
+    ensures agent { IsPassOf queue.now result × (view result ≡ agent_of seat.old.desk.terms) }
+{
+    queue.another::<Agent>(&mut seat.pass)
+}
+
+/// Holds the whole history against what the seat knows.
+fn audit<T>(queue: &Queue<T>, seat: &mut Seat<T>, agent: DeskPass<T>) -> DeskPass<T>
+    requires seat { seat.old.desk.table ≡ queue.now.table.shared.table_id }
+    requires agent { IsPassOf queue.now agent × (view agent ≡ holding seat.old.desk.terms (view agent).seen) }
+    ensures same { seat.new ≡ seat.old }
+    ensures agent { IsPassOf queue.now result × (view result ≡ view agent) }
+    ensures entered { IsEntered (view agent).seen seat.old }
+{
+    queue.absorb::<Meeting>(&mut seat.pass, agent);
+    queue.learn_as::<Meeting>(&mut seat.pass);
+    queue.another::<Meeting>(&mut seat.pass)
+}
+
+/// Holds the whole history against what each seat knows.
+fn audit_all<T>(queue: &Queue<T>, seats: &mut [Seat<T>], mut agent: DeskPass<T>) -> DeskPass<T>
+    requires seats { All (λ s. (s.desk.table ≡ queue.now.table.shared.table_id) × (s.desk.terms ≡ (view agent).terms)) seats.old }
+    requires agent { IsPassOf queue.now agent × (view agent ≡ holding (view agent).terms (view agent).seen) }
+    ensures same { seats.new ≡ seats.old }
+    ensures entered { All (IsEntered (view agent).seen) seats.old }
+{
+    for i in 0..seats.len() {
+        agent = audit(queue, &mut seats[i], agent);
+    }
+    agent
+}
+
+/// Takes the booked router for good, and holds its history against what each seat knows.
+fn take_last<T, R: Wait>(
+    rt: &R,
+    queue: &Queue<T>,
+    terms: &Terms,
+    seats: &mut [Seat<T>],
+) -> Booked<T>
+    requires some { 0 < length seats.old }
+    requires seats { All (λ s. (s.desk.table ≡ queue.now.table.shared.table_id) × (s.desk.terms ≡ terms.now)) seats.old }
+    ensures same { seats.new ≡ seats.old }
+    ensures terms { result.terms ≡ terms.now }
+    ensures entered { All (IsEntered result.entries) seats.old }
+    ensures numbered { (n : ℕ) → terms.now.seats ≤ n → entries result.entries n ≡ [] }
+{
+    let mut agent = agent(queue, &mut seats[0]);
+    let booked = take(rt, queue, &mut agent);
+    audit_all(queue, seats, agent);
+    booked
+}
+
+impl<T: Drop> Desk<T> {
+    /// Closes the desk, once each of its seats is handed in.
+    pub fn close<R: Wait>(self, rt: &R, mut seats: Vec<Seat<T>>) -> Result<Book<T>, CloseRefused<T>>
+        requires { All (λ s. s.desk ≡ self) seats.items }
+        ensures ok { IfOk result (λ book. IsEachOnce self.terms.seats seats.items × Closes self seats.items book) }
+        ensures refused { IfErr result (λ r. (¬ IsEachOnce self.terms.seats seats.items) × (r.desk ≡ self) × (r.seats.items ≡ seats.items) × (r.fault ≡ CloseFault.SeatsMissing)) }
+    {
+        if !is_each_once(seats.as_slice(), self.terms.seats) {
+            return Err(CloseRefused {
+                desk: self,
+                seats,
+                fault: CloseFault::SeatsMissing,
+            });
+        }
+        let booked = take_last(rt, &self.queue, &self.terms, seats.as_mut_slice());
+        let (terms, entries, router) = booked.into_parts();
+        let Terms { opening, .. } = terms;
+        Ok(Book {
+            opening,
+            entries,
+            router,
+            seats,
+        })
+    }
+}

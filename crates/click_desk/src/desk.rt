@@ -1,0 +1,81 @@
+//! A router that many threads share.
+
+ghost use Rattle.std.specs.Prelude.{◌≡◌, ◌⊎◌, [], true, IfOk, IfErr};
+ghost use Rattle.crossbeam_queue.specs.Passes.{view, IsPassOf, ruled_capacity};
+ghost use Rattle.click_desk.specs.Views.{first, Takes, Gives, MayGive, IsFirstGive};
+ghost use Rattle.click_desk.specs.Sittings.{Calls, IsRefused};
+
+use crate::booked::{Booked, DeskFault};
+use crate::rule::{DeskPass, Give, Queue, Take};
+use crate::seat::Seat;
+use crate::terms::Terms;
+use click_router::{Call, Handlers, Reply};
+use std::alloc::Global;
+use std::marker::Model;
+use std::sync::Wait;
+use std::thread;
+
+/// A router with its history, which seats share.
+#[derive(Drop)]
+pub struct Desk<T> {
+    pub(crate) alloc: Global,
+    pub(crate) queue: Queue<T>,
+    pub(crate) terms: Terms,
+}
+
+impl<T> Model for Desk<T> {
+    ghost use Rattle.click_desk.specs.Sittings.{DeskName};
+
+    ghost Value = { DeskName };
+
+    ghost use Rattle.std.specs.Prelude.{◌≡◌, ◌<◌};
+    ghost use Rattle.crossbeam_queue.specs.Passes.{ruled_capacity};
+
+    ghost view = { λ d. record { table = d.queue.table.shared.table_id; terms = d.terms } };
+
+    ghost invariant = { λ d. (ruled_capacity d.queue ≡ 1) × (0 < d.terms.seats) };
+}
+
+/// Takes the booked router. It tries again until it finds it.
+pub(crate) fn take<T, R: Wait>(rt: &R, queue: &Queue<T>, pass: &mut DeskPass<T>) -> Booked<T>
+    requires queue { IsPassOf queue.now pass.old }
+    requires opened { (view pass.old).opened ≡ true }
+    ensures queue { IsPassOf queue.now pass.new }
+    ensures taken { Takes (view pass.old) result (view pass.new) }
+{
+    for _ in rt.forever() {
+        match queue.try_pop_as::<Take>(pass) {
+            Some(booked) => return booked,
+            None => thread::yield_now(),
+        }
+    }
+    unreachable!()
+}
+
+/// Gives the booked router back. The queue is empty.
+pub(crate) fn give<T, R: Wait>(rt: &R, queue: &Queue<T>, pass: &mut DeskPass<T>, booked: Booked<T>)
+    requires queue { IsPassOf queue.now pass.old × (ruled_capacity queue.now ≡ 1) }
+    requires rule { MayGive (view pass.old) booked ⊎ IsFirstGive (view pass.old) booked }
+    ensures queue { IsPassOf queue.now pass.new }
+    ensures given { Gives (view pass.old) booked (view pass.new) }
+{
+    match queue.push_as::<Give, R>(rt, pass, booked) {
+        Ok(()) => {}
+        Err(_) => unreachable!(),
+    }
+}
+
+impl<T: Handlers> Desk<T> {
+    /// One call of a seat that belongs to this desk.
+    pub fn call<R: Wait>(&self, rt: &R, seat: &mut Seat<T>, call: Call) -> Result<Reply, DeskFault>
+        requires { seat.old.desk ≡ self.now }
+        ensures seat { (seat.new.desk ≡ seat.old.desk) × (seat.new.number ≡ seat.old.number) }
+        ensures ok { IfOk result (λ reply. Calls seat.old seat.new call reply) }
+        ensures err { IfErr result (λ fault. IsRefused seat.old seat.new fault) }
+    {
+        let mut booked = take(rt, &self.queue, &mut seat.pass);
+        let result = booked.enter(self.alloc, seat.number, &mut seat.calls, call);
+        give(rt, &self.queue, &mut seat.pass, booked);
+        result
+    }
+}

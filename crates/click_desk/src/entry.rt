@@ -1,0 +1,11 @@
+//! One call of one seat, with its reply.
+
+use click_router::{Call, Reply};
+
+/// One call of one seat, with its reply.
+#[derive(Drop)]
+pub struct Entry {
+    pub seat: usize,
+    pub call: Call,
+    pub reply: Reply,
+}

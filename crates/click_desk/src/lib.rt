@@ -1,0 +1,22 @@
+//! A router that many threads share, with a history of one thread.
+#![tactic(auto)]
+
+mod book;
+mod booked;
+mod close;
+mod desk;
+mod entry;
+pub mod laws;
+mod open;
+mod rule;
+mod seat;
+mod terms;
+mod view;
+
+pub use book::Book;
+pub use booked::DeskFault;
+pub use close::{CloseFault, CloseRefused};
+pub use desk::Desk;
+pub use entry::Entry;
+pub use open::{OpenFault, OpenRefused};
+pub use seat::Seat;

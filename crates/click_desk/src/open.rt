@@ -1,0 +1,168 @@
+//! The opening of a desk.
+
+ghost use Rattle.std.specs.Prelude.{◌≡◌, ◌<◌, ◌≤◌, ◌⊎◌, ◌↔◌, [], IfOk, IfErr, vec_capacity};
+ghost use Rattle.std.specs.List.{All};
+ghost use Rattle.crossbeam_queue.specs.Passes.{view, IsPassOf, ruled_capacity};
+ghost use Rattle.click_router.specs.Opened.{IsOpened, IsFirstFault};
+ghost use Rattle.click_desk.specs.History.{IsLegal};
+ghost use Rattle.click_desk.specs.Views.{first, maker as maker_of};
+ghost use Rattle.click_desk.specs.Sittings.{seats_below};
+
+use crate::booked::Booked;
+use crate::desk::{Desk, give};
+use crate::rule::{DeskPass, NextSeat, Queue};
+use crate::seat::Seat;
+use crate::terms::Terms;
+use click_router::{ConfigFault, FaultKind, Router, prepare};
+use std::alloc::{AllocError, Global};
+use std::sync::Wait;
+use thiserror::Error;
+
+/// The most seats of a desk.
+const MOST_SEATS: usize = 256;
+
+/// Why a desk was not opened.
+#[derive(Debug, Drop, Error)]
+pub enum OpenFault {
+    #[error("a desk has 1 to 256 seats")]
+    SeatCount,
+    /// What is wrong with the configuration.
+    #[error(transparent)]
+    Config(ConfigFault),
+    #[error("out of memory")]
+    NoMemory,
+}
+
+/// What was handed in, and why no desk was opened.
+#[derive(Drop)]
+pub struct OpenRefused<T> {
+    pub table: T,
+    pub fault: OpenFault,
+}
+
+/// All that takes memory.
+struct Parts<T> {
+    inside: Terms,
+    beside: Terms,
+    queue: Queue<T>,
+    maker: DeskPass<T>,
+    given: Vec<Seat<T>>,
+}
+
+/// Takes all memory that a desk of these terms needs.
+fn make_parts<T>(
+    alloc: Global,
+    text: &[u8],
+    room: usize,
+    seats: usize,
+) -> Result<Parts<T>, AllocError>
+    ensures terms { IfOk result (λ p. (p.inside ≡ record { opening = text.now; room = room; seats = seats }) × (p.beside ≡ p.inside)) }
+    ensures queue { IfOk result (λ p. (ruled_capacity p.queue ≡ 1) × IsPassOf p.queue p.maker × (view p.maker ≡ first)) }
+    ensures given { IfOk result (λ p. (p.given.items ≡ []) × (seats ≤ vec_capacity p.given)) }
+{
+    let inside = Terms::of(alloc, text, room, seats)?;
+    let beside = Terms::of(alloc, text, room, seats)?;
+    let given = Vec::with_capacity(alloc, seats)?;
+    let (queue, maker) = Queue::<T>::ruled(alloc, 1)?;
+    Ok(Parts {
+        inside,
+        beside,
+        queue,
+        maker,
+        given,
+    })
+}
+
+/// Makes the seats.
+fn make_seats<T>(
+    alloc: Global,
+    queue: &Queue<T>,
+    mut maker: DeskPass<T>,
+    count: usize,
+    given: &mut Vec<Seat<T>>,
+)
+    requires queue { IsPassOf queue.now maker }
+    requires maker { view maker ≡ maker_of (view maker).terms 0 [] }
+    requires legal { IsLegal (view maker).terms.opening [] }
+    requires count { (view maker).terms.seats ≡ count }
+    requires given { (given.old.items ≡ []) × (count ≤ vec_capacity given.old) }
+    ensures { given.new.items ≡ seats_below (record { table = queue.now.table.shared.table_id; terms = (view maker).terms }) count }
+{
+    for number in 0..count {
+        let pass = queue.another::<NextSeat>(&mut maker);
+        given.push_reserved(Seat {
+            pass,
+            number,
+            calls: Vec::new(alloc),
+        });
+    }
+}
+
+/// Why a desk is not opened where its configuration is refused for this fault. Want of memory is told as such.
+fn fault_of(fault: ConfigFault) -> OpenFault
+    ensures memory { fault.kind ≡ FaultKind.NoMemory → result ≡ OpenFault.NoMemory }
+    ensures config { (fault.kind ≡ FaultKind.NoMemory → ⊥) → result ≡ OpenFault.Config fault }
+{
+    match fault.kind {
+        FaultKind::NoMemory => OpenFault::NoMemory,
+        _ => OpenFault::Config(fault),
+    }
+}
+
+impl<T: Drop> Desk<T> {
+    /// Opens a desk with 1 to 256 seats, for a history of at most `room` entries. A refusal hands the table back: for the number of seats, else for the
+    /// configuration, else because memory runs out.
+    pub fn open<R: Wait>(
+        rt: &R,
+        alloc: Global,
+        table: T,
+        text: &[u8],
+        room: usize,
+        seats: usize,
+    ) -> Result<(Desk<T>, Vec<Seat<T>>), OpenRefused<T>>
+        ensures desk { IfOk result (λ r. r.0.terms ≡ record { opening = text.now; room = room; seats = seats }) }
+        ensures seats { IfOk result (λ r. (r.1.items ≡ seats_below r.0 seats) × All (λ s. s.desk ≡ r.0) r.1.items) }
+        ensures good { IfOk result (λ r. (0 < seats) × (seats ≤ 256) × IsLegal text.now []) }
+        ensures table { IfErr result (λ r. r.table ≡ table) }
+        ensures count { IfErr result (λ r. (r.fault ≡ OpenFault.SeatCount) ↔ ((seats ≡ 0) ⊎ (256 < seats))) }
+        ensures config { IfErr result (λ r. (fault : ConfigFault) → r.fault ≡ OpenFault.Config fault → IsFirstFault text.now fault × (fault.kind ≡ FaultKind.NoMemory → ⊥)) }
+    {
+        if seats == 0 || seats > MOST_SEATS {
+            return Err(OpenRefused {
+                table,
+                fault: OpenFault::SeatCount,
+            });
+        }
+        let prepared = match prepare(alloc, text) {
+            Ok(prepared) => prepared,
+            Err(fault) => {
+                return Err(OpenRefused {
+                    table,
+                    fault: fault_of(fault),
+                });
+            }
+        };
+        let Ok(parts) = make_parts(alloc, text, room, seats) else {
+            return Err(OpenRefused {
+                table,
+                fault: OpenFault::NoMemory,
+            });
+        };
+        let Parts {
+            inside,
+            beside,
+            queue,
+            mut maker,
+            mut given,
+        } = parts;
+        let router = Router::open(table, prepared);
+        give(rt, &queue, &mut maker, Booked::new(alloc, inside, router));
+        make_seats(alloc, &queue, maker, seats, &mut given);
+        let desk = Desk {
+            alloc,
+            queue,
+            terms: beside,
+        };
+        Ok((desk, given))
+    }
+}

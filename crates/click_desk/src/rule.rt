@@ -1,0 +1,93 @@
+//! The queue of one place through which the booked router passes.
+
+use crate::booked::Booked;
+use crate::view::View;
+use crossbeam_queue::protocol::{Join, Lesson, Outcome, Protocol, Split};
+use crossbeam_queue::{Pass, RuledArrayQueue};
+
+/// The rule of the queue.
+pub struct OnePlace;
+
+impl<T> Protocol<Booked<T>, View> for OnePlace {
+    ghost use Rattle.click_desk.specs.Rule.{OnePlace as TheRule};
+    ghost use Rattle.click_desk.specs.Views.{first as first_view};
+
+    ghost holds = { TheRule };
+
+    ghost first = { first_view };
+}
+
+/// A take.
+pub struct Take;
+
+impl<T> Outcome<Booked<T>, View> for Take {
+    ghost use Rattle.click_desk.specs.Views.{Takes};
+
+    ghost then = { Takes };
+}
+
+/// A give, which finds the queue empty.
+pub struct Give;
+
+impl<T> Outcome<Booked<T>, View> for Give {
+    ghost use Rattle.click_desk.specs.Views.{Gives};
+
+    ghost then = { Gives };
+}
+
+impl<T> Lesson<Booked<T>, View> for Give {
+    ghost use Rattle.std.specs.Prelude.{◌≡◌, [], true};
+
+    ghost fact = { λ v items. v.holds ≡ true → items ≡ [] };
+}
+
+/// A further seat.
+pub struct NextSeat;
+
+impl Split<View> for NextSeat {
+    ghost use Rattle.click_desk.specs.Views.{one_more, next_seat};
+
+    ghost left = { one_more };
+
+    ghost right = { next_seat };
+}
+
+/// A pass of no seat.
+pub struct Agent;
+
+impl Split<View> for Agent {
+    ghost use Rattle.click_desk.specs.Views.{agent};
+
+    ghost left = { λ v. v };
+
+    ghost right = { λ v. agent v.terms };
+}
+
+/// A seat and who holds the booked router look at the history together, and part again.
+pub struct Meeting;
+
+impl Join<View> for Meeting {
+    ghost use Rattle.click_desk.specs.Views.{met, nobody};
+
+    ghost both = { met };
+
+    ghost spent = { nobody };
+}
+
+impl<T> Lesson<Booked<T>, View> for Meeting {
+    ghost use Rattle.click_desk.specs.Views.{Audits};
+
+    ghost fact = { Audits };
+}
+
+impl Split<View> for Meeting {
+    ghost use Rattle.click_desk.specs.Views.{parted, holding};
+
+    ghost left = { parted };
+
+    ghost right = { λ v. holding v.terms v.seen };
+}
+
+pub type Queue<T> = RuledArrayQueue<Booked<T>, View, OnePlace>;
+
+pub type DeskPass<T> = Pass<Booked<T>, View>;

@@ -1,0 +1,49 @@
+//! A seat at a desk.
+
+ghost use Rattle.std.specs.Prelude.{◌≡◌};
+ghost use Rattle.click_desk.specs.Sittings.{IsSeat};
+
+use crate::rule::DeskPass;
+use click_router::{Call, Reply};
+use std::marker::Model;
+
+/// Who makes calls at a desk, from any thread.
+#[derive(Drop)]
+pub struct Seat<T> {
+    pub(crate) pass: DeskPass<T>,
+    pub(crate) number: usize,
+    pub(crate) calls: Vec<(Call, Reply)>,
+}
+
+impl<T> Model for Seat<T> {
+    ghost use Rattle.click_desk.specs.Sittings.{Sitting};
+
+    ghost Value = { Sitting };
+
+    ghost use Rattle.std.specs.Prelude.{◌≡◌, []};
+    ghost use Rattle.crossbeam_queue.specs.Passes.{view as known};
+    ghost use Rattle.click_desk.specs.Views.{seated};
+    ghost use Rattle.click_desk.specs.Sittings.{IsSeat};
+
+    ghost view = { λ s. record { desk = record { table = s.pass.table_id; terms = (known s.pass).terms }; number = s.number; calls = s.calls.items; seen = (known s.pass).seen } };
+
+    ghost invariant = { λ s. (s.pass.me.1 ≡ []) × (known s.pass ≡ seated (known s.pass).terms s.number s.calls.items (known s.pass).seen) × IsSeat (record { desk = record { table = s.pass.table_id; terms = (known s.pass).terms }; number = s.number; calls = s.calls.items; seen = (known s.pass).seen }) };
+}
+
+impl<T> Seat<T> {
+    /// Its number at the desk.
+    pub fn number(&self) -> usize
+        ensures number { result ≡ self.now.number }
+        ensures sound { IsSeat self.now }
+    {
+        self.number
+    }
+
+    /// The calls that it made, each with its reply.
+    pub fn calls(&self) -> &[(Call, Reply)]
+        ensures calls { result.now ≡ self.now.calls }
+        ensures sound { IsSeat self.now }
+    {
+        self.calls.as_slice()
+    }
+}

@@ -1,0 +1,27 @@
+//! What a desk was opened with.
+
+ghost use Rattle.std.specs.Prelude.{◌≡◌, IfOk};
+
+use click_text::sequence::Sequence;
+use std::alloc::{AllocError, Global};
+
+/// The opening text, the number of entries that the history may have, and the number of seats.
+#[derive(Drop)]
+pub struct Terms {
+    pub opening: Sequence<u8>,
+    pub room: usize,
+    pub seats: usize,
+}
+
+impl Terms {
+    /// The terms with a copy of this text.
+    pub fn of(alloc: Global, text: &[u8], room: usize, seats: usize) -> Result<Terms, AllocError>
+        ensures { IfOk result (λ t. t ≡ record { opening = text.now; room = room; seats = seats }) }
+    {
+        Ok(Terms {
+            opening: Sequence::of(Vec::from_slice(alloc, text)?),
+            room,
+            seats,
+        })
+    }
+}

@@ -1,0 +1,26 @@
+//! What a pass of the queue knows.
+
+use crate::entry::Entry;
+use crate::terms::Terms;
+use click_router::{Call, Reply};
+use std::collections::LinkedList;
+
+/// What a pass knows and may do. No value of it is made.
+pub struct View {
+    /// It knows the terms.
+    pub opened: bool,
+    pub terms: Terms,
+    /// It has the booked router.
+    pub holds: bool,
+    /// It makes the seats whose numbers are `made` and above.
+    pub makes: bool,
+    pub made: usize,
+    /// It makes the calls of seat `number`, which are `mine`.
+    pub acts: bool,
+    pub number: usize,
+    pub mine: LinkedList<(Call, Reply)>,
+    /// The history, as far as it was seen.
+    pub seen: LinkedList<Entry>,
+    /// What its seat had seen, while it lends itself to the close.
+    pub back: LinkedList<Entry>,
+}

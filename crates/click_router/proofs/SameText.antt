@@ -1,0 +1,42 @@
+-- With a text of the same names each element takes over from itself.
+use Rattle.std.proofs.Common.{◌≡◌, ℕ, suc, ◌+◌, ◌<◌, List, [], ◌∷◌, length, Some, slice_get, option_and_then, refl, sym, ap, ◌∙◌, subst, arith}
+use Rattle.click_classes.specs.declared.state.State.{State}
+use Rattle.click_engine.specs.declared.world.Element.{Element}
+use Rattle.click_engine.specs.Plant.{elements_from}
+use Rattle.click_engine.specs.TakeOver.{place_of, named, after_it}
+use Rattle.click_engine.proofs.Taking.{each_by_name}
+use Rattle.click_expand.specs.Flat.{AreDistinct}
+use Rattle.click_expand.specs.declared.flat.FlatElement.{FlatElement}
+use Rattle.click_ports.specs.Net.{names_of, net_of}
+use Rattle.click_ports.specs.declared.net.Net.{Net}
+use Rattle.click_router.specs.Opened.{IsOpened, AreFresh}
+use Rattle.click_router.specs.State.{RouterState}
+use Rattle.click_router.specs.Swap.{taken}
+use Rattle.click_router.proofs.Names.{flat-distinct, inside, gets, at_its_place}
+
+as_many : (net : Net) (k : ℕ) (qs : List State) → length (elements_from net k qs) ≡ length qs
+as_many net k [] = refl
+as_many net k (q ∷ qs) = ap suc (as_many net (k + 1) qs)
+
+fresh_each : (es : List FlatElement) (qs : List State) → AreFresh es qs → length (names_of es) ≡ length qs
+fresh_each [] [] h = refl
+fresh_each [] (q ∷ qs) h = absurd h
+fresh_each (e ∷ es) [] h = absurd h
+fresh_each (e ∷ es) (q ∷ qs) h = ap suc (fresh_each es qs h.1)
+
+pub takes_from_itself : (old new : RouterState) (text : List ℕ) (at : ℕ) (e before : Element) → IsOpened text new → old.plant.net.names ≡ new.plant.net.names
+    → slice_get new.plant.elements at ≡ Some e → slice_get old.plant.elements at ≡ Some before
+    → slice_get (taken new old).plant.elements at ≡ Some (after_it e (Some before))
+takes_from_itself old new text at e before o same here there =
+    let begins = o.opens.begins in
+    let names : new.plant.net.names ≡ names_of new.flat.elements = ap (λ (n : Net). n.names) begins.started.net_is in
+    let distinct : AreDistinct old.plant.net.names = subst AreDistinct (sym (same ∙ names)) (flat-distinct o.config new.flat o.opens.is_flat) in
+    let below : at < length new.plant.net.names =
+    let l = inside new.plant.elements at e here in
+    let many : length new.plant.elements ≡ length begins.states = ap length begins.started.elements_are ∙ as_many (net_of new.flat begins.states) 0 begins.states in
+    let each : length new.plant.net.names ≡ length begins.states = ap length names ∙ fresh_each new.flat.elements begins.states begins.fresh in
+    omega (arith, l, many, each) in
+    let n = gets new.plant.net.names at below in
+    let found : place_of old.plant n.0 ≡ Some at = at_its_place old.plant.net.names at n.0 distinct (ap (λ ns. slice_get ns at) same ∙ n.1) in
+    let is : named old.plant n.0 ≡ Some before = ap (λ p. option_and_then (slice_get old.plant.elements) p) found ∙ there in
+    each_by_name old.plant new.plant.net.names new.plant.elements at n.0 e n.1 here ∙ ap (λ x. Some (after_it e x)) is

@@ -1,0 +1,138 @@
+//! Copies of calls and replies.
+
+ghost use Rattle.std.specs.Prelude.{◌≡◌, length, take, slice_index_or, true, IfOk, IfErr};
+ghost use Rattle.click_router.specs.One.{refusal_holds, holds_memory};
+
+use crate::call::{Call, Refusal, Reply};
+use crate::fault::{ConfigFault, FaultPlace};
+use click_packet::Packet;
+use click_text::sequence::Sequence;
+use std::alloc::{AllocError, Global};
+
+fn bytes_of(alloc: Global, bytes: &Sequence<u8>) -> Result<Sequence<u8>, AllocError>
+    ensures { IfOk result (λ copy. copy ≡ bytes.now) }
+{
+    Ok(Sequence::of(Vec::from_slice(alloc, bytes.as_slice())?))
+}
+
+fn packets_of(alloc: Global, packets: &Sequence<Packet>) -> Result<Sequence<Packet>, AllocError>
+    ensures { IfOk result (λ copy. copy ≡ packets.now) }
+{
+    let mut copies = Vec::with_capacity(alloc, packets.len())?;
+    for packet in packets.as_slice() {
+        copies.push(packet.copy())?;
+    }
+    Ok(Sequence::of(copies))
+}
+
+impl Call {
+    /// An equal call.
+    pub fn copy(&self, alloc: Global) -> Result<Call, AllocError>
+        ensures { IfOk result (λ copy. copy ≡ self.now) }
+    {
+        Ok(match self {
+            Call::Read { name, text } => Call::Read {
+                name: bytes_of(alloc, name)?,
+                text: bytes_of(alloc, text)?,
+            },
+            Call::Write { name, text } => Call::Write {
+                name: bytes_of(alloc, name)?,
+                text: bytes_of(alloc, text)?,
+            },
+            Call::CheckRead { name } => Call::CheckRead {
+                name: bytes_of(alloc, name)?,
+            },
+            Call::CheckWrite { name } => Call::CheckWrite {
+                name: bytes_of(alloc, name)?,
+            },
+            Call::Swap { text } => Call::Swap {
+                text: bytes_of(alloc, text)?,
+            },
+            Call::Arrive { device, packet } => Call::Arrive {
+                device: bytes_of(alloc, device)?,
+                packet: packet.copy(),
+            },
+            Call::Poll { device, taken } => Call::Poll {
+                device: bytes_of(alloc, device)?,
+                taken: packets_of(alloc, taken)?,
+            },
+            Call::Round => Call::Round,
+            Call::Transmit { device } => Call::Transmit {
+                device: bytes_of(alloc, device)?,
+            },
+        })
+    }
+}
+
+impl ConfigFault {
+    /// An equal fault.
+    pub fn copy(&self, alloc: Global) -> Result<ConfigFault, AllocError>
+        ensures { IfOk result (λ copy. copy ≡ self.now) }
+    {
+        Ok(ConfigFault {
+            kind: self.kind,
+            place: self.place.copy(alloc)?,
+        })
+    }
+}
+
+impl FaultPlace {
+    fn copy(&self, alloc: Global) -> Result<FaultPlace, AllocError>
+        ensures { IfOk result (λ copy. copy ≡ self.now) }
+    {
+        Ok(match self {
+            FaultPlace::Nowhere => FaultPlace::Nowhere,
+            FaultPlace::At { line, column } => FaultPlace::At {
+                line: *line,
+                column: *column,
+            },
+            FaultPlace::Element { name } => FaultPlace::Element {
+                name: bytes_of(alloc, name)?,
+            },
+            FaultPlace::Used { name, side, used } => FaultPlace::Used {
+                name: bytes_of(alloc, name)?,
+                side: *side,
+                used: *used,
+            },
+            FaultPlace::Port { name, side, port } => FaultPlace::Port {
+                name: bytes_of(alloc, name)?,
+                side: *side,
+                port: *port,
+            },
+        })
+    }
+}
+
+impl Refusal {
+    fn copy(&self, alloc: Global) -> Result<Refusal, AllocError>
+        ensures copy { IfOk result (λ copy. copy ≡ self.now) }
+        ensures light { IfErr result (λ _. refusal_holds self.now ≡ true) }
+    {
+        Ok(match self {
+            Refusal::NoElement => Refusal::NoElement,
+            Refusal::NoHandler => Refusal::NoHandler,
+            Refusal::WrongWay => Refusal::WrongWay,
+            Refusal::Handler(fault) => Refusal::Handler(*fault),
+            Refusal::Config(fault) => Refusal::Config(fault.copy(alloc)?),
+        })
+    }
+}
+
+impl Reply {
+    /// An equal reply. It takes memory only where the reply holds some.
+    pub fn copy(&self, alloc: Global) -> Result<Reply, AllocError>
+        ensures copy { IfOk result (λ copy. copy ≡ self.now) }
+        ensures light { IfErr result (λ _. holds_memory self.now ≡ true) }
+    {
+        Ok(match self {
+            Reply::Value(value) => Reply::Value(bytes_of(alloc, value)?),
+            Reply::Done => Reply::Done,
+            Reply::Refused(why) => Reply::Refused(why.copy(alloc)?),
+            Reply::Entered(count) => Reply::Entered(*count),
+            Reply::Worked(count) => Reply::Worked(*count),
+            Reply::Sent(Some(packet)) => Reply::Sent(Some(packet.copy())),
+            Reply::Sent(None) => Reply::Sent(None),
+            Reply::NoDevice => Reply::NoDevice,
+        })
+    }
+}

@@ -1,0 +1,6 @@
+pub mod Growing
+pub mod Workings
+pub mod Runnings
+pub mod Driving
+pub mod Gating
+pub mod Entering

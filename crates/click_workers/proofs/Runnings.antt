@@ -1,0 +1,73 @@
+-- What whole runs leave.
+use Rattle.std.proofs.Common.{◌≡◌, ◌↔◌, ℕ, ◌+◌, ◌==◌, Bool, true, false, cond, List, [], ◌∷◌, count_by, refl, sym, ap, ◌∙◌, subst, arith}
+use Rattle.std.proofs.lemmas.Bool.Decides.{nat_tests}
+use Rattle.std.specs.List.{All}
+use Rattle.std.proofs.lemmas.List.Elements.{All-head, All-tail}
+use Rattle.std.proofs.lemmas.List.Sums.{sum_by-cons}
+use Rattle.click_router.specs.Opened.{IsFirstFault}
+use Rattle.click_router.specs.declared.fault.ConfigFault.{ConfigFault}
+use Rattle.click_router.specs.declared.fault.FaultKind.TheVariants as kind
+use Rattle.click_desk.specs.Booklet.{Booklet}
+use Rattle.click_desk.specs.History.{Legal, entries, entry}
+use Rattle.click_desk.specs.Closing.{IsEntered, IsEachOnce, Closes}
+use Rattle.click_desk.specs.Sittings.{DeskName, Sitting}
+use Rattle.click_desk.specs.declared.entry.Entry.{Entry}
+use Rattle.click_desk.specs.declared.terms.Terms.{Terms}
+use Rattle.click_desk.specs.declared.open.OpenFault.{OpenFault}
+use Rattle.click_desk.specs.declared.open.OpenFault.TheVariants as told
+use Rattle.click_workers.specs.declared.runs.RunFault.{RunFault}
+use Rattle.click_workers.specs.declared.runs.RunFault.TheVariants as run
+use Rattle.click_workers.specs.Runs.{Headline, IsTrueFault, entries_of}
+
+-- what a closed desk's book says of the text that it was opened with
+pub headline-of : (text : List ℕ) (room n : ℕ) (desk : DeskName) (seats : List Sitting) (book : Booklet)
+    → desk.terms ≡ record { opening = text; room = room; seats = n } → IsEachOnce desk.terms.seats seats → Closes desk seats book → Headline text n book
+headline-of text room n desk seats book terms once closes = record {
+  opening = closes.opening ∙ ap (λ (t : Terms). t.opening) terms;
+  replayed = closes.replayed;
+  lawful = closes.lawful;
+  entered = subst (λ (l : List Sitting). All (IsEntered book.entries) l) (sym closes.seats_are) closes.entered;
+  once = subst (λ m. IsEachOnce m book.seats) (ap (λ (t : Terms). t.seats) terms)
+      (subst (λ (l : List Sitting). IsEachOnce desk.terms.seats l) (sym closes.seats_are) once);
+  numbered = subst (λ (l : List Sitting). All (λ e. count_by (λ s. s.number == e.seat) l ≡ 1) book.entries) (sym closes.seats_are) closes.numbered;
+}
+
+-- a fault that the opening told is the text's first, also as the run tells it
+pub true-fault : (text : List ℕ) (fault : OpenFault) (result : RunFault) → ((f : ConfigFault) → (result ≡ run.Config f) ↔ (fault ≡ told.Config f))
+    → ((f : ConfigFault) → fault ≡ told.Config f → IsFirstFault text f × (f.kind ≡ kind.NoMemory → ⊥)) → IsTrueFault text result
+true-fault text fault (run.Config f) same first = first f ((same f).0 refl)
+true-fault text fault run.NoMemory same first = tt
+true-fault text fault (run.Close code) same first = tt
+
+is-so : (b : Bool) (n : ℕ) → n ≡ cond b 1 0 + 0 → n ≡ 1 → b ≡ true
+is-so true n e h = refl
+is-so false n e h = absurd (omega (arith, e, h))
+
+-- an entry that bears the number of the one seat is of that seat
+borne : (s : Sitting) (at : ℕ) → count_by (λ (t : Sitting). t.number == at) (s ∷ []) ≡ 1 → at ≡ s.number
+borne s at one =
+    let same : (s.number == at) ≡ true =
+    is-so (s.number == at) (count_by (λ (t : Sitting). t.number == at) (s ∷ [])) (sum_by-cons (λ (t : Sitting). cond (t.number == at) 1 0) s []) one in
+    grind (arith, nat_tests, same)
+
+-- entries of one seat alone are its calls with its number
+own-alone : (s : Sitting) (es : List Entry) → All (λ e. count_by (λ (t : Sitting). t.number == e.seat) (s ∷ []) ≡ 1) es
+    → es ≡ entries_of s.number (entries es s.number)
+own-alone s [] all = refl
+own-alone s (e ∷ es) all =
+    let is : e.seat ≡ s.number = borne s e.seat (All-head (λ (e : Entry). count_by (λ (t : Sitting). t.number == e.seat) (s ∷ []) ≡ 1) e es all) in
+    let same : (e.seat == s.number) ≡ true = grind (arith, nat_tests) in
+    let more : entries (e ∷ es) s.number ≡ (e.call, e.reply) ∷ entries es s.number = rw same refl in
+    let head : e ≡ entry s.number e.call e.reply = ap (λ n. entry n e.call e.reply) is in
+    ap (λ (x : Entry). x ∷ es) head
+    ∙ ap (λ l. entry s.number e.call e.reply ∷ l) (own-alone s es (All-tail (λ (e : Entry). count_by (λ (t : Sitting). t.number == e.seat) (s ∷ []) ≡ 1) e es all))
+    ∙ ap (entries_of s.number) (sym more)
+
+-- of one seat the book's entries are just its calls, made one after another from the text
+pub one-seat : (text : List ℕ) (book : Booklet) (s : Sitting) → Headline text 1 book → book.seats ≡ s ∷ []
+    → (book.entries ≡ entries_of s.number s.calls) × Legal text (entries_of s.number s.calls) book.router
+one-seat text book s h is =
+    let entered = (All-head (IsEntered book.entries) s [] (subst (λ (l : List Sitting). All (IsEntered book.entries) l) is h.entered)).0 in
+    let numbered = subst (λ (l : List Sitting). All (λ e. count_by (λ s. s.number == e.seat) l ≡ 1) book.entries) is h.numbered in
+    let whole : book.entries ≡ entries_of s.number s.calls = own-alone s book.entries numbered ∙ ap (entries_of s.number) entered in
+    (whole, subst (λ (l : List Entry). Legal text l book.router) whole (subst (λ t. Legal t book.entries book.router) h.opening h.replayed))

@@ -1,0 +1,161 @@
+-- One session or driver more.
+use Rattle.std.proofs.Common.{◌≡◌, ℕ, zero, suc, ◌+◌, ◌≤◌, ◌-◌, min, Bool, List, [], ◌∷◌, ◌++◌, length, map, Option, Some, None, IfSome, MatchOption, refl, sym, ap, ◌∙◌, subst, append_assoc, append-nil, length-append, arith}
+use Rattle.std.specs.Prelude.{option_to_list}
+use Rattle.click_desk.specs.Closing.{IsEachOnce}
+use Rattle.click_desk.proofs.Books.{new_once, same_once}
+use Rattle.click_desk.specs.Sittings.{DeskName, Sitting, new_seat, seats_below}
+use Rattle.click_control.specs.Peers.{Input, Output}
+use Rattle.click_workers.specs.declared.session.SessionEnd.{SessionEnd}
+use Rattle.click_workers.specs.Work.{Attends, Attended, Drives, Drove, SideBySide, Ready, Worked, numbers_below}
+
+snoc-inj : (xs ys : List Sitting) (x y : Sitting) → xs ++ x ∷ [] ≡ ys ++ y ∷ [] → (xs ≡ ys) × (x ≡ y)
+snoc-inj [] [] x y e = (refl, cc)
+snoc-inj [] (b ∷ ys) x y e = absurd (let l : 1 ≡ length ((b ∷ ys) ++ y ∷ []) = ap length e in omega (arith, length-append (b ∷ ys) (y ∷ [])))
+snoc-inj (a ∷ xs) [] x y e = absurd (let l : length ((a ∷ xs) ++ x ∷ []) ≡ 1 = ap length e in omega (arith, length-append (a ∷ xs) (x ∷ [])))
+snoc-inj (a ∷ xs) (b ∷ ys) x y e =
+    let head : a ≡ b = cc in
+    let tail : xs ++ x ∷ [] ≡ ys ++ y ∷ [] = cc in
+    let k = snoc-inj xs ys x y tail in
+    (ap (λ z. z ∷ xs) head ∙ ap (λ l. b ∷ l) k.0, k.1)
+
+-- the last of the new seats, and those before it
+pub last-new : (desk : DeskName) (m n : ℕ) (seats front : List Sitting) (x : Sitting) → seats ≡ seats_below desk n → seats ≡ front ++ x ∷ [] → n ≡ suc m
+    → (front ≡ seats_below desk m) × (x ≡ new_seat desk m)
+last-new desk m n seats front x all cut is =
+    snoc-inj front (seats_below desk m) x (new_seat desk m) (sym cut ∙ all ∙ ap (seats_below desk) is)
+
+pairs-push : {X Y : Type 0} (R : X → Y → Type 0) (xs : List X) (ys : List Y) (x : X) (y : Y) → SideBySide R xs ys → R x y → SideBySide R (xs ++ x ∷ []) (ys ++ y ∷ [])
+pairs-push R [] [] x y h r = (r, tt)
+pairs-push R [] (b ∷ ys) x y h r = absurd h
+pairs-push R (a ∷ xs) [] x y h r = absurd h
+pairs-push R (a ∷ xs) (b ∷ ys) x y h r = (h.0, pairs-push R xs ys x y h.1 r)
+
+map-push : (xs : List Sitting) (x : Sitting) → map (λ (s : Sitting). s.number) (xs ++ x ∷ []) ≡ map (λ (s : Sitting). s.number) xs ++ x.number ∷ []
+map-push [] x = refl
+map-push (y ∷ xs) x = ap (λ l. y.number ∷ l) (map-push xs x)
+
+empty-of : (xs : List Sitting) → length xs ≡ 0 → xs ≡ []
+empty-of [] e = refl
+empty-of (x ∷ xs) e = absurd (omega arith)
+
+-- the numbers of new seats
+pub new-numbers : (desk : DeskName) (n : ℕ) → map (λ (s : Sitting). s.number) (seats_below desk n) ≡ numbers_below n
+new-numbers desk zero = refl
+new-numbers desk (suc n) = map-push (seats_below desk n) (new_seat desk n) ∙ ap (λ l. l ++ n ∷ []) (new-numbers desk n)
+
+pub seats-many : (desk : DeskName) (n : ℕ) → length (seats_below desk n) ≡ n
+seats-many desk zero = refl
+seats-many desk (suc n) = omega (arith, length-append (seats_below desk n) (new_seat desk n ∷ []), seats-many desk n)
+
+-- by the number of its seat
+pub driven-by : {G : Type 0} (gives : G → ℕ → ℕ → Bool → Type 0) (told : G → ℕ → ℕ → Type 0) (gate : G) (who rounds : ℕ) (s : Sitting) (all : Bool) → who ≡ suc s.number
+    → Drives gives told gate who rounds s all → Drove gives told gate rounds s all
+driven-by gives told gate who rounds s all is h = subst (λ w. Drives gives told gate w rounds s all) is h
+
+pub attended-by : {D Rd Wr G : Type 0} (lets_in : D → ℕ → Option (Rd × Wr) → Type 0) (input : Rd → Input) (output : Wr → Output) (gives : G → ℕ → ℕ → Bool → Type 0) (told : G → ℕ → ℕ → Type 0)
+    (door : D) (gate : G) (readonly : Bool) (who : ℕ) (seat s : Sitting) (e : SessionEnd) → who ≡ suc s.number → seat ≡ new_seat s.desk s.number
+    → Attends lets_in input output gives told door gate readonly who seat s e → Attended lets_in input output gives told door gate readonly s e
+attended-by lets_in input output gives told door gate readonly who seat s e is fresh h =
+    subst (λ w. Attends lets_in input output gives told door gate readonly w (new_seat s.desk s.number) s e) is
+    (subst (λ o. Attends lets_in input output gives told door gate readonly who o s e) fresh h)
+
+module _ (attends : Sitting → SessionEnd → Type 0) (drives : Sitting → Bool → Type 0) where
+  pub worked-none : (sessions : ℕ) → Worked attends drives sessions 0 [] [] []
+  worked-none sessions = record {
+    first = [];
+    others = [];
+    parts = refl;
+    many = refl;
+    numbers = refl;
+    first_many = omega arith;
+    attended = tt;
+    driven = tt;
+  }
+
+  pub worked-driver : (sessions m : ℕ) (seats : List Sitting) (ended : List SessionEnd) (drivers : List Bool) (s : Sitting) (all : Bool)
+      → Worked attends drives sessions m seats ended drivers → sessions ≤ m → s.number ≡ m → drives s all
+      → Worked attends drives sessions (suc m) (seats ++ s ∷ []) ended (drivers ++ all ∷ [])
+  worked-driver sessions m seats ended drivers s all w over is done = record {
+    first = w.first;
+    others = w.others ++ s ∷ [];
+    parts = ap (λ l. l ++ s ∷ []) w.parts ∙ append_assoc w.first w.others (s ∷ []);
+    many = omega (arith, length-append seats (s ∷ []), w.many);
+    numbers = map-push seats s ∙ ap (λ l. l ++ s.number ∷ []) w.numbers ∙ ap (λ k. numbers_below m ++ k ∷ []) is;
+    first_many = omega (arith, w.first_many, over);
+    attended = w.attended;
+    driven = pairs-push drives w.others drivers s all w.driven done;
+  }
+
+  pub worked-session : (sessions m : ℕ) (seats : List Sitting) (ended : List SessionEnd) (drivers : List Bool) (s : Sitting) (e : SessionEnd)
+      → Worked attends drives sessions m seats ended drivers → suc m ≤ sessions → s.number ≡ m → attends s e
+      → Worked attends drives sessions (suc m) (seats ++ s ∷ []) (ended ++ e ∷ []) drivers
+  worked-session sessions m seats ended drivers s e w under is came =
+      let none : w.others ≡ [] = empty-of w.others (omega (arith, w.many, ap length w.parts, length-append w.first w.others, w.first_many, under)) in
+      let whole : seats ≡ w.first = w.parts ∙ ap (λ l. w.first ++ l) none ∙ append-nil w.first in
+      record {
+        first = w.first ++ s ∷ [];
+        others = w.others;
+        parts = ap (λ l. l ++ s ∷ []) whole ∙ sym (append-nil (w.first ++ s ∷ [])) ∙ ap (λ l. (w.first ++ s ∷ []) ++ l) (sym none);
+        many = omega (arith, length-append seats (s ∷ []), w.many);
+        numbers = map-push seats s ∙ ap (λ l. l ++ s.number ∷ []) w.numbers ∙ ap (λ k. numbers_below m ++ k ∷ []) is;
+        first_many = omega (arith, length-append w.first (s ∷ []), w.first_many, under);
+        attended = pairs-push attends w.first ended s e w.attended came;
+        driven = w.driven;
+      }
+
+pub once-of : (desk : DeskName) (n : ℕ) (seats : List Sitting) → map (λ (s : Sitting). s.number) seats ≡ numbers_below n → IsEachOnce n seats
+once-of desk n seats h = same_once n (seats_below desk n) seats (new-numbers desk n ∙ sym h) (new_once desk n)
+
+pub ready-first : (desk : DeskName) (sessions workers len : ℕ) (seats : List Sitting) (ended : List SessionEnd) (drivers : List Bool) (e d : ℕ)
+    → seats ≡ seats_below desk (sessions + workers) → len ≡ sessions + workers → ended ≡ [] → drivers ≡ [] → e ≡ sessions → d ≡ workers
+    → Ready desk sessions len seats ended drivers e d
+ready-first desk sessions workers len seats ended drivers e d new many none_ended none_driven ended_room drivers_room = record {
+  fresh = new ∙ ap (seats_below desk) (sym many);
+  none_ended = none_ended;
+  none_driven = none_driven;
+  room_ended = omega (arith, ended_room);
+  room_driven = omega (arith, drivers_room, many);
+}
+
+-- what a pop of the new seats gives and leaves
+pub last-taken : (desk : DeskName) (n m : ℕ) (seats front : List Sitting) (r : Option Sitting) → seats ≡ seats_below desk n → seats ≡ front ++ option_to_list r
+    → MatchOption r ((n ≡ 0) × (m ≡ 0)) (λ _. m + 1 ≡ n) → IfSome r (λ s. (s ≡ new_seat desk m) × (n ≡ m + 1)) × (front ≡ seats_below desk m)
+last-taken desk n m seats front None all cut h = (tt, sym (append-nil front) ∙ sym cut ∙ all ∙ ap (seats_below desk) (h.0 ∙ sym h.1))
+last-taken desk n m seats front (Some x) all cut h =
+    let k = last-new desk m n seats front x all cut (omega arith) in
+    ((k.1, omega arith), k.0)
+
+pub ready-taken : (desk : DeskName) (sessions n m : ℕ) (seats front : List Sitting) (ended : List SessionEnd) (drivers : List Bool) (e d : ℕ)
+    → Ready desk sessions n seats ended drivers e d → m ≤ n → front ≡ seats_below desk m → Ready desk sessions m front ended drivers e d
+ready-taken desk sessions n m seats front ended drivers e d r less fresh = record {
+  fresh = fresh;
+  none_ended = r.none_ended;
+  none_driven = r.none_driven;
+  room_ended = omega (arith, r.room_ended, less);
+  room_driven = omega (arith, r.room_driven, less);
+}
+
+pairs-length : {X Y : Type 0} (R : X → Y → Type 0) (xs : List X) (ys : List Y) → SideBySide R xs ys → length xs ≡ length ys
+pairs-length R [] [] h = refl
+pairs-length R [] (y ∷ ys) h = absurd h
+pairs-length R (x ∷ xs) [] h = absurd h
+pairs-length R (x ∷ xs) (y ∷ ys) h = omega (arith, pairs-length R xs ys h.1)
+
+module _ (attends : Sitting → SessionEnd → Type 0) (drives : Sitting → Bool → Type 0) where
+  pub ended-many : (sessions n : ℕ) (seats : List Sitting) (ended : List SessionEnd) (drivers : List Bool)
+      → Worked attends drives sessions n seats ended drivers → length ended ≡ min n sessions
+  ended-many sessions n seats ended drivers w = sym (pairs-length attends w.first ended w.attended) ∙ w.first_many
+
+  pub drivers-many : (sessions n : ℕ) (seats : List Sitting) (ended : List SessionEnd) (drivers : List Bool)
+      → Worked attends drives sessions n seats ended drivers → length drivers ≡ n - sessions
+  drivers-many sessions n seats ended drivers w =
+      omega (arith, pairs-length drives w.others drivers w.driven, w.many, ap length w.parts, length-append w.first w.others, w.first_many)
+
+  pub worked-as : (sessions n n' : ℕ) (seats seats' : List Sitting) (ended ended' : List SessionEnd) (drivers drivers' : List Bool)
+      → n' ≡ n → seats' ≡ seats → ended' ≡ ended → drivers' ≡ drivers
+      → Worked attends drives sessions n seats ended drivers → Worked attends drives sessions n' seats' ended' drivers'
+  worked-as sessions n n' seats seats' ended ended' drivers drivers' a b c d w =
+      subst (λ k. Worked attends drives sessions k seats' ended' drivers') (sym a)
+      (subst (λ k. Worked attends drives sessions n k ended' drivers') (sym b)
+      (subst (λ k. Worked attends drives sessions n seats k drivers') (sym c)
+      (subst (λ k. Worked attends drives sessions n seats ended k) (sym d) w)))

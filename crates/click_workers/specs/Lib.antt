@@ -1,0 +1,4 @@
+pub mod Gates
+pub mod Seats
+pub mod Work
+pub mod Runs

@@ -1,0 +1,59 @@
+-- What whole runs leave.
+use Rattle.std.specs.Prelude.{◌≡◌, ◌==◌, count_by, ℕ, List, [], ◌∷◌, map, drop, Bool, Result}
+use Rattle.std.specs.List.{All}
+use Rattle.click_router.specs.Opened.{IsFirstFault}
+use Rattle.click_router.specs.declared.call.Call.{Call}
+use Rattle.click_router.specs.declared.call.Call.TheVariants as call
+use Rattle.click_router.specs.declared.call.Reply.{Reply}
+use Rattle.click_router.specs.declared.fault.FaultKind.TheVariants as kind
+use Rattle.click_desk.specs.Booklet.{Booklet}
+use Rattle.click_desk.specs.History.{Legal, EachLawful, installs, entry, entries}
+use Rattle.click_desk.specs.Closing.{IsEntered, IsEachOnce}
+use Rattle.click_desk.specs.Sittings.{Sitting, new_seat}
+use Rattle.click_desk.specs.declared.entry.Entry.{Entry}
+use Rattle.click_control.specs.Peers.{Input, Output}
+use Rattle.click_control.specs.Serving.{NoneRefused, most_reads}
+use Rattle.click_control.specs.declared.serving.Ended.{Ended}
+use Rattle.click_control.specs.declared.serving.ServeFault.{ServeFault}
+use Rattle.click_workers.specs.Seats.{SeatServes}
+use Rattle.click_workers.specs.declared.runs.RunFault.{RunFault}
+use Rattle.click_workers.specs.declared.runs.RunFault.TheVariants as fault
+
+-- The book is a history of one thread from this text, of so many seats: made one after another from what the text opens, its calls get just their replies and
+-- lead to its router, and every configuration that was installed is lawful. It has of each seat just the calls that the seat made, in their order and with
+-- the replies that it got, each number is that of one seat, and each entry is of one of them.
+pub record Headline (text : List ℕ) (n : ℕ) (book : Booklet) : Type 0 where
+  pub opening : book.opening ≡ text
+  pub replayed : Legal book.opening book.entries book.router
+  pub lawful : EachLawful (installs book.opening book.entries)
+  pub entered : All (IsEntered book.entries) book.seats
+  pub once : IsEachOnce n book.seats
+  pub numbered : All (λ e. count_by (λ s. s.number == e.seat) book.seats ≡ 1) book.entries
+
+-- of the seats behind those of the sessions the book has Rounds alone
+abbrev pub DriversRound : ℕ → Booklet → Type 0
+DriversRound sessions book = All (λ s. All (λ p. p.0 ≡ call.Round) (entries book.entries s.number)) (drop sessions book.seats)
+
+-- these calls and replies as the entries of one seat
+abbrev pub entries_of : ℕ → List (Call × Reply) → List Entry
+entries_of number calls = map (λ p. entry number p.0 p.1) calls
+
+-- The book has one seat, number 0, and the session was over it. What was not refused for memory or room is what one thread is answered from this text.
+pub record RanOver (text : List ℕ) (readonly : Bool) (book : Booklet) (had left : Input) (held holds : Output) (result : Result Ended ServeFault) : Type 0 where
+  pub seat : Sitting
+  pub seats : book.seats ≡ seat ∷ []
+  pub number : seat.number ≡ 0
+  pub served : SeatServes readonly most_reads NoneRefused (new_seat seat.desk 0) seat had left held holds result
+  pub alone : Legal text (entries_of 0 seat.calls) book.router
+
+-- where the configuration is said to be faulty, it is, and this is its first fault
+abbrev pub IsTrueFault : List ℕ → RunFault → Type 0
+IsTrueFault text (fault.Config f) = IsFirstFault text f × (f.kind ≡ kind.NoMemory → ⊥)
+IsTrueFault text fault.NoMemory = Unit {0}
+IsTrueFault text (fault.Close code) = Unit {0}
+
+-- the close was not refused
+abbrev pub IsNoClose : RunFault → Type 0
+IsNoClose (fault.Config f) = Unit {0}
+IsNoClose fault.NoMemory = Unit {0}
+IsNoClose (fault.Close code) = ⊥

@@ -1,0 +1,49 @@
+-- What asks and sessions do to a seat.
+use Rattle.std.specs.Prelude.{◌≡◌, ℕ, List, [], ◌∷◌, ◌++◌, Bool, Option, Some, None, Result, Ok, Err}
+use Rattle.click_router.specs.declared.call.Call.{Call}
+use Rattle.click_router.specs.declared.call.Reply.{Reply}
+use Rattle.click_desk.specs.declared.booked.DeskFault.{DeskFault}
+use Rattle.click_desk.specs.declared.booked.DeskFault.TheVariants as desk
+use Rattle.click_desk.specs.Sittings.{Sitting, Calls, IsRefused}
+use Rattle.click_control.specs.declared.port.AskFault.{AskFault}
+use Rattle.click_control.specs.declared.port.AskFault.TheVariants as ask
+use Rattle.click_control.specs.declared.command.Command.{Command}
+use Rattle.click_control.specs.declared.command.Answer.{Answer}
+use Rattle.click_control.specs.declared.command.Answer.TheVariants as answer
+use Rattle.click_control.specs.declared.serving.Ended.{Ended}
+use Rattle.click_control.specs.declared.serving.ServeFault.{ServeFault}
+use Rattle.click_control.specs.Peers.{Input, Output}
+use Rattle.click_control.specs.Serving.{call_of, Course, ServesSo}
+
+-- the seat is the one of that number at that desk, as before
+abbrev pub SameSeat : Sitting → Sitting → Type 0
+SameSeat old new = (new.desk ≡ old.desk) × (new.number ≡ old.number)
+
+abbrev pub refusal_of : AskFault → DeskFault
+refusal_of ask.NoMemory = desk.NoMemory
+refusal_of ask.HistoryFull = desk.HistoryFull
+
+-- one call of the seat: its list grows by the call and the reply, or the call was refused and the list is as it was
+abbrev pub SeatAsks : Sitting → Call → Result Reply AskFault → Sitting → Type 0
+SeatAsks old c (Ok reply) new = SameSeat old new × Calls old new c reply
+SeatAsks old c (Err f) new = SameSeat old new × IsRefused old new (refusal_of f)
+
+-- the call and the reply of an ask that was not refused
+abbrev pub made_one : Option Call → Answer → List (Call × Reply)
+made_one None a = []
+made_one (Some c) (answer.Replied r) = (c, r) ∷ []
+made_one (Some c) (answer.Failed f) = []
+made_one (Some c) answer.NoCall = []
+
+-- the calls of these commands that were not refused, with their replies
+abbrev pub made : Bool → List Command → List Answer → List (Call × Reply)
+made readonly [] answers = []
+made readonly (c ∷ cs) [] = []
+made readonly (c ∷ cs) (a ∷ answers) = made_one (call_of readonly c) a ++ made readonly cs answers
+
+-- A session over a seat: the seat's list grew by just the asks that were not refused, with their replies.
+pub record SeatServes (readonly : Bool) (most : ℕ) (went : Result Ended ServeFault → Course → Type 0) (old new : Sitting) (had left : Input) (held holds : Output)
+    (result : Result Ended ServeFault) : Type 0 where
+  pub same : SameSeat old new
+  pub serves : ServesSo SeatAsks readonly most went old new had left held holds result
+  pub calls : new.calls ≡ old.calls ++ made readonly serves.course.taken serves.course.answers

@@ -1,0 +1,84 @@
+-- What sessions and drivers did to their seats.
+use Rattle.std.specs.Prelude.{◌≡◌, ◌⊎◌, ◌↔◌, ℕ, zero, suc, ◌+◌, ◌≤◌, ◌-◌, List, [], ◌∷◌, ◌++◌, length, map, min, Bool, true, false, Option, Some, None}
+use Rattle.std.specs.List.{All}
+use Rattle.click_router.specs.declared.call.Call.TheVariants as call
+use Rattle.click_router.specs.declared.call.Reply.{Reply}
+use Rattle.click_desk.specs.declared.booked.DeskFault.{DeskFault}
+use Rattle.click_desk.specs.Sittings.{DeskName, Sitting, IsRefused, new_seat, seats_below}
+use Rattle.click_control.specs.Peers.{Input, Output}
+use Rattle.click_control.specs.Serving.{Turned, WentThrough, most_reads}
+use Rattle.click_workers.specs.Gates.{Place, place, AsksGate, TellsGate}
+use Rattle.click_workers.specs.Seats.{SeatServes}
+use Rattle.click_workers.specs.declared.session.SessionEnd.{SessionEnd}
+use Rattle.click_workers.specs.declared.session.SessionEnd.TheVariants as end
+
+-- what holds a driver of this seat back from its nth call: the gate refused the turn, or gave it and the desk refused the call
+abbrev pub IsHeldBack : {G : Type 0} → (G → ℕ → ℕ → Bool → Type 0) → G → ℕ → ℕ → Sitting → Type 0
+IsHeldBack gives gate who nth s =
+    gives gate who nth false
+    ⊎ (gives gate who nth true × ((old : Sitting) × (fault : DeskFault) × IsRefused old s fault))
+
+-- One turn of a driver: the gate gave it, the Round was made, and the gate was told; or the gate or the desk held it back, and no call was made.
+abbrev pub TakesTurn : {G : Type 0} → (G → ℕ → ℕ → Bool → Type 0) → (G → ℕ → ℕ → Type 0) → G → ℕ → ℕ → Sitting → Sitting → Bool → Type 0
+TakesTurn gives told gate who nth old new true =
+    gives gate who nth true × told gate who nth × ((reply : Reply) × (new.calls ≡ old.calls ++ (call.Round, reply) ∷ []))
+TakesTurn gives told gate who nth old new false = (new.calls ≡ old.calls) × IsHeldBack gives gate who nth new
+
+-- A driver's calls are Rounds alone, and it is true exactly where they are so many. Each went through the gate; it stops only where the gate or the desk
+-- holds it back.
+pub record Drives {G : Type 0} (gives : G → ℕ → ℕ → Bool → Type 0) (told : G → ℕ → ℕ → Type 0) (gate : G) (who rounds : ℕ) (s : Sitting) (all : Bool) : Type 0 where
+  pub rounds_alone : All (λ p. p.0 ≡ call.Round) s.calls
+  pub within : length s.calls ≤ rounds
+  pub full : (all ≡ true) ↔ (length s.calls ≡ rounds)
+  pub turned : Turned (AsksGate gives) (TellsGate told) (place gate who) (length s.calls) (place gate who)
+  pub stopped : all ≡ false → IsHeldBack gives gate who (length s.calls + 1) s
+
+-- What came of a session: the door did not let it in and it made no call, or the door let it in under its number and it was served over the seat, with its turns at
+-- the gate.
+abbrev pub Attends : {D Rd Wr G : Type 0} → (D → ℕ → Option (Rd × Wr) → Type 0) → (Rd → Input) → (Wr → Output) → (G → ℕ → ℕ → Bool → Type 0) → (G → ℕ → ℕ → Type 0)
+    → D → G → Bool → ℕ → Sitting → Sitting → SessionEnd → Type 0
+Attends lets_in input output gives told door gate readonly who old new end.NoEntry = lets_in door who None × (new ≡ old)
+Attends {D} {Rd} {Wr} {G} lets_in input output gives told door gate readonly who old new (end.Served r) =
+    (reader : Rd) × (writer : Wr) × (left : Input) × (holds : Output) × (is : Place G) × lets_in door who (Some (reader, writer))
+    × SeatServes readonly most_reads (WentThrough (AsksGate gives) (TellsGate told) (place gate who) is) old new (input reader) left (output writer) holds r
+
+-- a session is counted from 1, and had the seat of the number before it from its first call on
+abbrev pub Attended : {D Rd Wr G : Type 0} → (D → ℕ → Option (Rd × Wr) → Type 0) → (Rd → Input) → (Wr → Output) → (G → ℕ → ℕ → Bool → Type 0) → (G → ℕ → ℕ → Type 0)
+    → D → G → Bool → Sitting → SessionEnd → Type 0
+Attended lets_in input output gives told door gate readonly s e =
+    Attends lets_in input output gives told door gate readonly (suc s.number) (new_seat s.desk s.number) s e
+
+-- drivers are counted on after the sessions, and each had the seat of the number before it
+abbrev pub Drove : {G : Type 0} → (G → ℕ → ℕ → Bool → Type 0) → (G → ℕ → ℕ → Type 0) → G → ℕ → Sitting → Bool → Type 0
+Drove gives told gate rounds s all = Drives gives told gate (suc s.number) rounds s all
+
+abbrev pub SideBySide : {X Y : Type 0} → (X → Y → Type 0) → List X → List Y → Type 0
+SideBySide R [] [] = Unit {0}
+SideBySide R (x ∷ xs) (y ∷ ys) = R x y × SideBySide R xs ys
+SideBySide R [] (y ∷ ys) = ⊥
+SideBySide R (x ∷ xs) [] = ⊥
+
+-- the numbers below n, in order
+abbrev pub numbers_below : ℕ → List ℕ
+numbers_below zero = []
+numbers_below (suc n) = numbers_below n ++ n ∷ []
+
+-- The first seats are those of the sessions, the others those of the drivers, each at the place of its number; what came of each stands at its place.
+pub record Worked (attends : Sitting → SessionEnd → Type 0) (drives : Sitting → Bool → Type 0) (sessions n : ℕ) (seats : List Sitting) (ended : List SessionEnd)
+    (drivers : List Bool) : Type 0 where
+  pub first : List Sitting
+  pub others : List Sitting
+  pub parts : seats ≡ first ++ others
+  pub many : length seats ≡ n
+  pub numbers : map (λ s. s.number) seats ≡ numbers_below n
+  pub first_many : length first ≡ min n sessions
+  pub attended : SideBySide attends first ended
+  pub driven : SideBySide drives others drivers
+
+-- New seats of a desk, with room for what comes of each, and nothing yet.
+pub record Ready (desk : DeskName) (sessions n : ℕ) (seats : List Sitting) (ended : List SessionEnd) (drivers : List Bool) (ended_room drivers_room : ℕ) : Type 0 where
+  pub fresh : seats ≡ seats_below desk n
+  pub none_ended : ended ≡ []
+  pub none_driven : drivers ≡ []
+  pub room_ended : min n sessions ≤ ended_room
+  pub room_driven : n - sessions ≤ drivers_room

@@ -1,0 +1,19 @@
+//! Sessions and drivers at one desk, each in a thread of its own.
+#![tactic(auto)]
+
+mod door;
+mod driver;
+mod gate;
+pub mod laws;
+mod listening;
+mod runs;
+mod seated;
+mod session;
+mod work;
+
+pub use door::Door;
+pub use gate::{Gate, OpenGate};
+pub use listening::Listening;
+pub use runs::{AllRan, Ran, RunFault, run, run_workers};
+pub use seated::Seated;
+pub use session::{SessionEnd, serve_at};

@@ -1,0 +1,149 @@
+//! Whole runs.
+
+ghost use Rattle.std.specs.Prelude.{◌≡◌, ◌↔◌, ◌<◌, ◌≤◌, ◌+◌, IfOk, IfErr, OnErr};
+ghost use Rattle.click_workers.specs.Work.{Attended, Drove, Worked};
+ghost use Rattle.click_workers.specs.Runs.{Headline, DriversRound, RanOver, IsTrueFault, IsNoClose};
+
+use crate::door::Door;
+use crate::gate::Gate;
+use crate::session::{SessionEnd, serve_alone};
+use crate::work::{Work, work_all};
+use click_control::{Ended, ServeFault, Sink, Source};
+use click_desk::{Book, Desk, OpenFault};
+use click_router::{ConfigFault, Handlers};
+use std::alloc::Global;
+use std::sync::Wait;
+use std::thread::Threads;
+use thiserror::Error;
+
+/// How many entries a history may have.
+const ROOM: usize = 1_048_576;
+
+/// Why there is no book.
+#[derive(Debug, Drop, Error)]
+pub enum RunFault {
+    /// The configuration is faulty.
+    #[error(transparent)]
+    Config(ConfigFault),
+    #[error("out of memory")]
+    NoMemory,
+    /// The close was refused: 61 where a seat is missing, 62 where its calls are not its entries. No run answers it.
+    #[error("the close was refused ({0})")]
+    Close(u16),
+}
+
+/// What came of each session and each driver, and the book.
+#[derive(Drop)]
+pub struct AllRan<T> {
+    pub ended: Vec<SessionEnd>,
+    pub drivers: Vec<bool>,
+    pub book: Book<T>,
+}
+
+/// How a session ended, and the book.
+#[derive(Drop)]
+pub struct Ran<T> {
+    pub ended: Result<Ended, ServeFault>,
+    pub book: Book<T>,
+}
+
+/// Why no desk was opened, where it was to have one seat at least and 256 at most.
+fn fault_of(fault: OpenFault) -> RunFault
+    requires { fault ≡ OpenFault.SeatCount → ⊥ }
+    ensures config { (f : ConfigFault) → (result ≡ RunFault.Config f) ↔ (fault ≡ OpenFault.Config f) }
+    ensures never_close { IsNoClose result }
+{
+    match fault {
+        OpenFault::SeatCount => unreachable!(),
+        OpenFault::Config(fault) => RunFault::Config(fault),
+        OpenFault::NoMemory => RunFault::NoMemory,
+    }
+}
+
+/// Serves one session over a desk with one seat, and closes it.
+///
+/// The session's answers that are not refused for memory or room are those of one thread that begins with what the text opens.
+pub fn run<T: Handlers + Drop, S: Source, W: Sink, R: Wait>(
+    rt: &R,
+    alloc: Global,
+    table: T,
+    reader: &mut S,
+    writer: &mut W,
+    text: &[u8],
+    readonly: bool,
+) -> Result<Ran<T>, RunFault>
+    ensures headline { IfOk result (λ ran. Headline text.now 1 ran.book) }
+    ensures served { IfOk result (λ ran. RanOver text.now readonly ran.book (S.input reader.old) (S.input reader.new) (W.output writer.old) (W.output writer.new) ran.ended) }
+    ensures untouched { OnErr result ((S.input reader.new ≡ S.input reader.old) × (W.output writer.new ≡ W.output writer.old)) }
+    ensures config { IfErr result (IsTrueFault text.now) }
+    ensures never_close { IfErr result IsNoClose }
+{
+    let (desk, mut seats) = match Desk::open(rt, alloc, table, text, ROOM, 1) {
+        Ok(opened) => opened,
+        Err(refused) => return Err(fault_of(refused.fault)),
+    };
+    let Some(seat) = seats.pop() else {
+        unreachable!()
+    };
+    let (ended, seat) = serve_alone(rt, alloc, &desk, seat, reader, writer, readonly);
+    seats.push_reserved(seat);
+    match desk.close(rt, seats) {
+        Ok(book) => Ok(Ran { ended, book }),
+        Err(_) => unreachable!(),
+    }
+}
+
+/// Runs sessions and drivers over a desk, each in a thread of its own where one can be made, and closes the desk.
+///
+/// Sessions have the numbers from 1 on, drivers those after them, and each has the seat of the number before it.
+pub fn run_workers<T: Handlers + Send + Drop, D: Door, G: Gate, R: Threads + Wait + Sync>(
+    rt: &R,
+    alloc: Global,
+    table: T,
+    text: &[u8],
+    readonly: bool,
+    door: &D,
+    sessions: usize,
+    workers: usize,
+    rounds: u64,
+    gate: &G,
+) -> Result<AllRan<T>, RunFault>
+    requires { (0 < sessions + workers) × (sessions + workers ≤ 256) }
+    ensures headline { IfOk result (λ ran. Headline text.now (sessions + workers) ran.book) }
+    ensures worked { IfOk result (λ ran. Worked (Attended D.lets_in D.Reader.input D.Writer.output G.gives G.told door.now gate.now readonly) (Drove G.gives G.told gate.now rounds)
+        sessions (sessions + workers) ran.book.seats ran.ended.items ran.drivers.items) }
+    ensures rounds { IfOk result (λ ran. DriversRound sessions ran.book) }
+    ensures config { IfErr result (IsTrueFault text.now) }
+    ensures never_close { IfErr result IsNoClose }
+{
+    let Ok(ended) = Vec::with_capacity(alloc, sessions) else {
+        return Err(RunFault::NoMemory);
+    };
+    let Ok(drivers) = Vec::with_capacity(alloc, workers) else {
+        return Err(RunFault::NoMemory);
+    };
+    let (desk, seats) = match Desk::open(rt, alloc, table, text, ROOM, sessions + workers) {
+        Ok(opened) => opened,
+        Err(refused) => return Err(fault_of(refused.fault)),
+    };
+    let work = Work {
+        seats,
+        ended,
+        drivers,
+    };
+    let Work {
+        seats,
+        ended,
+        drivers,
+    } = work_all(
+        rt, alloc, &desk, readonly, door, gate, sessions, rounds, work,
+    );
+    match desk.close(rt, seats) {
+        Ok(book) => Ok(AllRan {
+            ended,
+            drivers,
+            book,
+        }),
+        Err(_) => unreachable!(),
+    }
+}

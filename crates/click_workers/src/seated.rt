@@ -1,0 +1,64 @@
+//! A desk and a seat of it, as a session's port.
+
+ghost use Rattle.std.specs.Prelude.{◌≡◌, MatchResult};
+
+use click_control::{AskFault, Port};
+use click_desk::{Desk, DeskFault, Seat};
+use click_router::{Call, Handlers, Reply};
+use std::alloc::Global;
+use std::marker::Model;
+use std::sync::Wait;
+
+/// A seat at the desk that it belongs to. Contracts see it as the seat.
+pub struct Seated<'a, T, R> {
+    rt: &'a R,
+    desk: &'a Desk<T>,
+    seat: Seat<T>,
+}
+
+impl<'a, T, R> Model for Seated<'a, T, R> {
+    ghost use Rattle.click_desk.specs.Sittings.{Sitting};
+
+    ghost Value = { Sitting };
+
+    ghost use Rattle.std.specs.Prelude.{◌≡◌};
+
+    ghost view = { λ p. p.seat };
+
+    ghost invariant = { λ p. p.seat.desk ≡ p.desk.now };
+}
+
+impl<'a, T, R> Seated<'a, T, R> {
+    pub fn new(rt: &'a R, desk: &'a Desk<T>, seat: Seat<T>) -> Seated<'a, T, R>
+        requires { seat.desk ≡ desk.now }
+        ensures { result ≡ seat }
+    {
+        Seated { rt, desk, seat }
+    }
+
+    /// The seat.
+    pub fn into_seat(self) -> Seat<T>
+        ensures { result ≡ self.entry }
+    {
+        let Seated {
+            rt: _,
+            desk: _,
+            seat,
+        } = self;
+        seat
+    }
+}
+
+impl<'a, T: Handlers, R: Wait> Port for Seated<'a, T, R> {
+    ghost use Rattle.click_workers.specs.Seats.{SeatAsks};
+
+    ghost asks = { SeatAsks };
+
+    fn ask(&mut self, _alloc: Global, call: Call) -> Result<Reply, AskFault> {
+        match self.desk.call(self.rt, &mut self.seat, call) {
+            Ok(reply) => Ok(reply),
+            Err(DeskFault::NoMemory) => Err(AskFault::NoMemory),
+            Err(DeskFault::HistoryFull) => Err(AskFault::HistoryFull),
+        }
+    }
+}

@@ -1,0 +1,99 @@
+//! A session over a desk and a seat.
+
+ghost use Rattle.std.specs.Prelude.{◌≡◌};
+ghost use Rattle.click_control.specs.Serving.{WentThrough, NoneRefused, most_reads};
+ghost use Rattle.click_workers.specs.Seats.{SameSeat, SeatServes};
+ghost use Rattle.click_workers.specs.Work.{Attends};
+
+use crate::door::Door;
+use crate::gate::{AtGate, Gate};
+use crate::seated::Seated;
+use click_control::{Ended, ServeFault, Sink, Source, Turns, serve, serve_turns};
+use click_desk::{Desk, Seat};
+use click_router::Handlers;
+use std::alloc::Global;
+use std::sync::Wait;
+
+/// Serves a session over a seat of the desk: the seat's list grows by just the calls that were not refused for memory or room, with their replies.
+pub fn serve_at<T: Handlers, S: Source, W: Sink, G: Turns, R: Wait>(
+    rt: &R,
+    alloc: Global,
+    desk: &Desk<T>,
+    seat: Seat<T>,
+    reader: &mut S,
+    writer: &mut W,
+    readonly: bool,
+    turns: &mut G,
+    reads: u32,
+) -> (Result<Ended, ServeFault>, Seat<T>)
+    requires { seat.desk ≡ desk.now }
+    ensures { SeatServes readonly reads (WentThrough G.turn G.done turns.old turns.new) seat result.1 (S.input reader.old) (S.input reader.new)
+        (W.output writer.old) (W.output writer.new) result.0 }
+{
+    let mut port = Seated::new(rt, desk, seat);
+    let ended = serve_turns(alloc, reader, writer, &mut port, readonly, turns, reads);
+    (ended, port.into_seat())
+}
+
+/// The same with as many reads as a session may have, and turns that are all given.
+pub(crate) fn serve_alone<T: Handlers, S: Source, W: Sink, R: Wait>(
+    rt: &R,
+    alloc: Global,
+    desk: &Desk<T>,
+    seat: Seat<T>,
+    reader: &mut S,
+    writer: &mut W,
+    readonly: bool,
+) -> (Result<Ended, ServeFault>, Seat<T>)
+    requires { seat.desk ≡ desk.now }
+    ensures { SeatServes readonly most_reads NoneRefused seat result.1 (S.input reader.old) (S.input reader.new) (W.output writer.old) (W.output writer.new) result.0 }
+{
+    let mut port = Seated::new(rt, desk, seat);
+    let ended = serve(alloc, reader, writer, &mut port, readonly);
+    (ended, port.into_seat())
+}
+
+/// What came of a session.
+#[derive(Drop)]
+pub enum SessionEnd {
+    /// It did not come in.
+    NoEntry,
+    /// It was served.
+    Served(Result<Ended, ServeFault>),
+}
+
+/// How many reads a session may have.
+const MOST_READS: u32 = 4_294_967_295;
+
+/// Lets a session in and serves it over the seat.
+pub(crate) fn attend<T: Handlers, D: Door, G: Gate, R: Wait>(
+    rt: &R,
+    alloc: Global,
+    desk: &Desk<T>,
+    seat: Seat<T>,
+    readonly: bool,
+    door: &D,
+    gate: &G,
+    who: usize,
+) -> (SessionEnd, Seat<T>)
+    requires { seat.desk ≡ desk.now }
+    ensures same { SameSeat seat result.1 }
+    ensures attends { Attends D.lets_in D.Reader.input D.Writer.output G.gives G.told door.now gate.now readonly who seat result.1 result.0 }
+{
+    let Some((mut reader, mut writer)) = door.enter(who) else {
+        return (SessionEnd::NoEntry, seat);
+    };
+    let mut turns = AtGate::new(gate, who);
+    let (ended, seat) = serve_at(
+        rt,
+        alloc,
+        desk,
+        seat,
+        &mut reader,
+        &mut writer,
+        readonly,
+        &mut turns,
+        MOST_READS,
+    );
+    (SessionEnd::Served(ended), seat)
+}

@@ -1,0 +1,135 @@
+#!/usr/bin/env bash
+# Swaps to faulty texts: those of docs/FAULTS.md, of examples/faults.txt and of the faulty configurations of examples/. Each is refused with its own
+# fault by a router that runs with packets queued, and by one under a session, which both stay as they were; then a good text takes over. Every fault has
+# to be among them but 6 TooLarge and 7 NoMemory: a text that is too large fits in no line of calls and in no payload (click_rows tries it), and want of
+# memory is no text's fault (tools/refuse.sh tries it). The programs must have been built.
+set -eu
+. "$(dirname "$(readlink -f "$0")")/checking.sh"
+is_built "$program" "$calls"
+export LC_ALL=C
+running='FromDevice(a) -> q :: Queue(2) -> ToDevice(b); FromDevice(c) -> n :: Null -> n; Idle -> s :: Switch(0) -> Discard; s [1] -> Discard;'
+good='FromDevice(a) -> q :: Queue(5) -> ToDevice(b);'
+: > "$work/seen"
+tried=0
+
+hex() { printf '%s' "$1" | od -An -v -tx1 | tr -d ' \n'; }
+
+# Calls with their replies behind ` => `: packets enter, the swap of SWAP is refused, and all is as it was; then a good text takes over.
+cat > "$work/rows" << E
+arrive a 01 => entered 1
+arrive a 02 => entered 1
+arrive a 03 => entered 1
+arrive c 00 => entered 1
+write s.switch 1 => done
+SWAP
+read config => value $(hex "$running")
+read overruns => value 31
+read s.switch => value 31
+read q.length => value 32
+read q.drops => value 31
+read q.highwater_length => value 32
+read q.capacity => value 32
+arrive a 04 => entered 1
+read q.length => value 32
+read q.drops => value 32
+swap $good => done
+read config => value $(hex "$good")
+read overruns => value 31
+read q.length => value 32
+read q.drops => value 30
+read q.highwater_length => value 32
+read q.capacity => value 35
+transmit b => sent 01 0 0.0.0.0
+transmit b => sent 02 0 0.0.0.0
+transmit b => sent none
+E
+
+# by_calls FAULT TEXT: the text, a line, is refused with the fault between calls.
+by_calls() {
+    local row
+    while IFS= read -r row; do
+        if [ "$row" = SWAP ]; then row="swap $2 => refused Config $1"; fi
+        # A text may have ` => ` in it, but no reply has.
+        printf '%s\n' "${row% => *}" >&3
+        printf '%s\n' "${row##* => }" >&4
+    done < "$work/rows" 3> "$work/sent" 4> "$work/wanted"
+    ran "$calls" -e "$running" < "$work/sent"
+    same_bytes "$work/wanted" "$work/out" "the swap to: $2"
+    is_empty "$work/err" "standard error at the swap to: $2"
+    same_status 0 "$status" "the swap to: $2"
+}
+
+# read_as HANDLER VALUE: what a session writes where the handler has the value.
+read_as() { printf "200 Read handler '%s' OK\r\nDATA %s\r\n%s" "$1" "${#2}" "$2"; }
+
+# by_session FAULT TEXT: the text is refused with the fault in a session.
+by_session() {
+    {
+        printf 'WRITE q.capacity 7\nWRITE s.switch 1\nWRITEDATA hotconfig %s\n%s' "${#2}" "$2"
+        printf 'READ config\nREAD q.capacity\nREAD s.switch\nWRITEDATA hotconfig %s\n%s' "${#good}" "$good"
+        printf 'READ config\nREAD q.capacity\nREAD s.switch\nQUIT\n'
+    } > "$work/sent"
+    {
+        printf 'Click::ControlSocket/1.3\r\n'
+        printf "200 Write handler '%s' OK\r\n" q.capacity s.switch
+        printf "520-Write handler 'hotconfig' error:\r\n520 %s\r\n" "$1"
+        read_as config "$running"
+        read_as q.capacity 7
+        read_as s.switch 1
+        printf "200 Write handler 'hotconfig' OK\r\n"
+        read_as config "$good"
+        read_as q.capacity 5
+        printf "510 No element named 's'\r\n200 Goodbye!\r\n"
+    } > "$work/wanted"
+    ran "$program" -e "$running" < "$work/sent"
+    same_bytes "$work/wanted" "$work/out" "the session that writes to hotconfig: $2"
+    is_empty "$work/err" "standard error at the session that writes to hotconfig: $2"
+    same_status 0 "$status" "the session that writes to hotconfig: $2"
+}
+
+# refuses FAULT TEXT: both refuse the text with the fault. A line of calls holds no text of several lines.
+refuses() {
+    local number name
+    read -r number name _ <<< "$1"
+    printf '%s %s\n' "$number" "$name" >> "$work/seen"
+    case "$2" in
+    *$'\n'*) several=$((several + 1)) ;;
+    *) by_calls "$1" "$2" ;;
+    esac
+    by_session "$1" "$2"
+    tried=$((tried + 1))
+}
+
+several=0
+while IFS=$'\t' read -r fault example line; do
+    case "$fault" in
+    '6 TooLarge' | '7 NoMemory') ;;
+    *) refuses "${line#click_prog: }" "$example" ;;
+    esac
+done < <(fault_rows "$top/docs/FAULTS.md")
+while IFS=$'\t' read -r fault text; do
+    refuses "$fault" "$text"
+done < "$top/examples/faults.txt"
+for file in "$top"/examples/*.fault; do
+    line=$(cat "$file")
+    refuses "${line#click_prog: }" "$(cat "${file%.fault}.click")"
+done
+if [ "$several" = 0 ]; then fail 'no faulty text of several lines was tried'; fi
+fault_kinds | grep -v -x -e '6 TooLarge' -e '7 NoMemory' > "$work/kinds"
+sort -u "$work/seen" | sort -n > "$work/numbers"
+same_bytes "$work/kinds" "$work/numbers" 'the faults that swaps were refused with'
+
+# The longest payload is no text that is too large, and one byte more is no payload.
+longest=$(printf 'Idle;%1048571s' '')
+printf 'WRITEDATA hotconfig 1048576\n%sREAD list\nREAD config\nWRITEDATA hotconfig 1048577\n%s QUIT\n' "$longest" "$longest" > "$work/sent"
+{
+    printf "Click::ControlSocket/1.3\r\n200 Write handler 'hotconfig' OK\r\n"
+    read_as list $'1\nIdle@1\n'
+    read_as config "$longest"
+    printf '500 Data too long\r\n'
+} > "$work/wanted"
+ran "$program" -e "$running" < "$work/sent"
+same_bytes "$work/wanted" "$work/out" 'a text as long as a payload can be'
+is_empty "$work/err" 'standard error at a text as long as a payload can be'
+same_status 0 "$status" 'a text as long as a payload can be'
+echo "$tried faulty texts refused by swaps, which change nothing"
