@@ -16,6 +16,7 @@ tools/readme.sh
 tools/tries.sh
 tools/control_example.sh
 tools/client.sh
+tools/sessions.sh
 examples/run.sh
 tools/language_examples.sh
 tools/fault_examples.sh

@@ -45,9 +45,24 @@ wrong_arguments -x
 wrong_arguments -e '' --readonly=1
 wrong_arguments -e '' --readonly --readonly
 wrong_arguments --help
+for words in '-p' '-p 0' '-p 65536' '-p x' '-n 0' '-n 65' '-n 1 -n 1' '-w 17' '-w -1' '--rounds 1000001' '--rounds 1.5' '--rounds'; do
+    # shellcheck disable=SC2086 # several words
+    wrong_arguments -e '' $words
+done
 wrong_arguments -e $'\xff'
 printf 'click_prog: an argument is not UTF-8\n' > "$work/wanted"
 same_bytes "$work/wanted" "$work/err" 'an argument that is no text'
+
+# The least and the most of each number. Where no port is given there is one session, and drivers beside it.
+for words in '-n 1 -w 0 --rounds 0' '-n 64 -w 16 --rounds 1' '-w 0 --rounds 1000000'; do
+    # shellcheck disable=SC2086 # several words
+    ran "$program" -e '' $words <<< QUIT
+    printf '%s\r\n' 'Click::ControlSocket/1.3' '200 Goodbye!' > "$work/wanted"
+    same_bytes "$work/wanted" "$work/out" "standard output with $words"
+    is_empty "$work/err" "standard error with $words"
+    same_status 0 "$status" "the arguments $words"
+    passed=$((passed + 1))
+done
 
 # The longest line, and one byte more: `WRITE c.reset_counts ` has 21 bytes.
 counter='Idle -> c :: Counter -> Discard;'

@@ -19,7 +19,8 @@ static int refused(void)
         left = nth ? atol(nth) : 0;
         is_known = 1;
     }
-    if (left > 0 && --left == 0) {
+    // Several threads may ask at once.
+    if (left > 0 && __atomic_sub_fetch(&left, 1, __ATOMIC_SEQ_CST) == 0) {
         // Tells the caller of the program that the request came.
         (void)!write(9, "refused\n", 8);
         return 1;

@@ -119,6 +119,34 @@ E
         in_turn "the program with $(basename "$text")" /dev/null "$work/greeting" none 3 "$work/greeting" "$program" -e "$(cat "$text")"
     done
     passed none 'while texts are prepared'
+
+    refuse_drivers
+}
+
+# The stored session with drivers beside it, each in a thread of its own: where a driver's request is refused it stops early, and the session is answered as ever.
+refuse_drivers() {
+    local nth=1 run
+    printf 'Click::ControlSocket/1.3\r\n520 Out of memory\r\n200 Goodbye!\r\n' > "$work/answer"
+    while :; do
+        run="the stored session with drivers, request $nth for memory refused"
+        if [ "$nth" -gt 5000 ]; then fail "$run: there is no end"; fi
+        : > "$work/refused"
+        LD_PRELOAD="$work/refuse.so" REFUSE=$nth ran timeout 60 "$program" "${arguments[@]}" -w 2 --rounds 3 < "$top/crates/click_prog/stdin" 9> "$work/refused"
+        is_empty "$work/err" "$run: standard error"
+        if ! [ -s "$work/refused" ]; then break; fi
+        if [ "$status" = 0 ]; then
+            if ! cmp -s "$stored" "$work/out"; then
+                same_bytes "$work/answer" "$work/out" "$run"
+                answered=$((answered + 1))
+            fi
+        else
+            same_status 3 "$status" "$run"
+            begins "$work/out" "$stored" "$run"
+        fi
+        nth=$((nth + 1)) tried=$((tried + 1))
+    done
+    is_whole "$stored" 'the stored session with drivers'
+    passed "$work/answer" 'in the stored session with drivers'
 }
 
 # swap_session REFUSED: what the session of refuse_swaps writes where the command of that number, counted from 1, has its request refused; 0 for none.

@@ -122,6 +122,42 @@ LENGTH=2 VALUE=00 PROGRAM=$work/own SECONDS_TO_WAIT=1 is_refused 'a program with
 LENGTH=1 VALUE=7 PROGRAM=$work/own SECONDS_TO_WAIT=1 is_refused 'a program with another value at once' tools/client.sh
 LENGTH=1 VALUE='' PROGRAM=$work/own SECONDS_TO_WAIT=1 is_refused 'a program with no value' tools/client.sh
 
+# Sessions over TCP. sessions_wrong CASE WHAT LINE..: the case refuses a program that is started by these lines.
+# exchanged FROM TO: lines that start it with one word for another.
+exchanged() { printf 'for word; do if [ "$word" = %s ]; then word=%s; fi; words+=("$word"); done\nexec "$program" "${words[@]}"\n' "$1" "$2"; }
+sessions_wrong() {
+    local case=$1 what=$2
+    shift 2
+    { echo '#!/bin/bash'; printf '%s\n' "program='$program'" "$@"; } > "$work/listening"
+    chmod +x "$work/listening"
+    PROGRAM=$work/listening SECONDS_TO_WAIT=3 is_refused "a program with $what" tools/sessions.sh "$case"
+}
+printf '#!/bin/bash\nexec %q "$@"\n' "$program" > "$work/listening"
+chmod +x "$work/listening"
+PROGRAM=$work/listening ran tools/sessions.sh
+same_status 0 "$status" 'tools/sessions.sh, with a program that changes nothing'
+sessions_wrong counting 'a session less' "$(exchanged 17 16)"
+sessions_wrong counting 'no drivers' "$(exchanged 4 0)"
+sessions_wrong counting 'a round less' "$(exchanged 1000 999)"
+sessions_wrong counting 'a round more' "$(exchanged 1000 1001)"
+sessions_wrong reading 'writes where it may only read' "$(exchanged --readonly --rounds=1)"
+sessions_wrong clients 'a status that is always good' '"$program" "$@"' 'exit 0'
+sessions_wrong taken 'a status that is always good' '"$program" "$@"' 'exit 0'
+sessions_wrong swapping 'junk on standard output' 'echo junk' 'exec "$program" "$@"'
+cat > "$work/alone.py" << 'E'
+"""Serves the sessions of a port one after another, each over a router of its own."""
+import socket
+import subprocess
+import sys
+
+program, words = sys.argv[1], sys.argv[2:]
+with socket.create_server(("127.0.0.1", int(words[words.index("-p") + 1]))) as listening:
+    for _ in range(int(words[words.index("-n") + 1])):
+        with listening.accept()[0] as one:
+            subprocess.run([program, "-e", words[1]], stdin=one, stdout=one)
+E
+sessions_wrong counting 'a router for each session, one after another' "exec python3 '$work/alone.py' \"\$program\" \"\$@\""
+
 # Memory.
 wrong F 'another answer where memory runs out' 'sed -i "s/^520 .*/511 No handler named '"'c.count'"'\r/" "$out"'
 wrong F 'a fault where memory runs out' 'if [ $status = 3 ]; then echo "click_prog: 16 TooMany" > "$err"; status=1; fi'

@@ -7,9 +7,11 @@
 //! - `lookup COUNT`, `classifier COUNT` make an element of that many arguments;
 //! - `engine CASE COUNT` drives a plant that many times (bench/engine);
 //! - `read ELEMENTS COUNT` reads a Counter's count that many times in a router of so many elements (bench/handlers);
+//! - `rounds COUNT` makes that many rounds of the router on standard input (bench/desk);
 //! - `make CLASS` makes an element of the class with the configuration string on standard input.
 #![tactic(auto)]
 
+mod driving;
 mod engine;
 mod expanding;
 mod making;
@@ -22,6 +24,8 @@ use click_text::{LONGEST_TEXT, parse};
 use std::alloc::{AllocError, Global};
 use std::io::Read;
 use std::process::ExitCode;
+use std::sync::Wait;
+use std::thread::Threads;
 use std::{env, io};
 
 /// What a text is made of.
@@ -130,20 +134,23 @@ fn sized(rt: &HostRuntime, word: &str, size: usize) -> io::Result<()> {
     }
 }
 
-fn run(rt: &HostRuntime) -> io::Result<()> {
+fn run<R: Threads + Wait + Sync>(threads: &R, rt: &HostRuntime) -> io::Result<()> {
     let words = env::args(rt)?.collect::<Vec<String>>(rt.alloc())?;
     if let [_, word] = words.as_slice() {
         match word.as_str() {
             "input" => return read_input(rt),
             "flat" => return expanding::input(rt),
             "router" => return preparing::input(rt),
-            "retry" => return retrying::input(rt),
+            "retry" => return retrying::input(threads, rt),
             _ => {}
         }
     }
     if let [_, kind, size] = words.as_slice() {
         if kind.as_str() == "make" {
             return making::one(rt, size.as_str());
+        }
+        if kind.as_str() == "rounds" {
+            return driving::input(threads, rt, size.parse::<usize>().unwrap_or(0));
         }
         if let Ok(size) = size.parse::<usize>() {
             return sized(rt, kind.as_str(), size);
@@ -155,7 +162,7 @@ fn run(rt: &HostRuntime) -> io::Result<()> {
         }
         if word.as_str() == "read" {
             let elements = case.parse::<usize>().unwrap_or(0);
-            return reading::run(rt, elements, count.parse::<usize>().unwrap_or(0));
+            return reading::run(threads, rt, elements, count.parse::<usize>().unwrap_or(0));
         }
     }
     for kind in KINDS {
@@ -166,7 +173,7 @@ fn run(rt: &HostRuntime) -> io::Result<()> {
 }
 
 fn main(rt: HostRuntime) -> ExitCode {
-    match run(&rt) {
+    match run(&rt, &rt) {
         Ok(()) => ExitCode::SUCCESS,
         Err(_) => ExitCode::FAILURE,
     }

@@ -5,6 +5,8 @@ use click_router::{Call, Handlers, Reply, Router, prepare};
 use click_text::sequence::Sequence;
 use std::alloc::{AllocError, Global};
 use std::io;
+use std::sync::Wait;
+use std::thread::Threads;
 
 /// The text of a router with a Counter `c` and about that many elements.
 fn text_of(alloc: Global, elements: usize) -> Result<Vec<u8>, AllocError> {
@@ -46,13 +48,18 @@ fn bytes_read<T: Handlers + Drop>(table: T, reads: &Reads<'_>) -> Result<usize, 
 impl<'a> TakesTable for Reads<'a> {
     type Out = Result<usize, AllocError>;
 
-    fn take(self, table: Table) -> Result<usize, AllocError> {
+    fn take<R: Threads + Wait + Sync>(self, _rt: &R, table: Table) -> Result<usize, AllocError> {
         bytes_read(table, &self)
     }
 }
 
 /// Reads `c.count` in a router of about that many elements so many times, and tells how many bytes were read.
-pub fn run(rt: &HostRuntime, elements: usize, times: usize) -> io::Result<()> {
+pub fn run<R: Threads + Wait + Sync>(
+    threads: &R,
+    rt: &HostRuntime,
+    elements: usize,
+    times: usize,
+) -> io::Result<()> {
     let alloc = rt.alloc();
     let text = text_of(alloc, elements)?;
     let reads = Reads {
@@ -60,6 +67,6 @@ pub fn run(rt: &HostRuntime, elements: usize, times: usize) -> io::Result<()> {
         text: text.as_slice(),
         times,
     };
-    let bytes = with_table(alloc, reads)??;
+    let bytes = with_table(threads, alloc, reads)??;
     println!(rt; "{bytes}")
 }

@@ -5,7 +5,9 @@ use click_packet::Packet;
 use click_router::{Call, Handlers, Reply, Router, StepFault, prepare};
 use click_text::sequence::Sequence;
 use std::alloc::{AllocError, Global};
-use std::io::{self, ErrorKind, Read};
+use std::io::{self, Read};
+use std::sync::Wait;
+use std::thread::Threads;
 
 /// What runs before the swap.
 const RUNNING: &[u8] = b"FromDevice(a) -> q :: Queue(3) -> ToDevice(b);";
@@ -16,71 +18,110 @@ const ENTERING: [u8; 5] = [1, 2, 3, 4, 5];
 /// What is read after each swap.
 const READ: [&[u8]; 4] = [b"q.length", b"q.drops", b"q.highwater_length", b"config"];
 
-/// The text that is to take over.
+/// The swap that is tried.
 #[derive(Drop)]
 struct Retry<'a> {
     alloc: Global,
-    next: &'a [u8],
+    call: &'a Call,
 }
 
 fn kept(alloc: Global, bytes: &[u8]) -> Result<Sequence<u8>, AllocError> {
     Ok(Sequence::of(Vec::from_slice(alloc, bytes)?))
 }
 
+/// What a call is answered.
+fn answer<T: Handlers>(
+    router: &mut Router<T>,
+    alloc: Global,
+    call: &Call,
+) -> Result<Reply, AllocError> {
+    match router.step(alloc, call) {
+        Ok(reply) => Ok(reply),
+        Err(StepFault::NoMemory) => Err(AllocError),
+    }
+}
+
+/// A packet of one byte enters.
+fn enter<T: Handlers>(router: &mut Router<T>, alloc: Global, byte: u8) -> Result<(), AllocError> {
+    let call = Call::Arrive {
+        device: kept(alloc, b"a")?,
+        packet: Packet::of(&[byte]).unwrap_or(Packet::empty()),
+    };
+    match answer(router, alloc, &call) {
+        Ok(_) => Ok(()),
+        Err(error) => Err(error),
+    }
+}
+
 /// Packets of one byte enter.
-fn fill<T: Handlers>(router: &mut Router<T>, alloc: Global) -> io::Result<()> {
+fn fill<T: Handlers>(router: &mut Router<T>, alloc: Global) -> Result<(), AllocError> {
     for byte in ENTERING {
-        let packet = Packet::of(&[byte]).unwrap_or(Packet::empty());
-        let device = kept(alloc, b"a")?;
-        if router
-            .step(alloc, &Call::Arrive { device, packet })
-            .is_err()
-        {
-            return Err(io::Error::from(ErrorKind::OutOfMemory));
-        }
+        enter(router, alloc, byte)?;
     }
     Ok(())
 }
 
-/// Adds a line with what is read by that name.
-fn tell<T: Handlers>(
-    said: &mut String,
+/// What is read by that name.
+fn read<T: Handlers>(
     router: &mut Router<T>,
     alloc: Global,
     name: &[u8],
-) -> io::Result<()> {
-    let name = kept(alloc, name)?;
-    let text = Sequence::new(alloc);
-    let reply = router.step(alloc, &Call::Read { name, text });
-    let Ok(reply) = reply else {
-        return Err(io::Error::from(ErrorKind::OutOfMemory));
+) -> Result<Reply, AllocError> {
+    let call = Call::Read {
+        name: kept(alloc, name)?,
+        text: Sequence::new(alloc),
     };
+    answer(router, alloc, &call)
+}
+
+/// Adds a line with a value; an empty one for another reply.
+fn add_line(said: &mut String, reply: &Reply) -> Result<(), AllocError> {
     if let Reply::Value(value) = reply {
         for byte in value.as_slice() {
             said.push(char::from(*byte))?;
         }
     }
-    said.push('\n')?;
+    said.push('\n')
+}
+
+/// Adds what is read by each name.
+fn tell<T: Handlers>(
+    said: &mut String,
+    router: &mut Router<T>,
+    alloc: Global,
+) -> Result<(), AllocError> {
+    for name in READ {
+        let reply = read(router, alloc, name)?;
+        add_line(said, &reply)?;
+    }
     Ok(())
 }
 
-/// Swaps, and adds what came of it and what stands then. Whether there was memory for it.
-fn swap<T: Handlers>(
+/// Swaps. What came of it, in a line; and whether there was memory for it.
+fn swap<T: Handlers>(router: &mut Router<T>, alloc: Global, call: &Call) -> (&'static str, bool) {
+    match router.step(alloc, call) {
+        Ok(Reply::Done) => ("done\n", true),
+        Ok(_) => ("refused\n", true),
+        Err(StepFault::NoMemory) => ("out of memory\n", false),
+    }
+}
+
+/// Swaps, and again where memory was refused, and adds what came of each swap and what stood then.
+fn swap_and_tell<T: Handlers>(
     said: &mut String,
     router: &mut Router<T>,
     alloc: Global,
     call: &Call,
-) -> io::Result<bool> {
-    let reply = router.step(alloc, call);
-    said.push_str(match reply {
-        Ok(Reply::Done) => "done\n",
-        Ok(_) => "refused\n",
-        Err(StepFault::NoMemory) => "out of memory\n",
-    })?;
-    for name in READ {
-        tell(said, router, alloc, name)?;
+) -> Result<(), AllocError> {
+    for _ in 0..2 {
+        let (came, good) = swap(router, alloc, call);
+        said.push_str(came)?;
+        tell(said, router, alloc)?;
+        if good {
+            return Ok(());
+        }
     }
-    Ok(reply.is_ok())
+    Ok(())
 }
 
 /// The line of a packet that left; nothing where none did.
@@ -91,58 +132,78 @@ fn line_of(alloc: Global, reply: &Reply) -> Result<String, AllocError> {
     }
 }
 
+/// The line of the packet that leaves, if one does.
+fn leave<T: Handlers>(
+    router: &mut Router<T>,
+    alloc: Global,
+    call: &Call,
+) -> Result<String, AllocError> {
+    let reply = answer(router, alloc, call)?;
+    line_of(alloc, &reply)
+}
+
 /// Adds a line for each packet that leaves.
-fn empty<T: Handlers>(said: &mut String, router: &mut Router<T>, alloc: Global) -> io::Result<()> {
+fn empty<T: Handlers>(
+    said: &mut String,
+    router: &mut Router<T>,
+    alloc: Global,
+) -> Result<(), AllocError> {
     let call = Call::Transmit {
         device: kept(alloc, b"b")?,
     };
     for _ in ENTERING {
-        let Ok(reply) = router.step(alloc, &call) else {
-            return Ok(());
-        };
-        let line = line_of(alloc, &reply)?;
+        let line = leave(router, alloc, &call)?;
         said.push_str(line.as_str())?;
     }
     Ok(())
 }
 
 /// What came of the swap, and of the second one where there was one.
-fn told<T: Handlers + Drop>(table: T, retry: &Retry<'_>) -> io::Result<String> {
+fn tell_all<T: Handlers>(
+    said: &mut String,
+    router: &mut Router<T>,
+    alloc: Global,
+    call: &Call,
+) -> Result<(), AllocError> {
+    fill(router, alloc)?;
+    swap_and_tell(said, router, alloc, call)?;
+    empty(said, router, alloc)
+}
+
+/// The same, with the router that it needs.
+fn told<T: Handlers + Drop>(table: T, retry: &Retry<'_>) -> Result<String, AllocError> {
     let alloc = retry.alloc;
-    let Ok(prepared) = prepare(alloc, RUNNING) else {
-        return Err(io::Error::from(ErrorKind::OutOfMemory));
-    };
-    let mut router = Router::open(table, prepared);
-    fill(&mut router, alloc)?;
-    let call = Call::Swap {
-        text: kept(alloc, retry.next)?,
-    };
     let mut said = String::new(alloc);
-    if !swap(&mut said, &mut router, alloc, &call)? {
-        swap(&mut said, &mut router, alloc, &call)?;
+    match prepare(alloc, RUNNING) {
+        Ok(prepared) => tell_all(
+            &mut said,
+            &mut Router::open(table, prepared),
+            alloc,
+            retry.call,
+        )?,
+        Err(_) => return Err(AllocError),
     }
-    empty(&mut said, &mut router, alloc)?;
     Ok(said)
 }
 
 impl<'a> TakesTable for Retry<'a> {
-    type Out = io::Result<String>;
+    type Out = Result<String, AllocError>;
 
-    fn take(self, table: Table) -> io::Result<String> {
+    fn take<R: Threads + Wait + Sync>(self, _rt: &R, table: Table) -> Result<String, AllocError> {
         told(table, &self)
     }
 }
 
 /// Swaps a router that holds packets to the text on standard input, and again where memory was refused; tells what each swap answered and what stood then,
 /// and which packets leave at last.
-pub fn input(rt: &HostRuntime) -> io::Result<()> {
+pub fn input<R: Threads + Wait + Sync>(threads: &R, rt: &HostRuntime) -> io::Result<()> {
     let alloc = rt.alloc();
     let mut text = Vec::new(alloc);
     rt.stdin().read_to_end(&mut text)?;
-    let retry = Retry {
-        alloc,
-        next: text.as_slice(),
+    let call = Call::Swap {
+        text: Sequence::of(text),
     };
-    let said = with_table(alloc, retry)??;
+    let retry = Retry { alloc, call: &call };
+    let said = with_table(threads, alloc, retry)??;
     print!(rt; "{said}")
 }

@@ -17,6 +17,8 @@ use click_handlers::{Table, TakesTable, with_table};
 use click_router::{ConfigFault, FaultKind, Handlers, Router, prepare};
 use std::io::{BufReader, Write};
 use std::process::ExitCode;
+use std::sync::Wait;
+use std::thread::Threads;
 use std::{env, io};
 
 /// How the program ends, for its caller.
@@ -46,11 +48,11 @@ impl Status {
 }
 
 fn main(rt: HostRuntime) -> ExitCode {
-    ExitCode::from(program(&rt).code())
+    ExitCode::from(program(&rt, &rt).code())
 }
 
 /// Reads the command line and answers the calls on standard input.
-fn program(rt: &HostRuntime) -> Status {
+fn program<R: Threads + Wait + Sync>(threads: &R, rt: &HostRuntime) -> Status {
     let alloc = rt.alloc();
     let words = match env::args(rt) {
         Ok(words) => words,
@@ -62,7 +64,7 @@ fn program(rt: &HostRuntime) -> Status {
     match configuration(alloc, words.as_slice()) {
         Ok(text) => {
             let bytes = text.unwrap().as_bytes();
-            match with_table(alloc, Answers { rt, text: bytes }) {
+            match with_table(threads, alloc, Answers { rt, text: bytes }) {
                 Ok(status) => status,
                 Err(_) => Status::NoMemory,
             }
@@ -98,7 +100,7 @@ struct Answers<'a> {
 impl<'a> TakesTable for Answers<'a> {
     type Out = Status;
 
-    fn take(self, table: Table) -> Status {
+    fn take<R: Threads + Wait + Sync>(self, _rt: &R, table: Table) -> Status {
         calls(self.rt, table, self.text)
     }
 }

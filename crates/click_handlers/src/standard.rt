@@ -17,23 +17,33 @@ use crate::written::Written;
 use click_classes::Class;
 use click_engine::Element;
 use std::alloc::{AllocError, Global};
-use std::sync::Arc;
 use std::sync::atomic::{AtomicU64, Ordering};
+use std::sync::{Arc, Wait};
+use std::thread::Threads;
 
-/// Goes on with the table of all handlers. What holds a table in its type cannot be named where a table is made, so the table is handed down.
+/// Goes on with the table of all handlers. What holds a table in its type cannot be named where a table is made, so the table is handed down, and with it
+/// the runtime, by which it may be shared among threads.
 pub trait TakesTable {
+    ghost use Rattle.std.specs.Thread.{IsSync};
+
     type Out;
 
-    fn take(self, table: Table) -> Self::Out;
+    fn take<R: Threads + Wait + Sync>(self, rt: &R, table: Table) -> Self::Out
+        requires { IsSync R.row };
 }
 
 /// Makes the table of all handlers, and hands it to `then`.
-pub fn with_table<U: TakesTable + Drop>(alloc: Global, then: U) -> Result<U::Out, AllocError> {
-    with_counted_table(alloc, None, then)
+pub fn with_table<R: Threads + Wait + Sync, U: TakesTable + Drop>(
+    rt: &R,
+    alloc: Global,
+    then: U,
+) -> Result<U::Out, AllocError> {
+    with_counted_table(rt, alloc, None, then)
 }
 
 /// The same. Where there is a number, it grows by one whenever the row of a Counter's `count` is asked, which shows that whoever has the table asks its rows.
-pub fn with_counted_table<U: TakesTable + Drop>(
+pub fn with_counted_table<R: Threads + Wait + Sync, U: TakesTable + Drop>(
+    rt: &R,
     alloc: Global,
     asked: Option<Arc<AtomicU64>>,
     then: U,
@@ -266,5 +276,5 @@ pub fn with_counted_table<U: TakesTable + Drop>(
         b"reset",
         Box::new(alloc, plain::reset_source)?,
     )?;
-    Ok(then.take(Table::of_all(reads, writes)))
+    Ok(then.take(rt, Table::of_all(reads, writes)))
 }

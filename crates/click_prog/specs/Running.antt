@@ -1,24 +1,71 @@
--- A run: a session over the router of a text.
-use Rattle.std.specs.Prelude.{◌≡◌, ℕ, List, Bool, Result, Ok, Err}
-use Rattle.click_router.specs.State.{RouterState}
-use Rattle.click_router.specs.Opened.{IsOpened, IsFirstFault, IsMemoryOr}
-use Rattle.click_control.specs.Alone.{Steps}
+-- A run over one seat, and its status.
+use Rattle.std.specs.Prelude.{◌≡◌, ◌⊎◌, ℕ, ◌+◌, List, Bool, Option, false, Result}
 use Rattle.click_control.specs.Peers.{Input, Output}
-use Rattle.click_control.specs.Serving.{Serves}
 use Rattle.click_control.specs.declared.serving.Ended.{Ended}
 use Rattle.click_control.specs.declared.serving.ServeFault.{ServeFault}
-use Rattle.click_prog.specs.declared.run.RunFault.{RunFault}
-use Rattle.click_prog.specs.declared.run.RunFault.TheVariants as fault
+use Rattle.click_desk.specs.Booklet.{Booklet}
+use Rattle.click_workers.specs.Runs.{Headline, RanOver, IsTrueFault, IsNoClose}
+use Rattle.click_workers.specs.Work.{Attended, Drove, Worked}
+use Rattle.click_workers.specs.declared.session.SessionEnd.{SessionEnd}
+use Rattle.click_workers.specs.declared.runs.RunFault.{RunFault}
+use Rattle.click_prog.specs.Statuses.{end_status, fault_status, sessions_status}
+use Rattle.click_prog.specs.declared.status.Status.{Status}
 
--- The session over the router that the text opens, which may be one that only reads: it goes by one call after another from the opened state to another one.
-pub record RunsOver (text : List ℕ) (readonly : Bool) (had left : Input) (held holds : Output) (result : Result Ended ServeFault) : Type 0 where
-  pub opening : RouterState
-  pub opened : IsOpened text opening
-  pub closing : RouterState
-  pub served : Serves Steps readonly opening closing had left held holds result
+-- How many sessions and drivers there are, how many rounds each driver makes, and whether sessions may only read.
+pub record Planned : Type 0 where
+  pub sessions : ℕ
+  pub workers : ℕ
+  pub rounds : ℕ
+  pub readonly : Bool
 
--- A run ends as the session over the router of its text does. Where the text has a fault, that is the answer, and nothing was read or written.
-abbrev pub Runs : List ℕ → Bool → Input → Input → Output → Output → Result Ended RunFault → Type 0
-Runs text readonly had left held holds (Ok ended) = RunsOver text readonly had left held holds (Ok ended)
-Runs text readonly had left held holds (Err (fault.Serve f)) = RunsOver text readonly had left held holds (Err f)
-Runs text readonly had left held holds (Err (fault.Config f)) = IsMemoryOr f (IsFirstFault text f) × (left ≡ had) × (holds ≡ held)
+-- The session was over the one seat of a desk of this text, the desk's book is a history of one thread, and the status is that of the session's end.
+pub record HasRun (text : List ℕ) (readonly : Bool) (had left : Input) (held holds : Output) (s : Status) : Type 0 where
+  pub book : Booklet
+  pub headline : Headline text 1 book
+  pub ended : Result Ended ServeFault
+  pub ran : RanOver text readonly book had left held holds ended
+  pub is : s ≡ end_status ended
+
+-- Sessions and drivers were at one desk of this text, each with a seat of its own, at a gate that they share; the desk's book is a history of one thread, and
+-- the status is that of the sessions' ends.
+pub record HaveRun {D Rd Wr G : Type 0} (lets_in : D → ℕ → Option (Rd × Wr) → Type 0) (input : Rd → Input) (output : Wr → Output) (gives : G → ℕ → ℕ → Bool → Type 0)
+    (told : G → ℕ → ℕ → Type 0) (door : D) (readonly : Bool) (text : List ℕ) (sessions workers rounds : ℕ) (s : Status) : Type 0 where
+  pub gate : G
+  pub book : Booklet
+  pub headline : Headline text (sessions + workers) book
+  pub ended : List SessionEnd
+  pub drivers : List Bool
+  pub worked : Worked (Attended lets_in input output gives told door gate readonly) (Drove gives told gate rounds) sessions (sessions + workers) book.seats ended drivers
+  pub is : s ≡ sessions_status ended
+
+-- There was no desk, and the status is that of the fault.
+pub record HaveNotRun (text : List ℕ) (s : Status) : Type 0 where
+  pub fault : RunFault
+  pub true_fault : IsTrueFault text fault
+  pub no_close : IsNoClose fault
+  pub is : s ≡ fault_status fault
+
+abbrev pub AllRunTo : {D Rd Wr G : Type 0} → (D → ℕ → Option (Rd × Wr) → Type 0) → (Rd → Input) → (Wr → Output) → (G → ℕ → ℕ → Bool → Type 0) → (G → ℕ → ℕ → Type 0)
+    → D → Bool → List ℕ → ℕ → ℕ → ℕ → Status → Type 0
+AllRunTo lets_in input output gives told door readonly text sessions workers rounds s =
+    HaveRun lets_in input output gives told door readonly text sessions workers rounds s ⊎ HaveNotRun text s
+
+-- There was no session: nothing was read or written, and the status is that of the fault.
+pub record HasNotRun (text : List ℕ) (had left : Input) (held holds : Output) (s : Status) : Type 0 where
+  pub fault : RunFault
+  pub true_fault : IsTrueFault text fault
+  pub no_close : IsNoClose fault
+  pub unread : left ≡ had
+  pub unwritten : holds ≡ held
+  pub is : s ≡ fault_status fault
+
+-- A run over the text with this reader and this writer, each before and after it, and its status.
+abbrev pub RunsTo : List ℕ → Bool → Input → Input → Output → Output → Status → Type 0
+RunsTo text readonly had left held holds s = HasRun text readonly had left held holds s ⊎ HasNotRun text had left held holds s
+
+-- A reader that has neither read nor failed, and a writer that has not failed, with these bytes.
+abbrev pub fresh_input : Option (List ℕ) → Input
+fresh_input bytes = record { remaining = bytes; failed = false; reads = 0 }
+
+abbrev pub fresh_output : Option (List ℕ) → Output
+fresh_output bytes = record { contents = bytes; failed = false }

@@ -1,19 +1,20 @@
 -- How the program ends.
-use Rattle.std.specs.Prelude.{◌≡◌, ℕ, List, Bool, Option, false, Result, Ok, Err}
+use Rattle.std.specs.Prelude.{◌≡◌, ℕ, List, Bool, Option, true, false, Result, Ok, Err, if◌then◌else◌}
+use Rattle.std.specs.List.{list_any}
 use Rattle.std.specs.declared.io.ErrorKind.{ErrorKind}
 use Rattle.std.specs.declared.io.ErrorKind.TheVariants as io
 use Rattle.click_router.specs.declared.fault.FaultKind.{FaultKind}
 use Rattle.click_router.specs.declared.fault.FaultKind.TheVariants as kind
-use Rattle.click_control.specs.Peers.{Input, Output}
 use Rattle.click_control.specs.declared.serving.Ended.{Ended}
 use Rattle.click_control.specs.declared.serving.Ended.TheVariants as ended
 use Rattle.click_control.specs.declared.serving.ServeFault.{ServeFault}
 use Rattle.click_control.specs.declared.serving.ServeFault.TheVariants as serve
-use Rattle.click_prog.specs.declared.Status.{Status}
-use Rattle.click_prog.specs.declared.Status.TheVariants as status
-use Rattle.click_prog.specs.declared.run.RunFault.{RunFault}
-use Rattle.click_prog.specs.declared.run.RunFault.TheVariants as fault
-use Rattle.click_prog.specs.Running.{Runs}
+use Rattle.click_workers.specs.declared.runs.RunFault.{RunFault}
+use Rattle.click_workers.specs.declared.runs.RunFault.TheVariants as fault
+use Rattle.click_workers.specs.declared.session.SessionEnd.{SessionEnd}
+use Rattle.click_workers.specs.declared.session.SessionEnd.TheVariants as end
+use Rattle.click_prog.specs.declared.status.Status.{Status}
+use Rattle.click_prog.specs.declared.status.Status.TheVariants as status
 
 -- the number that the program's caller sees
 abbrev pub code : Status → ℕ
@@ -21,7 +22,7 @@ code status.Good = 0
 code status.FaultyConfiguration = 1
 code status.WrongArguments = 2
 code status.NoMemory = 3
-code status.GateClosed = 3
+code status.Refused = 3
 code status.DeviceFailed = 4
 
 -- by the fault of a configuration
@@ -36,32 +37,46 @@ serve_status serve.ReadFailed = status.DeviceFailed
 serve_status serve.WriteFailed = status.DeviceFailed
 
 -- by the end of a session
-abbrev pub end_status : Ended → Status
-end_status ended.Quit = status.Good
-end_status ended.EndOfInput = status.Good
-end_status ended.TooLong = status.Good
-end_status ended.GateClosed = status.GateClosed
+abbrev pub end_status : Result Ended ServeFault → Status
+end_status (Ok ended.Quit) = status.Good
+end_status (Ok ended.EndOfInput) = status.Good
+end_status (Ok ended.TooLong) = status.Good
+end_status (Ok ended.GateClosed) = status.Refused
+end_status (Err f) = serve_status f
 
--- by a run
-abbrev pub status_of : Result Ended RunFault → Status
-status_of (Ok e) = end_status e
-status_of (Err (fault.Config f)) = config_status f.kind
-status_of (Err (fault.Serve f)) = serve_status f
+-- where a run has no book
+abbrev pub fault_status : RunFault → Status
+fault_status (fault.Config f) = config_status f.kind
+fault_status fault.NoMemory = status.NoMemory
+fault_status (fault.Close number) = status.Refused
+
+-- by one of several sessions; one that could not come in is as one whose device failed
+abbrev pub session_status : SessionEnd → Status
+session_status end.NoEntry = status.DeviceFailed
+session_status (end.Served r) = end_status r
+
+-- whether a session has the status
+abbrev pub is_memory : Status → Bool
+is_memory status.NoMemory = true
+is_memory _ = false
+
+abbrev pub is_refused : Status → Bool
+is_refused status.Refused = true
+is_refused _ = false
+
+abbrev pub is_device : Status → Bool
+is_device status.DeviceFailed = true
+is_device _ = false
+
+-- By several sessions: the first of these that one of them has.
+abbrev pub sessions_status : List SessionEnd → Status
+sessions_status ends =
+    if list_any (λ e. is_memory (session_status e)) ends then status.NoMemory
+    else if list_any (λ e. is_refused (session_status e)) ends then status.Refused
+    else if list_any (λ e. is_device (session_status e)) ends then status.DeviceFailed
+    else status.Good
 
 -- where the words of the command line cannot be read
 abbrev pub unread_status : ErrorKind → Status
 unread_status io.OutOfMemory = status.NoMemory
 unread_status _ = status.WrongArguments
-
--- A run over the text with this reader and this writer, each before and after it, and its status.
-pub record RunsTo (text : List ℕ) (readonly : Bool) (had left : Input) (held holds : Output) (s : Status) : Type 0 where
-  pub result : Result Ended RunFault
-  pub runs : Runs text readonly had left held holds result
-  pub is : s ≡ status_of result
-
--- A reader that has neither read nor failed, and a writer that has not failed, with these bytes.
-abbrev pub fresh_input : Option (List ℕ) → Input
-fresh_input bytes = record { remaining = bytes; failed = false; reads = 0 }
-
-abbrev pub fresh_output : Option (List ℕ) → Output
-fresh_output bytes = record { contents = bytes; failed = false }

@@ -6,6 +6,7 @@ use click_router::{FaultKind, Handlers};
 use std::alloc::Global;
 use std::sync::Wait;
 use std::test::Fail;
+use std::thread::Threads;
 
 const SWITCH: &[u8] = b"Idle -> s :: Switch(0) -> Discard; s [1] -> Discard;";
 
@@ -42,16 +43,15 @@ fn counted<T: Drop>(refused: OpenRefused<T>) -> Result<T, &'static str> {
 }
 
 #[derive(Drop)]
-struct Refused<'a, R> {
-    rt: &'a R,
+struct Refused {
     alloc: Global,
 }
 
-impl<'a, R: Wait> TakesTable for Refused<'a, R> {
+impl TakesTable for Refused {
     type Out = Result<(), &'static str>;
 
-    fn take(self, table: Table) -> Result<(), &'static str> {
-        let _table = refusals(self.rt, self.alloc, table)?;
+    fn take<R: Threads + Wait + Sync>(self, rt: &R, table: Table) -> Result<(), &'static str> {
+        let _table = refusals(rt, self.alloc, table)?;
         Ok(())
     }
 }
@@ -59,8 +59,8 @@ impl<'a, R: Wait> TakesTable for Refused<'a, R> {
 #[test]
 fn opens_are_refused(rt: HostRuntime) -> Result<(), Fail> {
     let alloc = rt.alloc();
-    let refused = Refused { rt: &rt, alloc };
-    if let Err(why) = with_table(alloc, refused)? {
+    let refused = Refused { alloc };
+    if let Err(why) = with_table(&rt, alloc, refused)? {
         return Err(why.into());
     }
     Ok(())

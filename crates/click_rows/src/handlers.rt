@@ -5,9 +5,10 @@ use click_packet::Packet;
 use click_router::{Call, Handlers, Refusal, Reply, Router, prepare};
 use click_text::sequence::Sequence;
 use std::alloc::{AllocError, Global};
-use std::sync::Arc;
 use std::sync::atomic::{AtomicU64, Ordering};
+use std::sync::{Arc, Wait};
 use std::test::Fail;
+use std::thread::Threads;
 
 /// What is asked of a router, and what it has to answer.
 #[derive(Clone, Copy)]
@@ -97,7 +98,7 @@ fn answered<T: Handlers + Drop>(table: T, asks: &Asks<'_>) -> Result<usize, Allo
 impl<'a> TakesTable for Asks<'a> {
     type Out = Result<usize, AllocError>;
 
-    fn take(self, table: Table) -> Result<usize, AllocError> {
+    fn take<R: Threads + Wait + Sync>(self, _rt: &R, table: Table) -> Result<usize, AllocError> {
         answered(table, &self)
     }
 }
@@ -123,7 +124,7 @@ fn handlers_answer(rt: HostRuntime) -> Result<(), Fail> {
         text,
         rows: &queue,
     };
-    assert!(&rt; matches!(with_table(alloc, queue)?, Ok(9)));
+    assert!(&rt; matches!(with_table(&rt, alloc, queue)?, Ok(9)));
     // A Suppressor's port that is turned off, and one that it does not have.
     let suppressor: [Row<'_>; 5] = [
         Row::Write(b"s.active1", b"false", Wanted::Done),
@@ -139,7 +140,7 @@ fn handlers_answer(rt: HostRuntime) -> Result<(), Fail> {
         text,
         rows: &suppressor,
     };
-    assert!(&rt; matches!(with_table(alloc, suppressor)?, Ok(5)));
+    assert!(&rt; matches!(with_table(&rt, alloc, suppressor)?, Ok(5)));
     // The longest prefix of an address, with its gateway.
     let lookup: [Row<'_>; 4] = [
         Row::Read(b"rt.lookup", b"10.1.2.3", Wanted::Value(b"2 10.9.9.9")),
@@ -154,7 +155,7 @@ fn handlers_answer(rt: HostRuntime) -> Result<(), Fail> {
         text,
         rows: &lookup,
     };
-    assert!(&rt; matches!(with_table(alloc, lookup)?, Ok(4)));
+    assert!(&rt; matches!(with_table(&rt, alloc, lookup)?, Ok(4)));
     Ok(())
 }
 
@@ -174,7 +175,7 @@ fn step_asks_the_row(rt: HostRuntime) -> Result<(), Fail> {
         text: b"Idle -> c :: Counter -> Discard;",
         rows: &rows,
     };
-    assert!(&rt; matches!(with_counted_table(alloc, Some(asked), asks)?, Ok(3)));
+    assert!(&rt; matches!(with_counted_table(&rt, alloc, Some(asked), asks)?, Ok(3)));
     assert!(&rt; seen.load(Ordering::Relaxed) == 2);
     Ok(())
 }

@@ -18,6 +18,8 @@ mod packet;
 #[cfg(test)]
 mod ports;
 #[cfg(test)]
+mod runs;
+#[cfg(test)]
 mod swapping;
 #[cfg(test)]
 mod tables;

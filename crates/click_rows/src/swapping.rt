@@ -6,7 +6,9 @@ use click_router::{Call, Handlers, Refusal, Reply, Router, prepare};
 use click_text::LONGEST_TEXT;
 use click_text::sequence::Sequence;
 use std::alloc::{AllocError, Global};
+use std::sync::Wait;
 use std::test::Fail;
+use std::thread::Threads;
 
 /// What runs: its queue has room for three packets.
 const RUNNING: &[u8] = b"FromDevice(a) -> q :: Queue(3) -> ToDevice(b);";
@@ -118,7 +120,7 @@ struct AtTheLimit {
 impl TakesTable for AtTheLimit {
     type Out = Result<bool, AllocError>;
 
-    fn take(self, table: Table) -> Result<bool, AllocError> {
+    fn take<R: Threads + Wait + Sync>(self, _rt: &R, table: Table) -> Result<bool, AllocError> {
         holds_at_the_limit(table, self.alloc)
     }
 }
@@ -126,6 +128,6 @@ impl TakesTable for AtTheLimit {
 #[test]
 fn swaps_at_the_limit(rt: HostRuntime) -> Result<(), Fail> {
     let alloc = rt.alloc();
-    assert!(&rt; matches!(with_table(alloc, AtTheLimit { alloc })?, Ok(true)));
+    assert!(&rt; matches!(with_table(&rt, alloc, AtTheLimit { alloc })?, Ok(true)));
     Ok(())
 }

@@ -1,13 +1,15 @@
-//! Whole sessions over the router of a text.
+//! Whole sessions over a desk of a text, with one seat.
 
 mod peers;
 
-use crate::run::{RunFault, run};
 use click_control::{Ended, ServeFault};
 use click_handlers::{Table, TakesTable, with_table};
+use click_workers::{RunFault, run};
 use peers::{Keeper, Script};
 use std::alloc::Global;
+use std::sync::Wait;
 use std::test::Fail;
+use std::thread::Threads;
 
 const COUNTED: &[u8] = b"Idle -> c :: Counter -> Discard;";
 
@@ -28,16 +30,19 @@ enum End {
     Refused,
 }
 
-fn end_of(ended: Result<Ended, RunFault>) -> End {
-    match ended {
-        Ok(Ended::Quit) => End::Quit,
-        Ok(Ended::EndOfInput) => End::EndOfInput,
-        Ok(Ended::TooLong) => End::TooLong,
-        Ok(Ended::GateClosed) => End::GateClosed,
-        Err(RunFault::Serve(ServeFault::ReadFailed)) => End::ReadFailed,
-        Err(RunFault::Serve(ServeFault::WriteFailed)) => End::WriteFailed,
-        Err(RunFault::Serve(ServeFault::NoMemory)) => End::NoMemory,
-        Err(RunFault::Config(_)) => End::Refused,
+/// How a session ended, or why there was none.
+type Came = Result<Result<Ended, ServeFault>, RunFault>;
+
+fn end_of(came: Came) -> End {
+    match came {
+        Ok(Ok(Ended::Quit)) => End::Quit,
+        Ok(Ok(Ended::EndOfInput)) => End::EndOfInput,
+        Ok(Ok(Ended::TooLong)) => End::TooLong,
+        Ok(Ok(Ended::GateClosed)) => End::GateClosed,
+        Ok(Err(ServeFault::ReadFailed)) => End::ReadFailed,
+        Ok(Err(ServeFault::WriteFailed)) => End::WriteFailed,
+        Ok(Err(ServeFault::NoMemory)) => End::NoMemory,
+        Err(_) => End::Refused,
     }
 }
 
@@ -52,9 +57,9 @@ struct Asked<'a> {
 }
 
 impl<'a> TakesTable for Asked<'a> {
-    type Out = (Result<Ended, RunFault>, Vec<u8>);
+    type Out = (Came, Vec<u8>);
 
-    fn take(self, table: Table) -> (Result<Ended, RunFault>, Vec<u8>) {
+    fn take<R: Threads + Wait + Sync>(self, rt: &R, table: Table) -> (Came, Vec<u8>) {
         let Asked {
             alloc,
             text,
@@ -62,47 +67,52 @@ impl<'a> TakesTable for Asked<'a> {
             mut writer,
             readonly,
         } = self;
-        let ended = run(alloc, table, &mut reader, &mut writer, text, readonly);
-        (ended, writer.kept())
+        let came = match run(rt, alloc, table, &mut reader, &mut writer, text, readonly) {
+            Ok(ran) => Ok(ran.ended),
+            Err(fault) => Err(fault),
+        };
+        (came, writer.kept())
     }
 }
 
 /// How a run ends, and what it wrote.
-fn ran(
+fn ran<R: Threads + Wait + Sync>(
+    rt: &R,
     alloc: Global,
     text: &[u8],
     reader: Script<'_>,
     writer: Keeper,
-) -> Result<(Result<Ended, RunFault>, Vec<u8>), Fail> {
-    ran_as(Asked {
+) -> Result<(Came, Vec<u8>), Fail> {
+    let asked = Asked {
         alloc,
         text,
         reader,
         writer,
         readonly: false,
-    })
-}
-
-fn ran_as(asked: Asked<'_>) -> Result<(Result<Ended, RunFault>, Vec<u8>), Fail> {
-    let alloc = asked.alloc;
-    Ok(with_table(alloc, asked)?)
+    };
+    Ok(with_table(rt, alloc, asked)?)
 }
 
 /// A session over the router of a text, and what it wrote.
-fn session(
+fn session<R: Threads + Wait + Sync>(
+    rt: &R,
     alloc: Global,
     text: &[u8],
     reader: Script<'_>,
     most: usize,
     fails: usize,
 ) -> Result<(End, Vec<u8>), Fail> {
-    let (ended, written) = ran(alloc, text, reader, Keeper::new(alloc, most, fails))?;
-    Ok((end_of(ended), written))
+    let (came, written) = ran(rt, alloc, text, reader, Keeper::new(alloc, most, fails))?;
+    Ok((end_of(came), written))
 }
 
 /// The bytes that a session with this input writes.
-fn talk(alloc: Global, input: &[u8]) -> Result<(End, Vec<u8>), Fail> {
-    session(alloc, COUNTED, Script::new(input, 4096, 0), 4096, 0)
+fn talk<R: Threads + Wait + Sync>(
+    rt: &R,
+    alloc: Global,
+    input: &[u8],
+) -> Result<(End, Vec<u8>), Fail> {
+    session(rt, alloc, COUNTED, Script::new(input, 4096, 0), 4096, 0)
 }
 
 fn joined(alloc: Global, parts: &[&[u8]]) -> Result<Vec<u8>, Fail> {
@@ -128,7 +138,14 @@ fn reads_a_counter(rt: HostRuntime) -> Result<(), Fail> {
     for input in inputs {
         for size in [1, 2, 3, 4096] {
             for most in [1, 4096] {
-                let (end, written) = session(alloc, COUNTED, Script::new(input, size, 0), most, 0)?;
+                let (end, written) = session(
+                    &rt,
+                    alloc,
+                    COUNTED,
+                    Script::new(input, size, 0),
+                    most,
+                    0,
+                )?;
                 assert_eq!(rt; end, End::Quit);
                 assert_eq!(rt; written.as_slice(), wanted.as_slice());
             }
@@ -158,7 +175,7 @@ fn tells_what_is_wrong(rt: HostRuntime) -> Result<(), Fail> {
         ),
     ];
     for (line, reply) in replies {
-        let (end, written) = talk(alloc, line)?;
+        let (end, written) = talk(&rt, alloc, line)?;
         assert_eq!(rt; end, End::EndOfInput);
         assert_eq!(rt;
             written.as_slice(),
@@ -166,7 +183,7 @@ fn tells_what_is_wrong(rt: HostRuntime) -> Result<(), Fail> {
         );
     }
     // A command whose line does not end has no reply.
-    let (end, written) = talk(alloc, b"READ c.count")?;
+    let (end, written) = talk(&rt, alloc, b"READ c.count")?;
     assert_eq!(rt; end, End::EndOfInput);
     assert_eq!(rt; written.as_slice(), GREETING);
     Ok(())
@@ -184,14 +201,15 @@ fn writes_a_switch(rt: HostRuntime) -> Result<(), Fail> {
     let denied =
         b"530 Permission denied for 's.switch'\r\n200 Read handler 's.switch' OK\r\nDATA 1\r\n0530 Permission denied for 's.switch'\r\n530 Permission denied for 's.switch'\r\n200 Read handler 's.switch' OK\r\nDATA 1\r\n0530 Permission denied for 's.switch'\r\n".as_slice();
     for (readonly, wanted) in [(false, writes), (true, denied)] {
-        let (ended, written) = ran_as(Asked {
+        let asked = Asked {
             alloc,
             text,
             reader: Script::new(input, 5, 0),
             writer: Keeper::new(alloc, 4096, 0),
             readonly,
-        })?;
-        assert_eq!(rt; end_of(ended), End::EndOfInput);
+        };
+        let (came, written) = with_table(&rt, alloc, asked)?;
+        assert_eq!(rt; end_of(came), End::EndOfInput);
         assert_eq!(rt;
             written.as_slice(),
             joined(alloc, &[GREETING, wanted])?.as_slice()
@@ -215,7 +233,7 @@ fn limits_a_line(rt: HostRuntime) -> Result<(), Fail> {
             line.push(b' ')?;
         }
         line.extend_from_slice(b"\nREAD c.count\n")?;
-        let (end, written) = talk(alloc, line.as_slice())?;
+        let (end, written) = talk(&rt, alloc, line.as_slice())?;
         if blanks == 65_524 {
             assert_eq!(rt; end, End::EndOfInput);
             assert_eq!(rt;
@@ -242,7 +260,7 @@ fn a_read_that_fails(rt: HostRuntime) -> Result<(), Fail> {
     let read = b"500 Syntax error\r\n";
     // With one byte a read, the first line is whole after four reads, and the second after nine.
     for fails in 1..=10 {
-        let (end, written) = session(alloc, COUNTED, Script::new(input, 1, fails), 4096, 0)?;
+        let (end, written) = session(&rt, alloc, COUNTED, Script::new(input, 1, fails), 4096, 0)?;
         assert_eq!(rt; end, End::ReadFailed);
         let wanted = if fails <= 4 {
             joined(alloc, &[GREETING])?
@@ -270,7 +288,7 @@ fn a_write_that_fails(rt: HostRuntime) -> Result<(), Fail> {
     )?;
     // With one byte a write, the kth write has k - 1 bytes before it.
     for fails in 1..=77 {
-        let (end, written) = session(alloc, COUNTED, Script::new(input, 4096, 0), 1, fails)?;
+        let (end, written) = session(&rt, alloc, COUNTED, Script::new(input, 4096, 0), 1, fails)?;
         assert_eq!(rt; end, End::WriteFailed);
         assert_eq!(rt; written.len(), fails - 1);
         assert_eq!(rt;
@@ -310,7 +328,7 @@ fn refuses_a_faulty_text(rt: HostRuntime) -> Result<(), Fail> {
     ];
     for (text, wanted) in faults {
         let reader = Script::new(b"READ c.count\n", 4096, 0);
-        let (ended, written) = ran(alloc, text, reader, Keeper::new(alloc, 4096, 0))?;
+        let (ended, written) = ran(&rt, alloc, text, reader, Keeper::new(alloc, 4096, 0))?;
         match ended {
             Err(RunFault::Config(fault)) => {
                 let told = fault.text(alloc)?;
@@ -335,7 +353,7 @@ fn accepts_what_is_lawful(rt: HostRuntime) -> Result<(), Fail> {
         b"Idle -> d; d :: Discard",
     ];
     for text in texts {
-        let (end, written) = session(alloc, text, Script::new(b"QUIT\n", 4096, 0), 4096, 0)?;
+        let (end, written) = session(&rt, alloc, text, Script::new(b"QUIT\n", 4096, 0), 4096, 0)?;
         assert_eq!(rt; end, End::Quit);
         assert_eq!(rt;
             written.as_slice(),
@@ -349,12 +367,18 @@ fn accepts_what_is_lawful(rt: HostRuntime) -> Result<(), Fail> {
 fn limits_a_text(rt: HostRuntime) -> Result<(), Fail> {
     let alloc = rt.alloc();
     let mut text = vec![in alloc; b' '; 1_048_576]?;
-    let (end, written) = session(alloc, text.as_slice(), Script::new(b"", 1, 0), 4096, 0)?;
+    let (end, written) = session(&rt, alloc, text.as_slice(), Script::new(b"", 1, 0), 4096, 0)?;
     assert_eq!(rt; end, End::EndOfInput);
     assert_eq!(rt; written.as_slice(), GREETING);
     text.push(b' ')?;
     let reader = Script::new(b"", 1, 0);
-    let (ended, _) = ran(alloc, text.as_slice(), reader, Keeper::new(alloc, 4096, 0))?;
+    let (ended, _) = ran(
+        &rt,
+        alloc,
+        text.as_slice(),
+        reader,
+        Keeper::new(alloc, 4096, 0),
+    )?;
     match ended {
         Err(RunFault::Config(fault)) => {
             assert_eq!(rt; fault.text(alloc)?.as_slice(), b"6 TooLarge".as_slice());

@@ -1,6 +1,6 @@
 use Rattle.std.proofs.lemmas.Result.{on_ok_weaker}
 use Rattle.std.proofs.KnownBytes.{Appends-trans}
-use Rattle.click_prog.proofs.told.Goals as goal
+use Rattle.click_prog.proofs.serving.told.Goals as goal
 
 pub returns : goal.returns
 returns g c = on_ok_weaker c.write_all-3.result (λ line. Appends-trans _ _ _ _ _

@@ -1,0 +1,11 @@
+use Rattle.std.proofs.Common.{inl}
+use Rattle.click_prog.proofs.serving.serve_text.Goals as goal
+
+pub returns-in-Ok : goal.returns-in-Ok
+returns-in-Ok g c = inl (record {
+  book = c.in-Ok.ran.book;
+  headline = c.in-Ok.ensures.headline;
+  ended = c.in-Ok.ran.ended;
+  ran = c.in-Ok.ensures.served;
+  is = c.of_end.ensures;
+})

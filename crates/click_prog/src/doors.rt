@@ -1,0 +1,53 @@
+//! Where the program's sessions come from, beside a listener.
+
+use click_control::{Reading, Writing};
+use click_workers::Door;
+use std::io::{Stdin, Stdout};
+
+/// Standard input and output, for the first session alone.
+#[derive(Drop)]
+pub struct Standard {
+    input: Stdin,
+    output: Stdout,
+}
+
+impl Standard {
+    pub fn new(input: Stdin, output: Stdout) -> Standard {
+        Standard { input, output }
+    }
+}
+
+impl Door for Standard {
+    ghost use Rattle.std.specs.Prelude.{◌≡◌, None};
+
+    ghost lets_in = { λ _ who got. (who ≡ 1 → ⊥) → got ≡ None };
+
+    type Reader = Reading<Stdin>;
+
+    type Writer = Writing<Stdout>;
+
+    fn enter(&self, who: usize) -> Option<(Reading<Stdin>, Writing<Stdout>)> {
+        if who != 1 {
+            return None;
+        }
+        Some((Reading::new(self.input), Writing::new(self.output)))
+    }
+}
+
+/// Lets nobody in: where the program cannot listen.
+#[derive(Drop)]
+pub struct Shut;
+
+impl Door for Shut {
+    ghost use Rattle.std.specs.Prelude.{◌≡◌, None};
+
+    ghost lets_in = { λ _ _ got. got ≡ None };
+
+    type Reader = Reading<Stdin>;
+
+    type Writer = Writing<Stdout>;
+
+    fn enter(&self, _who: usize) -> Option<(Reading<Stdin>, Writing<Stdout>)> {
+        None
+    }
+}

@@ -1,0 +1,228 @@
+//! The runs that a command line asks for, over a table of handlers.
+
+ghost use Rattle.std.specs.Prelude.{◌≡◌, ◌++◌, ◌∷◌, ◌+◌, ◌<◌, ◌≤◌, [], OnOk, codes};
+ghost use Rattle.std.specs.Io.KnownBytes.{Appends};
+ghost use Rattle.click_prog.specs.Running.{RunsTo, AllRunTo, fresh_input, fresh_output};
+ghost use Rattle.click_prog.specs.Statuses.{fault_status};
+
+use crate::doors::{Shut, Standard};
+use crate::status::{Status, of_end, of_fault, of_sessions};
+use click_control::{InputDevice, OutputDevice, Reading, Sink, Source, Writing};
+use click_handlers::{Table, TakesTable};
+use click_router::{ConfigFault, Handlers};
+use click_workers::{Door, Gate, Listening, OpenGate, RunFault, run, run_workers};
+use std::alloc::Global;
+use std::io::{self, Write};
+use std::marker::Model;
+use std::net::TcpListener;
+use std::sync::Wait;
+use std::thread::Threads;
+
+/// How many sessions (1 to 64) and drivers (at most 16) there are, how many rounds each driver makes, and whether sessions may only read.
+#[derive(Drop)]
+pub struct Plan {
+    sessions: usize,
+    workers: usize,
+    rounds: u64,
+    readonly: bool,
+}
+
+impl Model for Plan {
+    ghost use Rattle.std.specs.Prelude.{◌≤◌};
+    ghost use Rattle.click_prog.specs.Running.{Planned};
+
+    ghost Value = { Planned };
+
+    ghost view = { λ p. record { sessions = p.sessions; workers = p.workers; rounds = p.rounds; readonly = p.readonly } };
+
+    ghost invariant = { λ p. (1 ≤ p.sessions) × (p.sessions ≤ 64) × (p.workers ≤ 16) };
+}
+
+impl Plan {
+    pub fn new(sessions: usize, workers: usize, rounds: u64, readonly: bool) -> Plan
+        requires { (1 ≤ sessions) × (sessions ≤ 64) × (workers ≤ 16) }
+        ensures { result ≡ record { sessions = sessions; workers = workers; rounds = rounds; readonly = readonly } }
+    {
+        Plan {
+            sessions,
+            workers,
+            rounds,
+            readonly,
+        }
+    }
+}
+
+/// Serves one session that reads from this device and writes to that one, over the router of the text. The devices come back as the
+/// session left them. Why a text is refused is written to `errors`.
+pub fn session<T: Handlers + Drop, I: InputDevice, O: OutputDevice, E: Write, R: Wait>(
+    rt: &R,
+    alloc: Global,
+    table: T,
+    input: I,
+    output: O,
+    errors: &mut E,
+    text: &[u8],
+    readonly: bool,
+) -> (Status, Reading<I>, Writing<O>)
+    ensures { RunsTo text.now readonly (fresh_input (I.remaining input)) (⟦<Reading<I> as Source>⟧.input result.1)
+        (fresh_output (O.contents output)) (⟦<Writing<O> as Sink>⟧.output result.2) result.0 }
+{
+    let mut reader = Reading::new(input);
+    let mut writer = Writing::new(output);
+    let status = serve_text(
+        rt,
+        alloc,
+        table,
+        &mut reader,
+        &mut writer,
+        errors,
+        text,
+        readonly,
+    );
+    (status, reader, writer)
+}
+
+/// Serves one session with this reader and this writer, over the router of the text. Why a text is refused is written to `errors`.
+fn serve_text<T: Handlers + Drop, S: Source, W: Sink, E: Write, R: Wait>(
+    rt: &R,
+    alloc: Global,
+    table: T,
+    reader: &mut S,
+    writer: &mut W,
+    errors: &mut E,
+    text: &[u8],
+    readonly: bool,
+) -> Status
+    ensures { RunsTo text.now readonly (S.input reader.old) (S.input reader.new) (W.output writer.old) (W.output writer.new) result }
+{
+    match run(rt, alloc, table, reader, writer, text, readonly) {
+        Ok(ran) => of_end(&ran.ended),
+        Err(fault) => refuse(alloc, errors, &fault),
+    }
+}
+
+/// Serves sessions that come in at this door, with drivers beside them, over the router of the text. Why a text is refused is written to `errors`.
+pub fn serve_all<T: Handlers + Send + Drop, D: Door, E: Write, R: Threads + Wait + Sync>(
+    rt: &R,
+    alloc: Global,
+    table: T,
+    door: &D,
+    errors: &mut E,
+    text: &[u8],
+    plan: Plan,
+) -> Status
+    ensures { AllRunTo D.lets_in D.Reader.input D.Writer.output ⟦<OpenGate as Gate>⟧.gives ⟦<OpenGate as Gate>⟧.told door.now plan.readonly text.now plan.sessions
+        plan.workers plan.rounds result }
+{
+    let Plan {
+        sessions,
+        workers,
+        rounds,
+        readonly,
+    } = plan;
+    match run_workers(
+        rt, alloc, table, text, readonly, door, sessions, workers, rounds, &OpenGate,
+    ) {
+        Ok(ran) => of_sessions(ran.ended.as_slice()),
+        Err(fault) => refuse(alloc, errors, &fault),
+    }
+}
+
+/// Writes why there was no run; nothing where memory ran out. The status is that of the fault.
+fn refuse<E: Write>(alloc: Global, errors: &mut E, fault: &RunFault) -> Status
+    ensures { result ≡ fault_status fault.now }
+{
+    if let RunFault::Config(fault) = fault {
+        tell(alloc, errors, fault);
+    }
+    of_fault(fault)
+}
+
+/// Writes why a configuration is refused.
+fn tell<E: Write>(alloc: Global, errors: &mut E, fault: &ConfigFault) {
+    // A failed write changes nothing of the status.
+    let _ = match fault.text(alloc) {
+        Ok(text) => told(errors, text.as_slice()),
+        Err(_) => told(errors, b"faulty configuration"),
+    };
+}
+
+/// Writes a fault as a line of the program's.
+fn told<W: Write>(to: &mut W, fault: &[u8]) -> io::Result<()>
+    ensures { OnOk result (Appends (W.contents to.old) (W.contents to.new) (codes "click_prog: " ++ fault.now ++ 10 ∷ [])) }
+{
+    to.write_all(b"click_prog: ")?;
+    to.write_all(fault)?;
+    to.write_all(b"\n")
+}
+
+/// Where sessions come from, as a command line asks for it.
+#[derive(Drop)]
+pub enum Comes {
+    /// One from standard input and output.
+    Standard,
+    /// Over TCP.
+    Over(TcpListener),
+    /// None: it was to listen, and cannot.
+    Nowhere,
+}
+
+/// The runs that a command line asks for.
+#[derive(Drop)]
+pub struct Serving<'a> {
+    pub host: &'a HostRuntime,
+    pub text: &'a [u8],
+    pub plan: Plan,
+    pub comes: Comes,
+}
+
+impl<'a> TakesTable for Serving<'a> {
+    type Out = Status;
+
+    fn take<R: Threads + Wait + Sync>(self, rt: &R, table: Table) -> Status {
+        let Serving {
+            host,
+            text,
+            plan,
+            comes,
+        } = self;
+        serve_plan(rt, host, table, text, plan, comes)
+    }
+}
+
+/// Serves the sessions that come, and drivers beside them, as the plan has them.
+fn serve_plan<T: Handlers + Send + Drop, R: Threads + Wait + Sync>(
+    rt: &R,
+    host: &HostRuntime,
+    table: T,
+    text: &[u8],
+    plan: Plan,
+    comes: Comes,
+) -> Status {
+    let alloc = host.alloc();
+    let mut errors = host.stderr();
+    match comes {
+        Comes::Standard if plan.workers == 0 => {
+            let (status, _, _) = session(
+                rt,
+                alloc,
+                table,
+                host.stdin(),
+                host.stdout(),
+                &mut errors,
+                text,
+                plan.readonly,
+            );
+            status
+        }
+        Comes::Standard => {
+            let door = Standard::new(host.stdin(), host.stdout());
+            serve_all(rt, alloc, table, &door, &mut errors, text, plan)
+        }
+        Comes::Over(listener) => {
+            let door = Listening::new(listener);
+            serve_all(rt, alloc, table, &door, &mut errors, text, plan)
+        }
+        Comes::Nowhere => serve_all(rt, alloc, table, &Shut, &mut errors, text, plan),
+    }
+}
