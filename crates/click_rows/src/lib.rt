@@ -20,6 +20,8 @@ mod ports;
 #[cfg(test)]
 mod runs;
 #[cfg(test)]
+mod seats;
+#[cfg(test)]
 mod swapping;
 #[cfg(test)]
 mod tables;
@@ -27,3 +29,5 @@ mod tables;
 mod text;
 #[cfg(test)]
 mod turns;
+#[cfg(test)]
+mod workers;
