@@ -1,7 +1,7 @@
 //! A swap that is tried again where memory was refused; tools/refuse.sh refuses each request for memory of it.
 
 use click_handlers::{Table, TakesTable, with_table};
-use click_packet::Packet;
+use click_packet::{Packet, StoredPacket};
 use click_router::{Call, Handlers, Reply, Router, StepFault, prepare};
 use click_text::sequence::Sequence;
 use std::alloc::{AllocError, Global};
@@ -45,7 +45,7 @@ fn answer<T: Handlers>(
 fn enter<T: Handlers>(router: &mut Router<T>, alloc: Global, byte: u8) -> Result<(), AllocError> {
     let call = Call::Arrive {
         device: kept(alloc, b"a")?,
-        packet: Packet::of(&[byte]).unwrap_or(Packet::empty()),
+        packet: StoredPacket::of(alloc, &Packet::of(&[byte]).unwrap_or(Packet::empty()))?,
     };
     match answer(router, alloc, &call) {
         Ok(_) => Ok(()),

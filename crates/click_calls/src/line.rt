@@ -1,7 +1,7 @@
 //! Lines, and the calls that they are.
 
 use crate::digits::{HexFault, packet_of};
-use click_packet::Packet;
+use click_packet::StoredPacket;
 use click_router::Call;
 use click_text::sequence::Sequence;
 use memchr::memchr;
@@ -119,7 +119,7 @@ fn arrive_of(alloc: Global, rest: Option<&[u8]>) -> Result<Call, LineFault> {
     ended(rest)?;
     Ok(Call::Arrive {
         device: kept(alloc, device)?,
-        packet: packet_of(alloc, digits)?,
+        packet: StoredPacket::of(alloc, &packet_of(alloc, digits)?)?,
     })
 }
 
@@ -141,10 +141,10 @@ fn poll_of(alloc: Global, rest: Option<&[u8]>) -> Result<Call, LineFault> {
 }
 
 /// Packets with commas between them.
-fn packets_of(alloc: Global, list: &[u8]) -> Result<Sequence<Packet>, LineFault> {
+fn packets_of(alloc: Global, list: &[u8]) -> Result<Sequence<StoredPacket>, LineFault> {
     let mut packets = Sequence::new(alloc);
     for digits in list.split(|byte| *byte == b',') {
-        packets.push(packet_of(alloc, digits)?)?;
+        packets.push(StoredPacket::of(alloc, &packet_of(alloc, digits)?)?)?;
     }
     Ok(packets)
 }

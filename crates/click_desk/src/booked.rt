@@ -1,13 +1,16 @@
 //! The router with its history, as one value.
 
-ghost use Rattle.std.specs.Prelude.{◌≡◌, ◌≤◌, ◌++◌, ◌∷◌, ◌↔◌, [], length, IfOk, IfErr, OnOk, OnErr, Ok, Err, MatchResult, vec_len, vec_capacity};
+ghost use Rattle.std.specs.Prelude.{◌≡◌, ◌≤◌, ◌++◌, ◌∷◌, ◌↔◌, [], length, IfOk, IfErr, OnOk, OnErr, Ok, Err, MatchResult, true, is_some, vec_len, vec_capacity};
+ghost use Rattle.click_router.specs.One.{is_transmit, sends_packet, holds_memory};
 ghost use Rattle.click_router.specs.Opened.{IsOpened};
 ghost use Rattle.click_desk.specs.History.{entry, Legal};
 
 use crate::entry::Entry;
+use crate::recorded::Recorded;
 use crate::terms::Terms;
+use click_packet::PacketRoom;
 use click_router::{Call, Handlers, Reply, Router};
-use std::alloc::Global;
+use std::alloc::{AllocError, Global};
 use std::marker::Model;
 use thiserror::Error;
 
@@ -67,13 +70,41 @@ impl<T> Booked<T> {
     }
 }
 
+/// Room for a packet in the history and in a seat's list.
+type Rooms = (Option<PacketRoom>, Option<PacketRoom>);
+
+/// Room for the packet that the call may send.
+fn rooms_for(alloc: Global, call: &Call) -> Result<Rooms, AllocError>
+    ensures { IfOk result (λ rooms. is_transmit call.now ≡ true → (is_some rooms.0 ≡ true) × (is_some rooms.1 ≡ true)) }
+{
+    match call {
+        Call::Transmit { .. } => Ok((Some(PacketRoom::new(alloc)?), Some(PacketRoom::new(alloc)?))),
+        _ => Ok((None, None)),
+    }
+}
+
+/// What is kept of a reply, in the history and in a seat's list.
+fn recorded_twice(
+    alloc: Global,
+    reply: &Reply,
+    rooms: Rooms,
+) -> Result<(Recorded, Recorded), AllocError>
+    requires { sends_packet reply.now ≡ true → (is_some rooms.0 ≡ true) × (is_some rooms.1 ≡ true) }
+    ensures kept { IfOk result (λ both. (both.0 ≡ reply.now) × (both.1 ≡ reply.now)) }
+    ensures light { IfErr result (λ _. holds_memory reply.now ≡ true) }
+{
+    let entered = Recorded::of(alloc, reply, rooms.0)?;
+    let told = Recorded::of(alloc, reply, rooms.1)?;
+    Ok((entered, told))
+}
+
 impl<T: Handlers> Booked<T> {
     /// One call of the seat with this number, entered in the history and in the seat's list. All memory is taken before the router changes.
     pub fn enter(
         &mut self,
         alloc: Global,
         number: usize,
-        calls: &mut Vec<(Call, Reply)>,
+        calls: &mut Vec<(Call, Recorded)>,
         call: Call,
     ) -> Result<Reply, DeskFault>
         ensures terms { self.new.terms ≡ self.old.terms }
@@ -91,14 +122,14 @@ impl<T: Handlers> Booked<T> {
         let Ok(listed) = call.copy(alloc) else {
             return Err(DeskFault::NoMemory);
         };
+        let Ok(rooms) = rooms_for(alloc, &call) else {
+            return Err(DeskFault::NoMemory);
+        };
         let Ok(reply) = self.router.step(alloc, &call) else {
             return Err(DeskFault::NoMemory);
         };
         // A reply that holds memory comes of a call that changed nothing.
-        let Ok(entered) = reply.copy(alloc) else {
-            return Err(DeskFault::NoMemory);
-        };
-        let Ok(told) = reply.copy(alloc) else {
+        let Ok((entered, told)) = recorded_twice(alloc, &reply, rooms) else {
             return Err(DeskFault::NoMemory);
         };
         self.entries.push_reserved(Entry {

@@ -1,11 +1,12 @@
 //! One call of one seat, with its reply.
 
-use click_router::{Call, Reply};
+use crate::recorded::Recorded;
+use click_router::Call;
 
 /// One call of one seat, with its reply.
 #[derive(Drop)]
 pub struct Entry {
     pub seat: usize,
     pub call: Call,
-    pub reply: Reply,
+    pub reply: Recorded,
 }

@@ -3,8 +3,9 @@
 ghost use Rattle.std.specs.Prelude.{◌≡◌};
 ghost use Rattle.click_desk.specs.Sittings.{IsSeat};
 
+use crate::recorded::Recorded;
 use crate::rule::DeskPass;
-use click_router::{Call, Reply};
+use click_router::Call;
 use std::marker::Model;
 
 /// Who makes calls at a desk, from any thread.
@@ -12,7 +13,7 @@ use std::marker::Model;
 pub struct Seat<T> {
     pub(crate) pass: DeskPass<T>,
     pub(crate) number: usize,
-    pub(crate) calls: Vec<(Call, Reply)>,
+    pub(crate) calls: Vec<(Call, Recorded)>,
 }
 
 impl<T> Model for Seat<T> {
@@ -40,7 +41,7 @@ impl<T> Seat<T> {
     }
 
     /// The calls that it made, each with its reply.
-    pub fn calls(&self) -> &[(Call, Reply)]
+    pub fn calls(&self) -> &[(Call, Recorded)]
         ensures calls { result.now ≡ self.now.calls }
         ensures sound { IsSeat self.now }
     {

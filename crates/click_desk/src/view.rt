@@ -1,8 +1,9 @@
 //! What a pass of the queue knows.
 
 use crate::entry::Entry;
+use crate::recorded::Recorded;
 use crate::terms::Terms;
-use click_router::{Call, Reply};
+use click_router::Call;
 use std::collections::LinkedList;
 
 /// What a pass knows and may do. No value of it is made.
@@ -18,7 +19,7 @@ pub struct View {
     /// It makes the calls of seat `number`, which are `mine`.
     pub acts: bool,
     pub number: usize,
-    pub mine: LinkedList<(Call, Reply)>,
+    pub mine: LinkedList<(Call, Recorded)>,
     /// The history, as far as it was seen.
     pub seen: LinkedList<Entry>,
     /// What its seat had seen, while it lends itself to the close.

@@ -165,6 +165,27 @@ swap_text (call.Poll device ps) = None
 swap_text call.Round = None
 swap_text (call.Transmit device) = None
 
+-- the one call that sends a packet, and the replies that hold one
+abbrev pub is_transmit : Call → Bool
+is_transmit (call.Read name text) = false
+is_transmit (call.Write name text) = false
+is_transmit (call.CheckRead name) = false
+is_transmit (call.CheckWrite name) = false
+is_transmit (call.Swap text) = false
+is_transmit (call.Arrive device p) = false
+is_transmit (call.Poll device ps) = false
+is_transmit call.Round = false
+is_transmit (call.Transmit device) = true
+
+abbrev pub sends_packet : Reply → Bool
+sends_packet (reply.Value value) = false
+sends_packet reply.Done = false
+sends_packet (reply.Refused why) = false
+sends_packet (reply.Entered count) = false
+sends_packet (reply.Worked count) = false
+sends_packet (reply.Sent packet) = is_some packet
+sends_packet reply.NoDevice = false
+
 -- the calls that may take memory: a read's value, what a write makes, and the router of another text
 abbrev pub takes_memory : Call → Bool
 takes_memory (call.Read name text) = true

@@ -5,7 +5,7 @@ ghost use Rattle.click_router.specs.One.{refusal_of};
 
 use crate::fault::ConfigFault;
 use click_handlers::HandlerFault;
-use click_packet::Packet;
+use click_packet::{Packet, StoredPacket};
 use click_text::sequence::Sequence;
 use thiserror::Error;
 
@@ -37,12 +37,12 @@ pub enum Call {
     /// A packet enters from a device.
     Arrive {
         device: Sequence<u8>,
-        packet: Packet,
+        packet: StoredPacket,
     },
     /// Packets enter from a device one after another.
     Poll {
         device: Sequence<u8>,
-        taken: Sequence<Packet>,
+        taken: Sequence<StoredPacket>,
     },
     /// Each task runs once in flat order.
     Round,

@@ -5,7 +5,7 @@ ghost use Rattle.click_router.specs.One.{refusal_holds, holds_memory};
 
 use crate::call::{Call, Refusal, Reply};
 use crate::fault::{ConfigFault, FaultPlace};
-use click_packet::Packet;
+use click_packet::StoredPacket;
 use click_text::sequence::Sequence;
 use std::alloc::{AllocError, Global};
 
@@ -15,12 +15,15 @@ fn bytes_of(alloc: Global, bytes: &Sequence<u8>) -> Result<Sequence<u8>, AllocEr
     Ok(Sequence::of(Vec::from_slice(alloc, bytes.as_slice())?))
 }
 
-fn packets_of(alloc: Global, packets: &Sequence<Packet>) -> Result<Sequence<Packet>, AllocError>
+fn packets_of(
+    alloc: Global,
+    packets: &Sequence<StoredPacket>,
+) -> Result<Sequence<StoredPacket>, AllocError>
     ensures { IfOk result (λ copy. copy ≡ packets.now) }
 {
     let mut copies = Vec::with_capacity(alloc, packets.len())?;
     for packet in packets.as_slice() {
-        copies.push(packet.copy())?;
+        copies.push(packet.copy(alloc)?)?;
     }
     Ok(Sequence::of(copies))
 }
@@ -50,7 +53,7 @@ impl Call {
             },
             Call::Arrive { device, packet } => Call::Arrive {
                 device: bytes_of(alloc, device)?,
-                packet: packet.copy(),
+                packet: packet.copy(alloc)?,
             },
             Call::Poll { device, taken } => Call::Poll {
                 device: bytes_of(alloc, device)?,
@@ -104,7 +107,8 @@ impl FaultPlace {
 }
 
 impl Refusal {
-    fn copy(&self, alloc: Global) -> Result<Refusal, AllocError>
+    /// An equal refusal. It takes memory only where it holds some.
+    pub fn copy(&self, alloc: Global) -> Result<Refusal, AllocError>
         ensures copy { IfOk result (λ copy. copy ≡ self.now) }
         ensures light { IfErr result (λ _. refusal_holds self.now ≡ true) }
     {

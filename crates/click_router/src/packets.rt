@@ -6,23 +6,27 @@ ghost use Rattle.click_router.specs.One.{arrivals, entered, worked, sent};
 use crate::call::Reply;
 use crate::opening::Prepared;
 use click_engine::Plant;
-use click_packet::Packet;
+use click_packet::{Packet, StoredPacket};
 
 /// Packets enter from a device one after another.
-fn enter_all(plant: &mut Plant, device: &[u8], taken: &[Packet])
+fn enter_all(plant: &mut Plant, device: &[u8], taken: &[StoredPacket])
     ensures { plant.new ≡ arrivals plant.old device.now taken.now }
 {
+    let mut whole = Packet::empty();
     for packet in taken {
-        let _entered = plant.enter(device, packet);
+        packet.write_to(&mut whole);
+        let _entered = plant.enter(device, &whole);
     }
 }
 
 impl Prepared {
     /// A packet enters from a device.
-    pub(crate) fn arrive(&mut self, device: &[u8], packet: &Packet) -> Reply
+    pub(crate) fn arrive(&mut self, device: &[u8], packet: &StoredPacket) -> Reply
         ensures { entered self.old device.now (packet.now ∷ []) ≡ (self.new, result) }
     {
-        if self.plant.enter(device, packet) {
+        let mut whole = Packet::empty();
+        packet.write_to(&mut whole);
+        if self.plant.enter(device, &whole) {
             Reply::Entered(1)
         } else {
             Reply::NoDevice
@@ -30,7 +34,7 @@ impl Prepared {
     }
 
     /// Packets enter from a device one after another.
-    pub(crate) fn poll(&mut self, device: &[u8], taken: &[Packet]) -> Reply
+    pub(crate) fn poll(&mut self, device: &[u8], taken: &[StoredPacket]) -> Reply
         ensures { entered self.old device.now taken.now ≡ (self.new, result) }
     {
         if !self.plant.has_source(device) {

@@ -54,13 +54,15 @@ impl<T> Router<T> {
 
 impl<T: Handlers> Router<T> {
     ghost use Rattle.std.specs.Prelude.{◌≡◌, true, IfOk, IfErr, MatchResult};
-    ghost use Rattle.click_router.specs.One.{Answers, takes_memory, holds_memory};
+    ghost use Rattle.click_router.specs.One.{Answers, takes_memory, holds_memory, is_transmit, sends_packet};
 
-    /// Answers one call. Where memory is refused nothing has changed, and only a read, a write or a swap takes memory. A reply that holds memory comes only from a call that changed nothing.
+    /// Answers one call. Where memory is refused nothing has changed, and only a read, a write or a swap takes memory. A reply that holds memory comes only from a call that changed nothing, and a packet
+    /// only from a transmit.
     pub fn step(&mut self, alloc: Global, call: &Call) -> Result<Reply, StepFault>
         ensures answer { MatchResult result (λ reply. Answers self.old call.now self.new reply) (λ _. self.new ≡ self.old) }
         ensures refused { IfErr result (λ _. takes_memory call.now ≡ true) }
         ensures light { IfOk result (λ reply. holds_memory reply ≡ true → self.new ≡ self.old) }
+        ensures sends { IfOk result (λ reply. sends_packet reply ≡ true → is_transmit call.now ≡ true) }
     {
         self.table.step(&mut self.running, alloc, call)
     }

@@ -1,7 +1,7 @@
 //! Handlers through `Router::step`, and the rows of a table.
 
 use click_handlers::{HandlerFault, Table, TakesTable, with_counted_table, with_table};
-use click_packet::Packet;
+use click_packet::{Packet, StoredPacket};
 use click_router::{Call, Handlers, Refusal, Reply, Router, prepare};
 use click_text::sequence::Sequence;
 use std::alloc::{AllocError, Global};
@@ -41,7 +41,7 @@ fn call_of(alloc: Global, row: Row<'_>) -> Result<Call, AllocError> {
     match row {
         Row::Arrive(device) => Ok(Call::Arrive {
             device: kept(alloc, device)?,
-            packet: Packet::empty(),
+            packet: StoredPacket::of(alloc, &Packet::empty())?,
         }),
         Row::Read(name, text, _) => Ok(Call::Read {
             name: kept(alloc, name)?,

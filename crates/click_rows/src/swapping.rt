@@ -1,7 +1,7 @@
 //! Swaps through `Router::step` to texts at the limit, which neither a line of calls nor a payload can have.
 
 use click_handlers::{Table, TakesTable, with_table};
-use click_packet::Packet;
+use click_packet::{Packet, StoredPacket};
 use click_router::{Call, Handlers, Refusal, Reply, Router, prepare};
 use click_text::LONGEST_TEXT;
 use click_text::sequence::Sequence;
@@ -80,7 +80,7 @@ fn holds_at_the_limit<T: Handlers + Drop>(table: T, alloc: Global) -> Result<boo
     let mut router = Router::open(table, prepared);
     for _ in 0..4 {
         let device = kept(alloc, b"a")?;
-        let packet = Packet::empty();
+        let packet = StoredPacket::of(alloc, &Packet::empty())?;
         if !matches!(
             router.step(alloc, &Call::Arrive { device, packet }),
             Ok(Reply::Entered(1))

@@ -7,16 +7,16 @@ use Rattle.click_desk.proofs.booked.Booked.enter.Goals as goal
 
 pub invariant_of-self-2 : goal.invariant_of-self-2
 invariant_of-self-2 g c =
-    let e : Entry = entry c.args.number c.args.call c.in-Ok-copy.entered in
-    let is : Answers c.self.inside.router c.args.call c.step.new.self c.in-Ok-copy.entered =
-    subst (λ r. Answers c.self.inside.router c.args.call c.step.new.self r) (sym c.in-Ok-copy.ensures.copy) c.in-Ok-step.ensures.answer in
+    let e : Entry = entry c.args.number c.args.call c.in-Ok-recorded_twice.entered in
+    let is : Answers c.self.inside.router c.args.call c.step.new.self c.in-Ok-recorded_twice.entered =
+    subst (λ r. Answers c.self.inside.router c.args.call c.step.new.self r) (sym c.in-Ok-recorded_twice.ensures.kept.0) c.in-Ok-step.ensures.answer in
     let items : c.push_reserved.new.self.items ≡ c.self.inside.entries.items ++ e ∷ [] = c.push_reserved.ensures.items ∙ ap (λ l. l ++ e ∷ []) c.reserve.ensures.items in
     subst (λ (l : List Entry). Legal c.self.inside.terms.opening l c.step.new.self) (sym items) (legal_more c.self.inside.terms.opening c.self.inside.entries.items c.self.inside.router e c.step.new.self c.self.invariant is)
 
 pub returns-clause-legal : goal.returns-clause-legal
 returns-clause-legal g c =
-    let e : Entry = entry c.args.number c.args.call c.in-Ok-copy.entered in
-    let is : Answers c.self.inside.router c.args.call c.step.new.self c.in-Ok-copy.entered =
-    subst (λ r. Answers c.self.inside.router c.args.call c.step.new.self r) (sym c.in-Ok-copy.ensures.copy) c.in-Ok-step.ensures.answer in
+    let e : Entry = entry c.args.number c.args.call c.in-Ok-recorded_twice.entered in
+    let is : Answers c.self.inside.router c.args.call c.step.new.self c.in-Ok-recorded_twice.entered =
+    subst (λ r. Answers c.self.inside.router c.args.call c.step.new.self r) (sym c.in-Ok-recorded_twice.ensures.kept.0) c.in-Ok-step.ensures.answer in
     let items : c.push_reserved.new.self.items ≡ c.self.inside.entries.items ++ e ∷ [] = c.push_reserved.ensures.items ∙ ap (λ l. l ++ e ∷ []) c.reserve.ensures.items in
     subst (λ (l : List Entry). Legal c.self.inside.terms.opening l c.step.new.self) (sym items) (legal_more c.self.inside.terms.opening c.self.inside.entries.items c.self.inside.router e c.step.new.self c.self.invariant is)

@@ -1,0 +1,118 @@
+//! A packet at rest.
+
+ghost use Rattle.std.specs.Prelude.{◌≡◌, ◌≤◌, [], length, IfOk, vec_capacity};
+ghost use Rattle.click_packet.specs.Packet.{longest_packet};
+
+use crate::packet::{LIMIT, Packet};
+use std::alloc::{AllocError, Global};
+use std::marker::Model;
+
+/// A packet that is kept as it is: just its bytes, with its paint and its destination. It takes memory by its length.
+#[derive(Drop)]
+pub struct StoredPacket {
+    bytes: Vec<u8>,
+    colour: u8,
+    next: [u8; 4],
+}
+
+impl Model for StoredPacket {
+    ghost use Rattle.std.specs.Prelude.{◌≤◌, length};
+    ghost use Rattle.click_packet.specs.Packet.{Packet as Seen, longest_packet};
+
+    ghost Value = { Seen };
+
+    ghost invariant = { λ p. length p.bytes.items ≤ longest_packet };
+
+    ghost view = { λ p. record { bytes = p.bytes.items; paint = p.colour; destination = p.next } };
+}
+
+impl StoredPacket {
+    /// What is kept of a packet.
+    pub fn of(alloc: Global, packet: &Packet) -> Result<StoredPacket, AllocError>
+        ensures { IfOk result (λ stored. stored ≡ packet.now) }
+    {
+        Ok(StoredPacket {
+            bytes: Vec::from_slice(alloc, packet.bytes())?,
+            colour: packet.paint(),
+            next: packet.destination(),
+        })
+    }
+
+    /// An equal one.
+    pub fn copy(&self, alloc: Global) -> Result<StoredPacket, AllocError>
+        ensures { IfOk result (λ copy. copy ≡ self.now) }
+    {
+        Ok(StoredPacket {
+            bytes: Vec::from_slice(alloc, self.bytes.as_slice())?,
+            colour: self.colour,
+            next: self.next,
+        })
+    }
+
+    /// The bytes, at most 1,600.
+    pub fn bytes(&self) -> &[u8]
+        ensures value { result.now ≡ self.now.bytes }
+        ensures fits { length result.now ≤ longest_packet }
+    {
+        self.bytes.as_slice()
+    }
+
+    pub fn paint(&self) -> u8
+        ensures { result ≡ self.now.paint }
+    {
+        self.colour
+    }
+
+    pub fn destination(&self) -> [u8; 4]
+        ensures { result ≡ self.now.destination }
+    {
+        self.next
+    }
+
+    /// Makes the packet equal to this one. It takes no memory.
+    pub fn write_to(&self, packet: &mut Packet)
+        ensures { packet.new ≡ self.now }
+    {
+        match packet.fill(self.bytes.as_slice()) {
+            Ok(()) => {
+                packet.set_paint(self.colour);
+                packet.set_destination(self.next);
+            }
+            Err(_) => unreachable!(),
+        }
+    }
+}
+
+/// Memory for one packet of any length that is still to be kept.
+#[derive(Drop)]
+pub struct PacketRoom {
+    bytes: Vec<u8>,
+    ghost empty: { bytes.items ≡ [] },
+    ghost enough: { longest_packet ≤ vec_capacity bytes },
+}
+
+impl PacketRoom {
+    /// Room for 1,600 bytes.
+    pub fn new(alloc: Global) -> Result<PacketRoom, AllocError> {
+        Ok(PacketRoom {
+            bytes: Vec::with_capacity(alloc, LIMIT)?,
+        })
+    }
+
+    /// Keeps the packet, and gives back the memory that it does not need. It takes none.
+    pub fn keep(self, packet: &Packet) -> StoredPacket
+        ensures { result ≡ packet.now }
+    {
+        let PacketRoom { mut bytes } = self;
+        match bytes.extend_from_slice(packet.bytes()) {
+            Ok(()) => {}
+            Err(_) => unreachable!(),
+        }
+        bytes.shrink_to_fit();
+        StoredPacket {
+            bytes,
+            colour: packet.paint(),
+            next: packet.destination(),
+        }
+    }
+}
