@@ -16,7 +16,8 @@ pub enum AskFault {
 
 /// Where a session's calls go.
 pub trait Port {
-    ghost use Rattle.std.specs.Prelude.{Result};
+    ghost use Rattle.std.specs.Prelude.{Result, ◌≡◌, false};
+    ghost use Rattle.click_router.specs.Polls.{is_poll};
     ghost use Rattle.click_router.specs.declared.call.Call.{Call};
     ghost use Rattle.click_router.specs.declared.call.Reply.{Reply};
     ghost use Rattle.click_control.specs.declared.port.AskFault.{AskFault};
@@ -24,7 +25,8 @@ pub trait Port {
     /// What an ask does: the port before it, the call, the answer, and the port after it.
     ghost asks: { Self → Call → Result Reply AskFault → Self → Type 0 };
 
-    /// Answers one call.
+    /// Answers one call, which is no poll.
     fn ask(&mut self, alloc: Global, call: Call) -> Result<Reply, AskFault>
+        requires { is_poll call ≡ false }
         ensures { asks self.old call result self.new };
 }

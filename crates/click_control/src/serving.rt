@@ -1,6 +1,7 @@
 //! A whole session.
 
-ghost use Rattle.std.specs.Prelude.{◌≡◌, ◌++◌, ◌+◌, ◌-◌, ◌≤◌, ◌<◌, ◌^◌, ℕ, List, [], false, true, length, IfNone, IfOk, OnOk, OnErr};
+ghost use Rattle.std.specs.Prelude.{◌≡◌, ◌++◌, ◌+◌, ◌-◌, ◌≤◌, ◌<◌, ◌^◌, ℕ, List, [], false, true, length, IfNone, IfSome, IfOk, OnOk, OnErr};
+ghost use Rattle.click_router.specs.Polls.{is_poll};
 ghost use Rattle.click_control.specs.Serving.{Serves, ServesTurns, Answered, call_of};
 ghost use Rattle.click_control.specs.Taking.{Pending, GivesOne, to_come};
 ghost use Rattle.click_control.specs.Peers.{Input, Output, HasWritten};
@@ -204,6 +205,7 @@ fn call_of(
     command: Command,
 ) -> Result<(Option<Call>, Command), AllocError>
     ensures call { IfOk result (λ parts. parts.0 ≡ call_of readonly command) }
+    ensures no_poll { IfOk result (λ parts. IfSome parts.0 (λ c. is_poll c ≡ false)) }
     ensures replies { IfOk result (λ parts. (answer : Answer) → text_of parts.1 answer ≡ text_of command answer) }
 {
     match command {
@@ -256,6 +258,7 @@ fn copy(alloc: Global, bytes: &Sequence<u8>) -> Result<Sequence<u8>, AllocError>
 
 /// Asks the port, where there is a call.
 fn ask<P: Port>(alloc: Global, port: &mut P, call: Option<Call>) -> Answer
+    requires { IfSome call (λ c. is_poll c ≡ false) }
     ensures { Answered P.asks port.old call result port.new }
 {
     match call {

@@ -11,6 +11,7 @@ use Rattle.click_router.specs.declared.call.Call.{Call}
 use Rattle.click_router.specs.declared.call.Reply.{Reply}
 use Rattle.click_desk.specs.declared.entry.Entry.{Entry}
 use Rattle.click_desk.specs.History.{entries}
+use Rattle.click_rings.specs.Feeds.{FeedName}
 use Rattle.click_desk.specs.Sittings.{DeskName, Sitting, new_seat, seats_below}
 use Rattle.click_desk.specs.Closing.{IsEachOnce}
 
@@ -51,33 +52,33 @@ each_seated n seats es once none k d below =
     once at small
 
 -- new seats belong to their desk
-pub all_belong : (desk : DeskName) (n : ℕ) → All (λ s. s.desk ≡ desk) (seats_below desk n)
-all_belong desk zero = λ k d below. absurd (omega arith)
-all_belong desk (suc n) = All-push (λ s. s.desk ≡ desk) (seats_below desk n) (new_seat desk n) (all_belong desk n) refl
+pub all_belong : (desk : DeskName) (feeds : List FeedName) (n : ℕ) → All (λ s. s.desk ≡ desk) (seats_below desk feeds n)
+all_belong desk feeds zero = λ k d below. absurd (omega arith)
+all_belong desk feeds (suc n) = All-push (λ s. s.desk ≡ desk) (seats_below desk feeds n) (new_seat desk feeds n) (all_belong desk feeds n) refl
 
 -- how often a number stands there, one seat more
 count_more : (k : ℕ) (xs : List Sitting) (x : Sitting) → count_by (λ s. s.number == k) (xs ++ x ∷ []) ≡ count_by (λ s. s.number == k) xs + cond (x.number == k) 1 0
 count_more k xs x = sum_by_push (λ (s : Sitting). cond (s.number == k) 1 0) xs x
 
-count_above : (desk : DeskName) (n k : ℕ) → n ≤ k → count_by (λ s. s.number == k) (seats_below desk n) ≡ 0
-count_above desk zero k above = refl
-count_above desk (suc n) k above =
-    let e = count_above desk n k (omega arith) in
+count_above : (desk : DeskName) (feeds : List FeedName) (n k : ℕ) → n ≤ k → count_by (λ s. s.number == k) (seats_below desk feeds n) ≡ 0
+count_above desk feeds zero k above = refl
+count_above desk feeds (suc n) k above =
+    let e = count_above desk feeds n k (omega arith) in
     let other : (n == k) ≡ false = grind (arith, nat_tests) in
-    count_more k (seats_below desk n) (new_seat desk n) ∙ (ap (λ a. a + cond (n == k) 1 0) e ∙ ap (λ b. 0 + cond b 1 0) other)
+    count_more k (seats_below desk feeds n) (new_seat desk feeds n) ∙ (ap (λ a. a + cond (n == k) 1 0) e ∙ ap (λ b. 0 + cond b 1 0) other)
 
-count_here : (desk : DeskName) (n k : ℕ) → ((k < n) ⊎ (n ≤ k)) → k < suc n → IsEachOnce n (seats_below desk n) → count_by (λ s. s.number == k) (seats_below desk (suc n)) ≡ 1
-count_here desk n k (inl less) below once =
+count_here : (desk : DeskName) (feeds : List FeedName) (n k : ℕ) → ((k < n) ⊎ (n ≤ k)) → k < suc n → IsEachOnce n (seats_below desk feeds n) → count_by (λ s. s.number == k) (seats_below desk feeds (suc n)) ≡ 1
+count_here desk feeds n k (inl less) below once =
     let other : (n == k) ≡ false = grind (arith, nat_tests) in
-    count_more k (seats_below desk n) (new_seat desk n) ∙ (ap (λ a. a + cond (n == k) 1 0) (once k less) ∙ ap (λ b. 1 + cond b 1 0) other)
-count_here desk n k (inr above) below once =
+    count_more k (seats_below desk feeds n) (new_seat desk feeds n) ∙ (ap (λ a. a + cond (n == k) 1 0) (once k less) ∙ ap (λ b. 1 + cond b 1 0) other)
+count_here desk feeds n k (inr above) below once =
     let same : (n == k) ≡ true = grind (arith, nat_tests) in
-    count_more k (seats_below desk n) (new_seat desk n) ∙ (ap (λ a. a + cond (n == k) 1 0) (count_above desk n k above) ∙ ap (λ b. 0 + cond b 1 0) same)
+    count_more k (seats_below desk feeds n) (new_seat desk feeds n) ∙ (ap (λ a. a + cond (n == k) 1 0) (count_above desk feeds n k above) ∙ ap (λ b. 0 + cond b 1 0) same)
 
 -- new seats have each number once
-pub new_once : (desk : DeskName) (n : ℕ) → IsEachOnce n (seats_below desk n)
-new_once desk zero = λ k below. absurd (omega arith)
-new_once desk (suc n) = λ k below. count_here desk n k (cases_lt k n) below (new_once desk n)
+pub new_once : (desk : DeskName) (feeds : List FeedName) (n : ℕ) → IsEachOnce n (seats_below desk feeds n)
+new_once desk feeds zero = λ k below. absurd (omega arith)
+new_once desk feeds (suc n) = λ k below. count_here desk feeds n k (cases_lt k n) below (new_once desk feeds n)
 
 count_numbers : (k : ℕ) (xs : List Sitting) → count_by (λ s. s.number == k) xs ≡ count_by (λ m. m == k) (map (λ (s : Sitting). s.number) xs)
 count_numbers k [] = refl

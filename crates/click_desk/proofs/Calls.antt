@@ -7,8 +7,11 @@ use Rattle.click_desk.specs.Booking.{Booking}
 use Rattle.click_desk.specs.declared.booked.DeskFault.{DeskFault}
 use Rattle.click_desk.specs.declared.booked.DeskFault.TheVariants.{HistoryFull}
 use Rattle.click_desk.specs.declared.entry.Entry.{Entry}
-use Rattle.click_desk.specs.declared.terms.Terms.{Terms}
+use Rattle.click_desk.specs.declared.charter.Charter.{Charter}
 use Rattle.click_desk.specs.declared.view.View.{View}
+use Rattle.click_desk.specs.Charters.{terms_of}
+use Rattle.click_desk.specs.Polls.{poll, Polls, MayTake}
+use Rattle.click_packet.specs.Packet.{Packet}
 use Rattle.click_desk.specs.History.{entry, entries, Legal}
 use Rattle.click_desk.specs.Views.{seated, taken, given, Finds, Takes, Gives, MayGive}
 use Rattle.click_desk.specs.Sittings.{Sitting, IsSeat, Calls as HasCalled, IsRefused}
@@ -22,7 +25,7 @@ pub record Enters (b b2 : Booking) (n : ℕ) (calls calls2 : List (Call × Reply
   pub err : OnErr result ((b2 ≡ b) × (calls2 ≡ calls))
   pub full : (result ≡ Err HistoryFull) ↔ (b.terms.room ≤ length b.entries)
 
-may_give_at : (t : Terms) (n : ℕ) (calls : List (Call × Reply)) (seen : List Entry) (b b2 : Booking) (calls2 : List (Call × Reply)) (call : Call) (result : Result Reply DeskFault)
+may_give_at : (t : Charter) (n : ℕ) (calls : List (Call × Reply)) (seen : List Entry) (b b2 : Booking) (calls2 : List (Call × Reply)) (call : Call) (result : Result Reply DeskFault)
     → n < t.seats → Finds (seated t n calls seen) b → Enters b b2 n calls calls2 call result → MayGive (taken (seated t n calls seen) b) b2
 may_give_at t n calls seen b b2 calls2 call (Ok reply) made finds enters = record {
   opened = refl;
@@ -66,7 +69,7 @@ own_at n calls b b2 calls2 call (Err fault) own enters = ap (λ (x : Booking). e
 
 -- a seat as contracts see it, by its pass
 abbrev pub sitting : TableId → ℕ → List (Call × Reply) → View → Sitting
-sitting table n calls v = record { desk = record { table = table; terms = v.terms }; number = n; calls = calls; seen = v.seen }
+sitting table n calls v = record { desk = record { table = table; terms = terms_of v.terms }; feeds = v.terms.feeds; number = n; calls = calls; seen = v.seen }
 
 pub own : (n : ℕ) (calls : List (Call × Reply)) (v v1 : View) (b b2 : Booking) (calls2 : List (Call × Reply)) (call : Call) (result : Result Reply DeskFault)
     → v ≡ seated v.terms n calls v.seen → Takes v b v1 → Enters b b2 n calls calls2 call result → entries b2.entries n ≡ calls2
@@ -83,7 +86,7 @@ sound table n calls v v1 v2 b b2 calls2 call result is made takes enters gives =
     let here : IsSeat (sitting table n calls2 (seated b2.terms n calls2 b2.entries)) = record {
       legal = (b2.state, enters.legal);
       own = mine;
-      made = subst (λ (t : Terms). n < t.seats) (sym (enters.terms ∙ takes.1.0)) made;
+      made = subst (λ (t : Charter). n < t.seats) (sym (enters.terms ∙ takes.1.0)) made;
     } in (
       at ∙ ap (λ (y : View). seated y.terms n calls2 y.seen) (sym at),
       subst (λ (y : View). IsSeat (sitting table n calls2 y)) (sym at) here,
@@ -118,7 +121,40 @@ refuses table table2 n calls v v1 v2 b b2 calls2 call (Err fault) is made takes 
           let room = enters.full.0 (ap (λ f. Err f) e) in
           let within = takes.1.2 in
           let len = ap length (seen ∙ same) in
-          let rooms = ap (λ (t : Terms). t.room) terms in
+          let rooms = ap (λ (t : Charter). t.room) terms in
           omega arith;
       sound = (sound table2 n calls v v1 v2 b b2 calls2 call (Err fault) is made takes enters gives).1;
+    }
+
+-- what an entering of a poll says
+pub record EntersPoll (b b2 : Booking) (n : ℕ) (calls calls2 : List (Call × Reply)) (device : List ℕ) (limit : ℕ) (result : Result Reply DeskFault) : Type 0 where
+  pub terms : b2.terms ≡ b.terms
+  pub legal : Legal b2.terms.opening b2.entries b2.state
+  pub ok : IfOk result (λ reply. (taken : List Packet) × MayTake b2.terms.feeds device limit taken reply × (b2.entries ≡ b.entries ++ entry n (poll device taken) reply ∷ []) × (calls2 ≡ calls ++ (poll device taken, reply) ∷ []) × (length b2.entries ≤ b2.terms.room))
+  pub err : OnErr result ((b2 ≡ b) × (calls2 ≡ calls))
+  pub full : (result ≡ Err HistoryFull) ↔ (b.terms.room ≤ length b.entries)
+
+-- it is the entering of some call, which is a poll where the poll was entered
+abbrev pub SomeCall : Booking → Booking → ℕ → List (Call × Reply) → List (Call × Reply) → List ℕ → ℕ → Result Reply DeskFault → Type 0
+SomeCall b b2 n calls calls2 device limit result =
+    (call : Call) × Enters b b2 n calls calls2 call result × IfOk result (λ reply. (taken : List Packet) × (call ≡ poll device taken) × MayTake b2.terms.feeds device limit taken reply)
+
+pub as_call : (b b2 : Booking) (n : ℕ) (calls calls2 : List (Call × Reply)) (device : List ℕ) (limit : ℕ) (result : Result Reply DeskFault)
+    → EntersPoll b b2 n calls calls2 device limit result → SomeCall b b2 n calls calls2 device limit result
+as_call b b2 n calls calls2 device limit (Ok reply) e =
+    (poll device e.ok.0, record { terms = e.terms; legal = e.legal; ok = (e.ok.2, e.ok.3, e.ok.4); err = e.err; full = e.full }, (e.ok.0, refl, e.ok.1))
+as_call b b2 n calls calls2 device limit (Err fault) e =
+    (poll device [], record { terms = e.terms; legal = e.legal; ok = tt; err = e.err; full = e.full }, tt)
+
+pub polls : (table table2 : TableId) (n : ℕ) (calls : List (Call × Reply)) (v v1 v2 : View) (b b2 : Booking) (calls2 : List (Call × Reply)) (device : List ℕ) (limit : ℕ) (result : Result Reply DeskFault)
+    → v ≡ seated v.terms n calls v.seen → n < v.terms.seats → Takes v b v1 → SomeCall b b2 n calls calls2 device limit result → Gives v1 b2 v2
+    → IfOk result (λ reply. Polls (sitting table n calls v) (sitting table2 n calls2 v2) device limit reply)
+polls table table2 n calls v v1 v2 b b2 calls2 device limit (Err fault) is made takes some gives = tt
+polls table table2 n calls v v1 v2 b b2 calls2 device limit (Ok reply) is made takes some gives =
+    let call = some.0 in
+    let terms : v2.terms ≡ b2.terms = ap (λ (y : View). y.terms) (settled n calls v v1 v2 b b2 is takes gives) in
+    let all = answers table table2 n calls v v1 v2 b b2 calls2 call (Ok reply) is made takes some.1 gives in record {
+      taken = some.2.0;
+      may = subst (λ (t : Charter). MayTake t.feeds device limit some.2.0 reply) (sym terms) some.2.2;
+      calls = subst (λ (x : Call). HasCalled (sitting table n calls v) (sitting table2 n calls2 v2) x reply) some.2.1 all;
     }

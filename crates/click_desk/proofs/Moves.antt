@@ -7,7 +7,7 @@ use Rattle.crossbeam_queue.specs.Fifo.{Pushes, Pops, Forks, Merges, Learns}
 use Rattle.crossbeam_queue.proofs.Lists.{at_set, at_longer, set_else}
 use Rattle.click_desk.specs.Booking.{Booking}
 use Rattle.click_desk.specs.declared.entry.Entry.{Entry}
-use Rattle.click_desk.specs.declared.terms.Terms.{Terms}
+use Rattle.click_desk.specs.declared.charter.Charter.{Charter}
 use Rattle.click_desk.specs.declared.view.View.{View}
 use Rattle.click_desk.specs.History.{entries, StartsWith}
 use Rattle.click_desk.specs.Views.{first, nobody, agent, holding, taken, given, Takes, Gives, MayGive, one_more, next_seat, met, parted, Audits}
@@ -60,7 +60,7 @@ held_fork views port v left right holder at same h =
     let s = held_set views port v left holder at same h in
     (s.0, at_longer (set views port left) (right ∷ []) holder s.0 s.1, s.2)
 
-place_same : (items : List Booking) (views later : List View) (history : List Entry) (terms : Terms) (holder : ℕ) → (IsHeld views holder → IsHeld later holder) → Place items views history terms holder → Place items later history terms holder
+place_same : (items : List Booking) (views later : List View) (history : List Entry) (terms : Charter) (holder : ℕ) → (IsHeld views holder → IsHeld later holder) → Place items views history terms holder → Place items later history terms holder
 place_same items views later history terms holder f (inl h) = inl (h.0, f h.1)
 place_same items views later history terms holder f (inr h) = inr h
 
@@ -68,7 +68,7 @@ cons_nil : (x : Booking) (items : List Booking) → x ∷ items ≡ [] → ⊥
 cons_nil x items e = cc
 
 -- what a pop finds
-found : (x : Booking) (items : List Booking) (views : List View) (history : List Entry) (terms : Terms) (holder : ℕ) → Place (x ∷ items) views history terms holder → (items ≡ []) × (x.terms ≡ terms) × (x.entries ≡ history)
+found : (x : Booking) (items : List Booking) (views : List View) (history : List Entry) (terms : Charter) (holder : ℕ) → Place (x ∷ items) views history terms holder → (items ≡ []) × (x.terms ≡ terms) × (x.entries ≡ history)
 found x items views history terms holder (inl h) = absurd (cons_nil x items h.0)
 found x items views history terms holder (inr h) =
     let e = h.1 in
@@ -127,9 +127,9 @@ takes pass v opened x items views rule at =
         (
           p.1 ∙ sym (f.knows opened),
           subst (λ (h : List Entry). StartsWith h v.seen) (sym p.2) f.seen,
-          subst (λ (y : List Entry × Terms). length y.0 ≤ y.1.room) (λ i. (sym p.2 i, sym p.1 i)) k.within,
+          subst (λ (y : List Entry × Charter). length y.0 ≤ y.1.room) (λ i. (sym p.2 i, sym p.1 i)) k.within,
           (λ t. ap (λ h. entries h v.number) p.2 ∙ (f.acts t).1),
-          (λ n le. ap (λ h. entries h n) p.2 ∙ k.numbered n (subst (λ (t : Terms). t.seats ≤ n) (f.knows opened) le)),
+          (λ n le. ap (λ h. entries h n) p.2 ∙ k.numbered n (subst (λ (t : Charter). t.seats ≤ n) (f.knows opened) le)),
         ),
       ),
     )
@@ -142,7 +142,7 @@ gives n pass v x m items views room rule at =
     let h = f.holds m.holds in
     let owns = (f.acts m.acts).0 in
     let xt : x.terms ≡ k.terms = m.terms ∙ f.knows m.opened in
-    let seats : v.terms.seats ≡ k.terms.seats = ap (λ (t : Terms). t.seats) (f.knows m.opened) in
+    let seats : v.terms.seats ≡ k.terms.seats = ap (λ (t : Charter). t.seats) (f.knows m.opened) in
     let longer : StartsWith x.entries k.history = subst (λ (s : List Entry). StartsWith x.entries s) h.3 m.longer in
     let same : (i : ℕ) → i ≢ v.number → entries x.entries i ≡ entries k.history i = λ i apart. m.others i apart ∙ ap (λ s. entries s i) h.3 in
     let w : View = given v x in
@@ -170,7 +170,7 @@ gives n pass v x m items views room rule at =
         owner = k.owner;
         holder = k.holder;
         place = inr (x, ap (λ l. l ++ x ∷ []) h.1, xt, refl);
-        within = subst (λ (t : Terms). length x.entries ≤ t.room) xt m.within;
+        within = subst (λ (t : Charter). length x.entries ≤ t.room) xt m.within;
         numbered = λ i le. let small = m.number in same i (omega arith) ∙ k.numbered i le;
         fits = all_set F views pass w mine others;
       }),

@@ -1,5 +1,6 @@
 -- A closed desk's book as contracts see it.
 use Rattle.std.specs.Prelude.{ℕ, List}
+use Rattle.click_rings.specs.Feeds.{Drawing}
 use Rattle.click_router.specs.State.{RouterState}
 use Rattle.click_desk.specs.declared.entry.Entry.{Entry}
 use Rattle.click_desk.specs.Sittings.{Sitting}
@@ -9,3 +10,4 @@ pub record Booklet : Type 0 where
   pub entries : List Entry
   pub router : RouterState
   pub seats : List Sitting
+  pub taps : List Drawing

@@ -1,9 +1,11 @@
 -- What a closed desk's book says.
-use Rattle.std.specs.Prelude.{◌≡◌, ℕ, ◌<◌, ◌==◌, List, count_by}
+use Rattle.std.specs.Prelude.{◌≡◌, ℕ, ◌<◌, ◌==◌, List, count_by, map, slice_index_or}
 use Rattle.std.specs.List.{All}
 use Rattle.click_desk.specs.declared.entry.Entry.{Entry}
 use Rattle.click_desk.specs.Booklet.{Booklet}
 use Rattle.click_desk.specs.History.{Legal, entries, StartsWith, installs, EachLawful}
+use Rattle.click_rings.specs.Feeds.{name_of}
+use Rattle.click_desk.specs.Polls.{IsPolled}
 use Rattle.click_desk.specs.Sittings.{DeskName, Sitting}
 
 -- each seat number below n stands there once
@@ -22,3 +24,5 @@ pub record Closes (desk : DeskName) (seats : List Sitting) (book : Booklet) : Ty
   pub lawful : EachLawful (installs book.opening book.entries)
   pub entered : All (IsEntered book.entries) seats
   pub numbered : All (λ e. count_by (λ s. s.number == e.seat) seats ≡ 1) book.entries
+  pub feeds : (s : Sitting) → (slice_index_or seats 0 s).feeds ≡ map name_of book.taps
+  pub polled : IsPolled book.entries book.taps

@@ -4,14 +4,14 @@ use mathlib.Core.Option.{some}
 use lib.ListN.{get_elem?}
 use Rattle.click_desk.specs.Booking.{Booking}
 use Rattle.click_desk.specs.declared.entry.Entry.{Entry}
-use Rattle.click_desk.specs.declared.terms.Terms.{Terms}
+use Rattle.click_desk.specs.declared.charter.Charter.{Charter}
 use Rattle.click_desk.specs.declared.view.View.{View}
 use Rattle.click_desk.specs.History.{entries, StartsWith}
 use Rattle.click_desk.specs.Views.{first}
 
 -- what one pass knows fits the history: the terms, what it has seen, that it holds the booked router alone,
 -- that the entries of its seat are those that it knows as its own, and that a seat that is not yet made has none
-pub record Fits (items : List Booking) (history : List Entry) (terms : Terms) (owner : ℕ → ℕ) (holder pass : ℕ) (v : View) : Type 0 where
+pub record Fits (items : List Booking) (history : List Entry) (terms : Charter) (owner : ℕ → ℕ) (holder pass : ℕ) (v : View) : Type 0 where
   pub knows : v.opened ≡ true → v.terms ≡ terms
   pub seen : StartsWith history v.seen
   pub back : StartsWith history v.back
@@ -23,7 +23,7 @@ abbrev pub IsHeld : List View → ℕ → Type 0
 IsHeld views holder = (v : View) × (get_elem? views holder ≡ some v) × (v.holds ≡ true)
 
 -- the booked router is in the queue, with this history, or a pass holds it and the queue is empty
-abbrev pub Place : List Booking → List View → List Entry → Terms → ℕ → Type 0
+abbrev pub Place : List Booking → List View → List Entry → Charter → ℕ → Type 0
 Place items views history terms holder =
     ((items ≡ []) × IsHeld views holder) ⊎ ((b : Booking) × (items ≡ b ∷ []) × (b.terms ≡ terms) × (b.entries ≡ history))
 
@@ -32,7 +32,7 @@ All F views = (pass : ℕ) (v : View) → get_elem? views pass ≡ some v → F 
 
 pub record Kept (items : List Booking) (views : List View) : Type 0 where
   pub history : List Entry
-  pub terms : Terms
+  pub terms : Charter
   pub owner : ℕ → ℕ
   pub holder : ℕ
   pub place : Place items views history terms holder

@@ -1,6 +1,7 @@
 -- Desks and seats as contracts see them.
 use Rattle.std.specs.Prelude.{◌≡◌, ℕ, zero, suc, ◌<◌, List, [], ◌∷◌, ◌++◌, length}
 use Rattle.atomic_table.specs.Seated.{TableId}
+use Rattle.click_rings.specs.Feeds.{FeedName}
 use Rattle.click_router.specs.declared.call.Call.{Call}
 use Rattle.click_router.specs.declared.call.Reply.{Reply}
 use Rattle.click_desk.specs.declared.entry.Entry.{Entry}
@@ -14,9 +15,10 @@ pub record DeskName : Type 0 where
   pub table : TableId
   pub terms : Terms
 
--- a seat: the desk that it belongs to, its number, the calls that it made with their replies, and the history as far as it has seen it
+-- a seat: the desk that it belongs to, with the desk's feeds, its number, the calls that it made with their replies, and the history as far as it has seen it
 pub record Sitting : Type 0 where
   pub desk : DeskName
+  pub feeds : List FeedName
   pub number : ℕ
   pub calls : List (Call × Reply)
   pub seen : List Entry
@@ -42,10 +44,10 @@ pub record IsRefused (old new : Sitting) (fault : DeskFault) : Type 0 where
   pub sound : IsSeat new
 
 -- a seat that has made no call
-abbrev pub new_seat : DeskName → ℕ → Sitting
-new_seat desk number = record { desk = desk; number = number; calls = []; seen = [] }
+abbrev pub new_seat : DeskName → List FeedName → ℕ → Sitting
+new_seat desk feeds number = record { desk = desk; feeds = feeds; number = number; calls = []; seen = [] }
 
 -- the new seats with the numbers below n, in order
-abbrev pub seats_below : DeskName → ℕ → List Sitting
-seats_below desk zero = []
-seats_below desk (suc n) = seats_below desk n ++ new_seat desk n ∷ []
+abbrev pub seats_below : DeskName → List FeedName → ℕ → List Sitting
+seats_below desk feeds zero = []
+seats_below desk feeds (suc n) = seats_below desk feeds n ++ new_seat desk feeds n ∷ []

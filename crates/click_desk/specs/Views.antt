@@ -4,12 +4,12 @@ use Rattle.click_router.specs.declared.call.Call.{Call}
 use Rattle.click_router.specs.declared.call.Reply.{Reply}
 use Rattle.click_desk.specs.Booking.{Booking}
 use Rattle.click_desk.specs.declared.entry.Entry.{Entry}
-use Rattle.click_desk.specs.declared.terms.Terms.{Terms}
+use Rattle.click_desk.specs.declared.charter.Charter.{Charter}
 use Rattle.click_desk.specs.declared.view.View.{View}
 use Rattle.click_desk.specs.History.{entries, StartsWith}
 
-abbrev pub no_terms : Terms
-no_terms = record { opening = []; room = 0; seats = 0 }
+abbrev pub no_terms : Charter
+no_terms = record { opening = []; room = 0; seats = 0; feeds = [] }
 
 -- the first pass holds the empty history before the terms are known, and is to make every seat
 abbrev pub first : View
@@ -20,19 +20,19 @@ abbrev pub nobody : View
 nobody = record { opened = false; terms = no_terms; holds = false; makes = false; made = 0; acts = false; number = 0; mine = []; seen = []; back = [] }
 
 -- the pass that has made the seats below a number
-abbrev pub maker : Terms → ℕ → List Entry → View
+abbrev pub maker : Charter → ℕ → List Entry → View
 maker terms made seen = record { opened = true; terms = terms; holds = false; makes = true; made = made; acts = false; number = 0; mine = []; seen = seen; back = [] }
 
 -- the pass of a seat
-abbrev pub seated : Terms → ℕ → List (Call × Reply) → List Entry → View
+abbrev pub seated : Charter → ℕ → List (Call × Reply) → List Entry → View
 seated terms number mine seen = record { opened = true; terms = terms; holds = false; makes = false; made = 0; acts = true; number = number; mine = mine; seen = seen; back = [] }
 
 -- a pass of no seat, which may take the booked router and never gives it back
-abbrev pub agent : Terms → View
+abbrev pub agent : Charter → View
 agent terms = record { opened = true; terms = terms; holds = false; makes = false; made = 0; acts = false; number = 0; mine = []; seen = []; back = [] }
 
 -- the same with the booked router, whose history is the whole one
-abbrev pub holding : Terms → List Entry → View
+abbrev pub holding : Charter → List Entry → View
 holding terms seen = record { opened = true; terms = terms; holds = true; makes = false; made = 0; acts = false; number = 0; mine = []; seen = seen; back = [] }
 
 -- after it took the booked router

@@ -1,24 +1,92 @@
 //! What is left of a closed desk.
 
+ghost use Rattle.std.specs.Prelude.{◌≡◌, ◌++◌, ◌↔◌, map, true, false, IfOk, IfErr, OnOk};
+ghost use Rattle.std.specs.List.{All};
+ghost use Rattle.click_rings.specs.Feeds.{name_of, has_feed};
+ghost use Rattle.click_desk.specs.Polls.{polled, without};
+
 use crate::entry::Entry;
 use crate::seat::Seat;
+use click_packet::StoredPacket;
+use click_rings::{FeedEnd, Tap, place_of};
 use click_router::Router;
 use click_text::sequence::Sequence;
+use std::alloc::Global;
 use std::marker::Model;
+use thiserror::Error;
 
-/// A closed desk: the text that it was opened with, all calls with their replies, the router that they lead to, and the seats that made them.
+/// A closed desk: the text that it was opened with, all calls with their replies, the router that they lead to, the seats that made them, and the feeds that are
+/// not settled.
 #[derive(Drop)]
 pub struct Book<T> {
     pub opening: Sequence<u8>,
     pub entries: Vec<Entry>,
     pub router: Router<T>,
     pub seats: Vec<Seat<T>>,
+    pub(crate) taps: Vec<Tap>,
 }
 
 impl<T> Model for Book<T> {
+    ghost use Rattle.std.specs.Prelude.{◌≡◌, map, true};
+    ghost use Rattle.click_rings.specs.Feeds.{name_of, are_apart};
     ghost use Rattle.click_desk.specs.Booklet.{Booklet};
+    ghost use Rattle.click_desk.specs.Polls.{IsPolled};
 
     ghost Value = { Booklet };
 
-    ghost view = { λ b. record { opening = b.opening; entries = b.entries.items; router = b.router; seats = b.seats.items } };
+    ghost view = { λ b. record { opening = b.opening; entries = b.entries.items; router = b.router; seats = b.seats.items; taps = b.taps.items } };
+
+    ghost invariant = { λ b. IsPolled b.entries.items b.taps.items × (are_apart (map name_of b.taps.items) ≡ true) };
+}
+
+/// Why a feed was not settled.
+#[derive(Clone, Copy, Debug, PartialEq, Eq, Error)]
+pub enum SettleFault {
+    /// The desk had no feed of the device, or it is settled already.
+    #[error("no such feed")]
+    NoFeed,
+    #[error("out of memory")]
+    NoMemory,
+}
+
+/// The end that was handed in, and why it was not settled.
+#[derive(Drop)]
+pub struct SettleRefused {
+    pub end: FeedEnd,
+    pub fault: SettleFault,
+}
+
+impl<T> Book<T> {
+    /// The packets that the feed of this device put and that no poll took. The end is of that feed.
+    pub fn settle(
+        &mut self,
+        alloc: Global,
+        device: &[u8],
+        mut end: FeedEnd,
+    ) -> Result<Vec<StoredPacket>, SettleRefused>
+        requires { All (λ t. t.device ≡ device.now → t.ring ≡ end.ring) self.old.taps }
+        ensures left { IfOk result (λ left. end.put ≡ polled self.old.entries device.now ++ left.items) }
+        ensures settled { OnOk result (self.new ≡ record self.old { taps = without device.now self.old.taps }) }
+        ensures refused { IfErr result (λ r. (r.end ≡ end) × (self.new ≡ self.old)) }
+        ensures unknown { IfErr result (λ r. (r.fault ≡ SettleFault.NoFeed) ↔ (has_feed device.now (map name_of self.old.taps) ≡ false)) }
+        ensures known { OnOk result (has_feed device.now (map name_of self.old.taps) ≡ true) }
+    {
+        let Some(place) = place_of(self.taps.as_slice(), device) else {
+            return Err(SettleRefused {
+                end,
+                fault: SettleFault::NoFeed,
+            });
+        };
+        let left = match self.taps[place].drain(alloc, &mut end) {
+            Ok(left) => left,
+            Err(_) => {
+                return Err(SettleRefused {
+                    end,
+                    fault: SettleFault::NoMemory,
+                });
+            }
+        };
+        let _settled = self.taps.remove(place);
+        Ok(left)
+    }
 }

@@ -1,14 +1,20 @@
 //! The router with its history, as one value.
 
-ghost use Rattle.std.specs.Prelude.{◌≡◌, ◌≤◌, ◌++◌, ◌∷◌, ◌↔◌, [], length, IfOk, IfErr, OnOk, OnErr, Ok, Err, MatchResult, true, is_some, vec_len, vec_capacity};
+ghost use Rattle.std.specs.Prelude.{◌≡◌, ◌≤◌, ◌++◌, ◌∷◌, ◌↔◌, [], length, map, false, IfOk, IfErr, OnOk, OnErr, Ok, Err, MatchResult, true, is_some, vec_len, vec_capacity};
+ghost use Rattle.std.specs.List.{All};
+ghost use Rattle.click_rings.specs.Feeds.{name_of, are_apart};
 ghost use Rattle.click_router.specs.One.{is_transmit, sends_packet, holds_memory};
+ghost use Rattle.click_router.specs.Polls.{is_poll};
 ghost use Rattle.click_router.specs.Opened.{IsOpened};
+ghost use Rattle.click_desk.specs.Charters.{charter_of};
 ghost use Rattle.click_desk.specs.History.{entry, Legal};
+ghost use Rattle.click_desk.specs.Polls.{IsPolled};
 
 use crate::entry::Entry;
 use crate::recorded::Recorded;
 use crate::terms::Terms;
 use click_packet::PacketRoom;
+use click_rings::Tap;
 use click_router::{Call, Handlers, Reply, Router};
 use std::alloc::{AllocError, Global};
 use std::marker::Model;
@@ -24,54 +30,66 @@ pub enum DeskFault {
     HistoryFull,
 }
 
-/// A router and its history, which leads from the opening text to it.
+/// A router and its history, which leads from the opening text to it, with the feeds from which was drawn what the history polled.
 #[derive(Drop)]
 pub struct Booked<T> {
-    terms: Terms,
-    entries: Vec<Entry>,
-    router: Router<T>,
+    pub(crate) terms: Terms,
+    pub(crate) entries: Vec<Entry>,
+    pub(crate) router: Router<T>,
+    pub(crate) taps: Vec<Tap>,
 }
 
 impl<T> Model for Booked<T> {
+    ghost use Rattle.std.specs.Prelude.{◌≡◌, map, true};
+    ghost use Rattle.click_rings.specs.Feeds.{name_of, are_apart};
     ghost use Rattle.click_desk.specs.Booking.{Booking};
+    ghost use Rattle.click_desk.specs.Charters.{charter_of};
     ghost use Rattle.click_desk.specs.History.{Legal};
+    ghost use Rattle.click_desk.specs.Polls.{IsPolled};
 
     ghost Value = { Booking };
 
-    ghost view = { λ b. record { terms = b.terms; entries = b.entries.items; state = b.router } };
+    ghost view = { λ b. record { terms = charter_of b.terms (map name_of b.taps.items); entries = b.entries.items; state = b.router; taps = b.taps.items } };
 
-    ghost invariant = { λ b. Legal b.terms.opening b.entries.items b.router };
+    ghost invariant = { λ b. Legal b.terms.opening b.entries.items b.router × IsPolled b.entries.items b.taps.items × (are_apart (map name_of b.taps.items) ≡ true) };
 }
 
 impl<T> Booked<T> {
-    /// A router of this text, with an empty history.
-    pub fn new(alloc: Global, terms: Terms, router: Router<T>) -> Booked<T>
-        requires { IsOpened terms.opening router }
-        ensures { (result.terms ≡ terms) × (result.entries ≡ []) × (result.state ≡ router) }
+    /// A router of this text, with an empty history, and feeds from which nothing was drawn.
+    pub fn new(alloc: Global, terms: Terms, router: Router<T>, taps: Vec<Tap>) -> Booked<T>
+        requires opened { IsOpened terms.opening router }
+        requires apart { are_apart (map name_of taps.items) ≡ true }
+        requires fresh { All (λ t. t.drawn ≡ []) taps.items }
+        ensures { (result.terms ≡ charter_of terms (map name_of taps.items)) × (result.entries ≡ []) × (result.state ≡ router) }
     {
         Booked {
             terms,
             entries: Vec::new(alloc),
             router,
+            taps,
         }
     }
 
     /// Its parts.
-    pub fn into_parts(self) -> (Terms, Vec<Entry>, Router<T>)
-        ensures parts { (result.0 ≡ self.terms) × (result.1.items ≡ self.entries) × (result.2 ≡ self.state) }
+    pub fn into_parts(self) -> (Terms, Vec<Entry>, Router<T>, Vec<Tap>)
+        ensures terms { self.terms ≡ charter_of result.0 (map name_of result.3.items) }
+        ensures parts { (result.1.items ≡ self.entries) × (result.2 ≡ self.state) × (result.3.items ≡ self.taps) }
         ensures legal { Legal self.terms.opening self.entries self.state }
+        ensures polled { IsPolled self.entries self.taps }
+        ensures apart { are_apart (map name_of self.taps) ≡ true }
     {
         let Booked {
             terms,
             entries,
             router,
+            taps,
         } = self;
-        (terms, entries, router)
+        (terms, entries, router, taps)
     }
 }
 
 /// Room for a packet in the history and in a seat's list.
-type Rooms = (Option<PacketRoom>, Option<PacketRoom>);
+pub(crate) type Rooms = (Option<PacketRoom>, Option<PacketRoom>);
 
 /// Room for the packet that the call may send.
 fn rooms_for(alloc: Global, call: &Call) -> Result<Rooms, AllocError>
@@ -84,7 +102,7 @@ fn rooms_for(alloc: Global, call: &Call) -> Result<Rooms, AllocError>
 }
 
 /// What is kept of a reply, in the history and in a seat's list.
-fn recorded_twice(
+pub(crate) fn recorded_twice(
     alloc: Global,
     reply: &Reply,
     rooms: Rooms,
@@ -99,7 +117,7 @@ fn recorded_twice(
 }
 
 impl<T: Handlers> Booked<T> {
-    /// One call of the seat with this number, entered in the history and in the seat's list. All memory is taken before the router changes.
+    /// One call of the seat with this number, which is no poll, entered in the history and in the seat's list. All memory is taken before the router changes.
     pub fn enter(
         &mut self,
         alloc: Global,
@@ -107,8 +125,10 @@ impl<T: Handlers> Booked<T> {
         calls: &mut Vec<(Call, Recorded)>,
         call: Call,
     ) -> Result<Reply, DeskFault>
+        requires { is_poll call ≡ false }
         ensures terms { self.new.terms ≡ self.old.terms }
         ensures legal { Legal self.new.terms.opening self.new.entries self.new.state }
+        ensures polled { IsPolled self.new.entries self.new.taps }
         ensures ok { IfOk result (λ reply. (self.new.entries ≡ self.old.entries ++ entry number call reply ∷ []) × (calls.new.items ≡ calls.old.items ++ (call, reply) ∷ []) × (length self.new.entries ≤ self.new.terms.room)) }
         ensures err { OnErr result ((self.new ≡ self.old) × (calls.new.items ≡ calls.old.items)) }
         ensures full { (result ≡ Err DeskFault.HistoryFull) ↔ (self.old.terms.room ≤ length self.old.entries) }

@@ -5,6 +5,8 @@ ghost use Rattle.std.specs.List.{All};
 ghost use Rattle.crossbeam_queue.specs.Passes.{view, IsPassOf};
 ghost use Rattle.click_desk.specs.Views.{agent as agent_of, holding};
 ghost use Rattle.click_desk.specs.History.{entries};
+ghost use Rattle.click_desk.specs.Charters.{charter_of, terms_of};
+ghost use Rattle.click_desk.specs.Sittings.{Sitting};
 ghost use Rattle.click_desk.specs.Closing.{IsEachOnce, IsEntered, Closes};
 
 use crate::book::Book;
@@ -58,7 +60,7 @@ fn is_each_once<T>(seats: &[Seat<T>], count: usize) -> bool
 fn agent<T>(queue: &Queue<T>, seat: &mut Seat<T>) -> DeskPass<T>
     requires { seat.old.desk.table ≡ queue.now.table.shared.table_id }
     ensures same { seat.new ≡ seat.old }
-    ensures agent { IsPassOf queue.now result × (view result ≡ agent_of seat.old.desk.terms) }
+    ensures agent { IsPassOf queue.now result × (view result ≡ agent_of (charter_of seat.old.desk.terms seat.old.feeds)) }
 {
     queue.another::<Agent>(&mut seat.pass)
 }
@@ -66,9 +68,9 @@ fn agent<T>(queue: &Queue<T>, seat: &mut Seat<T>) -> DeskPass<T>
 /// Holds the whole history against what the seat knows.
 fn audit<T>(queue: &Queue<T>, seat: &mut Seat<T>, agent: DeskPass<T>) -> DeskPass<T>
     requires seat { seat.old.desk.table ≡ queue.now.table.shared.table_id }
-    requires agent { IsPassOf queue.now agent × (view agent ≡ holding seat.old.desk.terms (view agent).seen) }
+    requires agent { IsPassOf queue.now agent × (view agent ≡ holding (view agent).terms (view agent).seen) }
     ensures same { seat.new ≡ seat.old }
-    ensures agent { IsPassOf queue.now result × (view result ≡ view agent) }
+    ensures agent { IsPassOf queue.now result × (view result ≡ holding (charter_of seat.old.desk.terms seat.old.feeds) (view agent).seen) }
     ensures entered { IsEntered (view agent).seen seat.old }
 {
     queue.absorb::<Meeting>(&mut seat.pass, agent);
@@ -78,7 +80,7 @@ fn audit<T>(queue: &Queue<T>, seat: &mut Seat<T>, agent: DeskPass<T>) -> DeskPas
 
 /// Holds the whole history against what each seat knows.
 fn audit_all<T>(queue: &Queue<T>, seats: &mut [Seat<T>], mut agent: DeskPass<T>) -> DeskPass<T>
-    requires seats { All (λ s. (s.desk.table ≡ queue.now.table.shared.table_id) × (s.desk.terms ≡ (view agent).terms)) seats.old }
+    requires seats { All (λ s. s.desk.table ≡ queue.now.table.shared.table_id) seats.old }
     requires agent { IsPassOf queue.now agent × (view agent ≡ holding (view agent).terms (view agent).seen) }
     ensures same { seats.new ≡ seats.old }
     ensures entered { All (IsEntered (view agent).seen) seats.old }
@@ -90,18 +92,14 @@ fn audit_all<T>(queue: &Queue<T>, seats: &mut [Seat<T>], mut agent: DeskPass<T>)
 }
 
 /// Takes the booked router for good, and holds its history against what each seat knows.
-fn take_last<T, R: Wait>(
-    rt: &R,
-    queue: &Queue<T>,
-    terms: &Terms,
-    seats: &mut [Seat<T>],
-) -> Booked<T>
+fn take_last<T, R: Wait>(rt: &R, queue: &Queue<T>, seats: &mut [Seat<T>]) -> Booked<T>
     requires some { 0 < length seats.old }
-    requires seats { All (λ s. (s.desk.table ≡ queue.now.table.shared.table_id) × (s.desk.terms ≡ terms.now)) seats.old }
+    requires seats { All (λ s. s.desk.table ≡ queue.now.table.shared.table_id) seats.old }
     ensures same { seats.new ≡ seats.old }
-    ensures terms { result.terms ≡ terms.now }
+    ensures terms { (s : Sitting) → (slice_index_or seats.old 0 s).desk.terms ≡ terms_of result.terms }
+    ensures feeds { (s : Sitting) → (slice_index_or seats.old 0 s).feeds ≡ result.terms.feeds }
     ensures entered { All (IsEntered result.entries) seats.old }
-    ensures numbered { (n : ℕ) → terms.now.seats ≤ n → entries result.entries n ≡ [] }
+    ensures numbered { (n : ℕ) → result.terms.seats ≤ n → entries result.entries n ≡ [] }
 {
     let mut agent = agent(queue, &mut seats[0]);
     let booked = take(rt, queue, &mut agent);
@@ -123,14 +121,15 @@ impl<T: Drop> Desk<T> {
                 fault: CloseFault::SeatsMissing,
             });
         }
-        let booked = take_last(rt, &self.queue, &self.terms, seats.as_mut_slice());
-        let (terms, entries, router) = booked.into_parts();
+        let booked = take_last(rt, &self.queue, seats.as_mut_slice());
+        let (terms, entries, router, taps) = booked.into_parts();
         let Terms { opening, .. } = terms;
         Ok(Book {
             opening,
             entries,
             router,
             seats,
+            taps,
         })
     }
 }

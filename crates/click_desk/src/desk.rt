@@ -1,8 +1,10 @@
 //! A router that many threads share.
 
-ghost use Rattle.std.specs.Prelude.{◌≡◌, ◌⊎◌, [], true, IfOk, IfErr};
+ghost use Rattle.std.specs.Prelude.{◌≡◌, ◌⊎◌, ◌≤◌, [], true, false, IfOk, IfErr};
+ghost use Rattle.click_router.specs.Polls.{is_poll};
 ghost use Rattle.crossbeam_queue.specs.Passes.{view, IsPassOf, ruled_capacity};
 ghost use Rattle.click_desk.specs.Views.{first, Takes, Gives, MayGive, IsFirstGive};
+ghost use Rattle.click_desk.specs.Polls.{Polls};
 ghost use Rattle.click_desk.specs.Sittings.{Calls, IsRefused};
 
 use crate::booked::{Booked, DeskFault};
@@ -66,15 +68,36 @@ pub(crate) fn give<T, R: Wait>(rt: &R, queue: &Queue<T>, pass: &mut DeskPass<T>,
 }
 
 impl<T: Handlers> Desk<T> {
-    /// One call of a seat that belongs to this desk.
+    /// One call of a seat that belongs to this desk. A poll is made by `poll`.
     pub fn call<R: Wait>(&self, rt: &R, seat: &mut Seat<T>, call: Call) -> Result<Reply, DeskFault>
-        requires { seat.old.desk ≡ self.now }
-        ensures seat { (seat.new.desk ≡ seat.old.desk) × (seat.new.number ≡ seat.old.number) }
+        requires seat { seat.old.desk ≡ self.now }
+        requires call { is_poll call ≡ false }
+        ensures seat { (seat.new.desk ≡ seat.old.desk) × (seat.new.feeds ≡ seat.old.feeds) × (seat.new.number ≡ seat.old.number) }
         ensures ok { IfOk result (λ reply. Calls seat.old seat.new call reply) }
         ensures err { IfErr result (λ fault. IsRefused seat.old seat.new fault) }
     {
         let mut booked = take(rt, &self.queue, &mut seat.pass);
         let result = booked.enter(self.alloc, seat.number, &mut seat.calls, call);
+        give(rt, &self.queue, &mut seat.pass, booked);
+        result
+    }
+
+    /// Up to `most` packets of a device's feed, 1 to 32, enter in one call. Nothing is drawn where the configuration has no such device, or the desk no feed of it.
+    pub fn poll<R: Wait>(
+        &self,
+        rt: &R,
+        seat: &mut Seat<T>,
+        device: &[u8],
+        most: usize,
+    ) -> Result<Reply, DeskFault>
+        requires seat { seat.old.desk ≡ self.now }
+        requires most { (1 ≤ most) × (most ≤ 32) }
+        ensures seat { (seat.new.desk ≡ seat.old.desk) × (seat.new.feeds ≡ seat.old.feeds) × (seat.new.number ≡ seat.old.number) }
+        ensures ok { IfOk result (λ reply. Polls seat.old seat.new device.now most reply) }
+        ensures err { IfErr result (λ fault. IsRefused seat.old seat.new fault) }
+    {
+        let mut booked = take(rt, &self.queue, &mut seat.pass);
+        let result = booked.enter_poll(self.alloc, seat.number, &mut seat.calls, device, most);
         give(rt, &self.queue, &mut seat.pass, booked);
         result
     }

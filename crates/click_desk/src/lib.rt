@@ -3,18 +3,20 @@
 
 mod book;
 mod booked;
+mod charter;
 mod close;
 mod desk;
 mod entry;
 pub mod laws;
 mod open;
+mod polling;
 mod recorded;
 mod rule;
 mod seat;
 mod terms;
 mod view;
 
-pub use book::Book;
+pub use book::{Book, SettleFault, SettleRefused};
 pub use booked::DeskFault;
 pub use close::{CloseFault, CloseRefused};
 pub use desk::Desk;

@@ -1,18 +1,22 @@
 //! The opening of a desk.
 
-ghost use Rattle.std.specs.Prelude.{◌≡◌, ◌<◌, ◌≤◌, ◌⊎◌, ◌↔◌, [], IfOk, IfErr, vec_capacity};
+ghost use Rattle.std.specs.Prelude.{◌≡◌, ◌≤◌, [], ℕ, List, length, map, IfOk, IfErr, IfSome, IfNone, vec_capacity};
 ghost use Rattle.std.specs.List.{All};
 ghost use Rattle.crossbeam_queue.specs.Passes.{view, IsPassOf, ruled_capacity};
 ghost use Rattle.click_router.specs.Opened.{IsOpened, IsFirstFault};
 ghost use Rattle.click_desk.specs.History.{IsLegal};
 ghost use Rattle.click_desk.specs.Views.{first, maker as maker_of};
+ghost use Rattle.click_desk.specs.Charters.{terms_of};
 ghost use Rattle.click_desk.specs.Sittings.{seats_below};
+ghost use Rattle.click_desk.specs.Openings.{AreFit, IsOpenFault};
+ghost use Rattle.click_rings.specs.Feeds.{name_of};
 
 use crate::booked::Booked;
 use crate::desk::{Desk, give};
 use crate::rule::{DeskPass, NextSeat, Queue};
 use crate::seat::Seat;
 use crate::terms::Terms;
+use click_rings::{Inlet, Tap, are_apart};
 use click_router::{ConfigFault, FaultKind, Router, prepare};
 use std::alloc::{AllocError, Global};
 use std::sync::Wait;
@@ -21,11 +25,18 @@ use thiserror::Error;
 /// The most seats of a desk.
 const MOST_SEATS: usize = 256;
 
+/// The most inlets of a desk.
+const MOST_INLETS: usize = 16;
+
 /// Why a desk was not opened.
 #[derive(Debug, Drop, Error)]
 pub enum OpenFault {
     #[error("a desk has 1 to 256 seats")]
     SeatCount,
+    #[error("two inlets are of one device")]
+    DeviceTwice,
+    #[error("a desk has at most 16 inlets")]
+    InletCount,
     /// What is wrong with the configuration.
     #[error(transparent)]
     Config(ConfigFault),
@@ -37,6 +48,7 @@ pub enum OpenFault {
 #[derive(Drop)]
 pub struct OpenRefused<T> {
     pub table: T,
+    pub inlets: Vec<Inlet>,
     pub fault: OpenFault,
 }
 
@@ -47,6 +59,7 @@ struct Parts<T> {
     queue: Queue<T>,
     maker: DeskPass<T>,
     given: Vec<Seat<T>>,
+    taps: Vec<Tap>,
 }
 
 /// Takes all memory that a desk of these terms needs.
@@ -55,14 +68,17 @@ fn make_parts<T>(
     text: &[u8],
     room: usize,
     seats: usize,
+    inlets: usize,
 ) -> Result<Parts<T>, AllocError>
     ensures terms { IfOk result (λ p. (p.inside ≡ record { opening = text.now; room = room; seats = seats }) × (p.beside ≡ p.inside)) }
     ensures queue { IfOk result (λ p. (ruled_capacity p.queue ≡ 1) × IsPassOf p.queue p.maker × (view p.maker ≡ first)) }
     ensures given { IfOk result (λ p. (p.given.items ≡ []) × (seats ≤ vec_capacity p.given)) }
+    ensures taps { IfOk result (λ p. (p.taps.items ≡ []) × (inlets ≤ vec_capacity p.taps)) }
 {
     let inside = Terms::of(alloc, text, room, seats)?;
     let beside = Terms::of(alloc, text, room, seats)?;
     let given = Vec::with_capacity(alloc, seats)?;
+    let taps = Vec::with_capacity(alloc, inlets)?;
     let (queue, maker) = Queue::<T>::ruled(alloc, 1)?;
     Ok(Parts {
         inside,
@@ -70,7 +86,20 @@ fn make_parts<T>(
         queue,
         maker,
         given,
+        taps,
     })
+}
+
+/// Opens the inlets. It takes no memory.
+fn open_all(inlets: Vec<Inlet>, mut taps: Vec<Tap>) -> Vec<Tap>
+    requires { (taps.items ≡ []) × (length inlets.items ≤ vec_capacity taps) }
+    ensures names { map name_of result.items ≡ inlets.items }
+    ensures fresh { All (λ t. t.drawn ≡ []) result.items }
+{
+    for inlet in inlets {
+        taps.push_reserved(Tap::of(inlet));
+    }
+    taps
 }
 
 /// Makes the seats.
@@ -86,7 +115,7 @@ fn make_seats<T>(
     requires legal { IsLegal (view maker).terms.opening [] }
     requires count { (view maker).terms.seats ≡ count }
     requires given { (given.old.items ≡ []) × (count ≤ vec_capacity given.old) }
-    ensures { given.new.items ≡ seats_below (record { table = queue.now.table.shared.table_id; terms = (view maker).terms }) count }
+    ensures { given.new.items ≡ seats_below (record { table = queue.now.table.shared.table_id; terms = terms_of (view maker).terms }) (view maker).terms.feeds count }
 {
     for number in 0..count {
         let pass = queue.another::<NextSeat>(&mut maker);
@@ -109,8 +138,25 @@ fn fault_of(fault: ConfigFault) -> OpenFault
     }
 }
 
+/// Why no desk has this many seats with these inlets, if none has.
+fn misfit(seats: usize, inlets: &[Inlet]) -> Option<OpenFault>
+    ensures fits { IfNone result (AreFit seats inlets.now) }
+    ensures fault { IfSome result (λ fault. (text : List ℕ) → IsOpenFault seats inlets.now text fault) }
+{
+    if seats == 0 || seats > MOST_SEATS {
+        return Some(OpenFault::SeatCount);
+    }
+    if !are_apart(inlets) {
+        return Some(OpenFault::DeviceTwice);
+    }
+    if inlets.len() > MOST_INLETS {
+        return Some(OpenFault::InletCount);
+    }
+    None
+}
+
 impl<T: Drop> Desk<T> {
-    /// Opens a desk with 1 to 256 seats, for a history of at most `room` entries. A refusal hands the table back: for the number of seats, else for the
+    /// Opens a desk with 1 to 256 seats and at most 16 inlets, no two of them of one device, for a history of at most `room` entries. A refusal hands the table and the inlets back: for the number of seats, else for a device that is there twice, else for the number of inlets, else for the
     /// configuration, else because memory runs out.
     pub fn open<R: Wait>(
         rt: &R,
@@ -119,18 +165,19 @@ impl<T: Drop> Desk<T> {
         text: &[u8],
         room: usize,
         seats: usize,
+        inlets: Vec<Inlet>,
     ) -> Result<(Desk<T>, Vec<Seat<T>>), OpenRefused<T>>
         ensures desk { IfOk result (λ r. r.0.terms ≡ record { opening = text.now; room = room; seats = seats }) }
-        ensures seats { IfOk result (λ r. (r.1.items ≡ seats_below r.0 seats) × All (λ s. s.desk ≡ r.0) r.1.items) }
-        ensures good { IfOk result (λ r. (0 < seats) × (seats ≤ 256) × IsLegal text.now []) }
-        ensures table { IfErr result (λ r. r.table ≡ table) }
-        ensures count { IfErr result (λ r. (r.fault ≡ OpenFault.SeatCount) ↔ ((seats ≡ 0) ⊎ (256 < seats))) }
-        ensures config { IfErr result (λ r. (fault : ConfigFault) → r.fault ≡ OpenFault.Config fault → IsFirstFault text.now fault × (fault.kind ≡ FaultKind.NoMemory → ⊥)) }
+        ensures seats { IfOk result (λ r. (r.1.items ≡ seats_below r.0 inlets.items seats) × All (λ s. s.desk ≡ r.0) r.1.items) }
+        ensures good { IfOk result (λ r. AreFit seats inlets.items × IsLegal text.now []) }
+        ensures handed { IfErr result (λ r. (r.table ≡ table) × (r.inlets ≡ inlets)) }
+        ensures fault { IfErr result (λ r. IsOpenFault seats inlets.items text.now r.fault) }
     {
-        if seats == 0 || seats > MOST_SEATS {
+        if let Some(fault) = misfit(seats, inlets.as_slice()) {
             return Err(OpenRefused {
                 table,
-                fault: OpenFault::SeatCount,
+                inlets,
+                fault,
             });
         }
         let prepared = match prepare(alloc, text) {
@@ -138,13 +185,15 @@ impl<T: Drop> Desk<T> {
             Err(fault) => {
                 return Err(OpenRefused {
                     table,
+                    inlets,
                     fault: fault_of(fault),
                 });
             }
         };
-        let Ok(parts) = make_parts(alloc, text, room, seats) else {
+        let Ok(parts) = make_parts(alloc, text, room, seats, inlets.len()) else {
             return Err(OpenRefused {
                 table,
+                inlets,
                 fault: OpenFault::NoMemory,
             });
         };
@@ -154,9 +203,16 @@ impl<T: Drop> Desk<T> {
             queue,
             mut maker,
             mut given,
+            taps,
         } = parts;
         let router = Router::open(table, prepared);
-        give(rt, &queue, &mut maker, Booked::new(alloc, inside, router));
+        let taps = open_all(inlets, taps);
+        give(
+            rt,
+            &queue,
+            &mut maker,
+            Booked::new(alloc, inside, router, taps),
+        );
         make_seats(alloc, &queue, maker, seats, &mut given);
         let desk = Desk {
             alloc,

@@ -23,12 +23,13 @@ impl<T> Model for Seat<T> {
 
     ghost use Rattle.std.specs.Prelude.{◌≡◌, []};
     ghost use Rattle.crossbeam_queue.specs.Passes.{view as known};
+    ghost use Rattle.click_desk.specs.Charters.{terms_of};
     ghost use Rattle.click_desk.specs.Views.{seated};
     ghost use Rattle.click_desk.specs.Sittings.{IsSeat};
 
-    ghost view = { λ s. record { desk = record { table = s.pass.table_id; terms = (known s.pass).terms }; number = s.number; calls = s.calls.items; seen = (known s.pass).seen } };
+    ghost view = { λ s. record { desk = record { table = s.pass.table_id; terms = terms_of (known s.pass).terms }; feeds = (known s.pass).terms.feeds; number = s.number; calls = s.calls.items; seen = (known s.pass).seen } };
 
-    ghost invariant = { λ s. (s.pass.me.1 ≡ []) × (known s.pass ≡ seated (known s.pass).terms s.number s.calls.items (known s.pass).seen) × IsSeat (record { desk = record { table = s.pass.table_id; terms = (known s.pass).terms }; number = s.number; calls = s.calls.items; seen = (known s.pass).seen }) };
+    ghost invariant = { λ s. (s.pass.me.1 ≡ []) × (known s.pass ≡ seated (known s.pass).terms s.number s.calls.items (known s.pass).seen) × IsSeat (record { desk = record { table = s.pass.table_id; terms = terms_of (known s.pass).terms }; feeds = (known s.pass).terms.feeds; number = s.number; calls = s.calls.items; seen = (known s.pass).seen }) };
 }
 
 impl<T> Seat<T> {

@@ -1,8 +1,8 @@
 //! What a pass of the queue knows.
 
+use crate::charter::Charter;
 use crate::entry::Entry;
 use crate::recorded::Recorded;
-use crate::terms::Terms;
 use click_router::Call;
 use std::collections::LinkedList;
 
@@ -10,7 +10,7 @@ use std::collections::LinkedList;
 pub struct View {
     /// It knows the terms.
     pub opened: bool,
-    pub terms: Terms,
+    pub terms: Charter,
     /// It has the booked router.
     pub holds: bool,
     /// It makes the seats whose numbers are `made` and above.

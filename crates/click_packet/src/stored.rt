@@ -115,4 +115,21 @@ impl PacketRoom {
             next: packet.destination(),
         }
     }
+
+    /// Keeps another of the packet, and gives back the memory that it does not need. It takes none.
+    pub fn copy_of(self, packet: &StoredPacket) -> StoredPacket
+        ensures { result ≡ packet.now }
+    {
+        let PacketRoom { mut bytes } = self;
+        match bytes.extend_from_slice(packet.bytes()) {
+            Ok(()) => {}
+            Err(_) => unreachable!(),
+        }
+        bytes.shrink_to_fit();
+        StoredPacket {
+            bytes,
+            colour: packet.colour,
+            next: packet.next,
+        }
+    }
 }

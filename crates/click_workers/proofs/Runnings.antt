@@ -1,14 +1,13 @@
 -- What whole runs leave.
-use Rattle.std.proofs.Common.{◌≡◌, ◌↔◌, ℕ, ◌+◌, ◌==◌, Bool, true, false, cond, List, [], ◌∷◌, count_by, refl, sym, ap, ◌∙◌, subst, arith}
+use Rattle.std.proofs.Common.{◌≡◌, ◌↔◌, ℕ, ◌+◌, ◌==◌, ◌<◌, ◌≤◌, inl, inr, Bool, true, false, true≢false, cond, List, [], ◌∷◌, count_by, refl, sym, ap, ◌∙◌, subst, arith}
 use Rattle.std.proofs.lemmas.Bool.Decides.{nat_tests}
 use Rattle.std.specs.List.{All}
 use Rattle.std.proofs.lemmas.List.Elements.{All-head, All-tail}
 use Rattle.std.proofs.lemmas.List.Sums.{sum_by-cons}
-use Rattle.click_router.specs.Opened.{IsFirstFault}
 use Rattle.click_router.specs.declared.fault.ConfigFault.{ConfigFault}
-use Rattle.click_router.specs.declared.fault.FaultKind.TheVariants as kind
 use Rattle.click_desk.specs.Booklet.{Booklet}
 use Rattle.click_desk.specs.History.{Legal, entries, entry}
+use Rattle.click_desk.specs.Openings.{IsOpenFault}
 use Rattle.click_desk.specs.Closing.{IsEntered, IsEachOnce, Closes}
 use Rattle.click_desk.specs.Sittings.{DeskName, Sitting}
 use Rattle.click_desk.specs.declared.entry.Entry.{Entry}
@@ -17,7 +16,7 @@ use Rattle.click_desk.specs.declared.open.OpenFault.{OpenFault}
 use Rattle.click_desk.specs.declared.open.OpenFault.TheVariants as told
 use Rattle.click_workers.specs.declared.runs.RunFault.{RunFault}
 use Rattle.click_workers.specs.declared.runs.RunFault.TheVariants as run
-use Rattle.click_workers.specs.Runs.{Headline, IsTrueFault, entries_of}
+use Rattle.click_workers.specs.Runs.{Headline, IsTrueFault, IsLate, entries_of}
 
 -- what a closed desk's book says of the text that it was opened with
 pub headline-of : (text : List ℕ) (room n : ℕ) (desk : DeskName) (seats : List Sitting) (book : Booklet)
@@ -33,11 +32,22 @@ headline-of text room n desk seats book terms once closes = record {
 }
 
 -- a fault that the opening told is the text's first, also as the run tells it
-pub true-fault : (text : List ℕ) (fault : OpenFault) (result : RunFault) → ((f : ConfigFault) → (result ≡ run.Config f) ↔ (fault ≡ told.Config f))
-    → ((f : ConfigFault) → fault ≡ told.Config f → IsFirstFault text f × (f.kind ≡ kind.NoMemory → ⊥)) → IsTrueFault text result
-true-fault text fault (run.Config f) same first = first f ((same f).0 refl)
-true-fault text fault run.NoMemory same first = tt
-true-fault text fault (run.Close code) same first = tt
+pub true-fault : (seats : ℕ) (text : List ℕ) (fault : OpenFault) (result : RunFault) → ((f : ConfigFault) → (result ≡ run.Config f) ↔ (fault ≡ told.Config f))
+    → IsOpenFault seats [] text fault → IsTrueFault text result
+true-fault seats text fault (run.Config f) same why =
+    let h : IsOpenFault seats [] text (told.Config f) = subst (λ x. IsOpenFault seats [] text x) ((same f).0 refl) why in
+    (h.1, h.2)
+true-fault seats text fault run.NoMemory same why = tt
+true-fault seats text fault (run.Close code) same why = tt
+
+-- so many seats and no inlets are never why
+pub late-fault : (seats : ℕ) (text : List ℕ) (fault : OpenFault) → 0 < seats → seats ≤ 256 → IsOpenFault seats [] text fault → IsLate fault
+late-fault seats text told.SeatCount some within (inl none) = absurd (omega arith)
+late-fault seats text told.SeatCount some within (inr many) = absurd (omega arith)
+late-fault seats text told.DeviceTwice some within why = absurd (true≢false why.2)
+late-fault seats text told.InletCount some within why = let h = why.3 in absurd (omega arith)
+late-fault seats text (told.Config f) some within why = tt
+late-fault seats text told.NoMemory some within why = tt
 
 is-so : (b : Bool) (n : ℕ) → n ≡ cond b 1 0 + 0 → n ≡ 1 → b ≡ true
 is-so true n e h = refl

@@ -19,10 +19,10 @@ snoc-inj (a ∷ xs) (b ∷ ys) x y e =
     (ap (λ z. z ∷ xs) head ∙ ap (λ l. b ∷ l) k.0, k.1)
 
 -- the last of the new seats, and those before it
-pub last-new : (desk : DeskName) (m n : ℕ) (seats front : List Sitting) (x : Sitting) → seats ≡ seats_below desk n → seats ≡ front ++ x ∷ [] → n ≡ suc m
-    → (front ≡ seats_below desk m) × (x ≡ new_seat desk m)
+pub last-new : (desk : DeskName) (m n : ℕ) (seats front : List Sitting) (x : Sitting) → seats ≡ seats_below desk [] n → seats ≡ front ++ x ∷ [] → n ≡ suc m
+    → (front ≡ seats_below desk [] m) × (x ≡ new_seat desk [] m)
 last-new desk m n seats front x all cut is =
-    snoc-inj front (seats_below desk m) x (new_seat desk m) (sym cut ∙ all ∙ ap (seats_below desk) is)
+    snoc-inj front (seats_below desk [] m) x (new_seat desk [] m) (sym cut ∙ all ∙ ap (seats_below desk []) is)
 
 pairs-push : {X Y : Type 0} (R : X → Y → Type 0) (xs : List X) (ys : List Y) (x : X) (y : Y) → SideBySide R xs ys → R x y → SideBySide R (xs ++ x ∷ []) (ys ++ y ∷ [])
 pairs-push R [] [] x y h r = (r, tt)
@@ -39,13 +39,13 @@ empty-of [] e = refl
 empty-of (x ∷ xs) e = absurd (omega arith)
 
 -- the numbers of new seats
-pub new-numbers : (desk : DeskName) (n : ℕ) → map (λ (s : Sitting). s.number) (seats_below desk n) ≡ numbers_below n
+pub new-numbers : (desk : DeskName) (n : ℕ) → map (λ (s : Sitting). s.number) (seats_below desk [] n) ≡ numbers_below n
 new-numbers desk zero = refl
-new-numbers desk (suc n) = map-push (seats_below desk n) (new_seat desk n) ∙ ap (λ l. l ++ n ∷ []) (new-numbers desk n)
+new-numbers desk (suc n) = map-push (seats_below desk [] n) (new_seat desk [] n) ∙ ap (λ l. l ++ n ∷ []) (new-numbers desk n)
 
-pub seats-many : (desk : DeskName) (n : ℕ) → length (seats_below desk n) ≡ n
+pub seats-many : (desk : DeskName) (n : ℕ) → length (seats_below desk [] n) ≡ n
 seats-many desk zero = refl
-seats-many desk (suc n) = omega (arith, length-append (seats_below desk n) (new_seat desk n ∷ []), seats-many desk n)
+seats-many desk (suc n) = omega (arith, length-append (seats_below desk [] n) (new_seat desk [] n ∷ []), seats-many desk n)
 
 -- by the number of its seat
 pub driven-by : {G : Type 0} (gives : G → ℕ → ℕ → Bool → Type 0) (told : G → ℕ → ℕ → Type 0) (gate : G) (who rounds : ℕ) (s : Sitting) (all : Bool) → who ≡ suc s.number
@@ -53,10 +53,10 @@ pub driven-by : {G : Type 0} (gives : G → ℕ → ℕ → Bool → Type 0) (to
 driven-by gives told gate who rounds s all is h = subst (λ w. Drives gives told gate w rounds s all) is h
 
 pub attended-by : {D Rd Wr G : Type 0} (lets_in : D → ℕ → Option (Rd × Wr) → Type 0) (input : Rd → Input) (output : Wr → Output) (gives : G → ℕ → ℕ → Bool → Type 0) (told : G → ℕ → ℕ → Type 0)
-    (door : D) (gate : G) (readonly : Bool) (who : ℕ) (seat s : Sitting) (e : SessionEnd) → who ≡ suc s.number → seat ≡ new_seat s.desk s.number
+    (door : D) (gate : G) (readonly : Bool) (who : ℕ) (seat s : Sitting) (e : SessionEnd) → who ≡ suc s.number → seat ≡ new_seat s.desk [] s.number
     → Attends lets_in input output gives told door gate readonly who seat s e → Attended lets_in input output gives told door gate readonly s e
 attended-by lets_in input output gives told door gate readonly who seat s e is fresh h =
-    subst (λ w. Attends lets_in input output gives told door gate readonly w (new_seat s.desk s.number) s e) is
+    subst (λ w. Attends lets_in input output gives told door gate readonly w (new_seat s.desk [] s.number) s e) is
     (subst (λ o. Attends lets_in input output gives told door gate readonly who o s e) fresh h)
 
 module _ (attends : Sitting → SessionEnd → Type 0) (drives : Sitting → Bool → Type 0) where
@@ -104,13 +104,13 @@ module _ (attends : Sitting → SessionEnd → Type 0) (drives : Sitting → Boo
       }
 
 pub once-of : (desk : DeskName) (n : ℕ) (seats : List Sitting) → map (λ (s : Sitting). s.number) seats ≡ numbers_below n → IsEachOnce n seats
-once-of desk n seats h = same_once n (seats_below desk n) seats (new-numbers desk n ∙ sym h) (new_once desk n)
+once-of desk n seats h = same_once n (seats_below desk [] n) seats (new-numbers desk n ∙ sym h) (new_once desk [] n)
 
 pub ready-first : (desk : DeskName) (sessions workers len : ℕ) (seats : List Sitting) (ended : List SessionEnd) (drivers : List Bool) (e d : ℕ)
-    → seats ≡ seats_below desk (sessions + workers) → len ≡ sessions + workers → ended ≡ [] → drivers ≡ [] → e ≡ sessions → d ≡ workers
+    → seats ≡ seats_below desk [] (sessions + workers) → len ≡ sessions + workers → ended ≡ [] → drivers ≡ [] → e ≡ sessions → d ≡ workers
     → Ready desk sessions len seats ended drivers e d
 ready-first desk sessions workers len seats ended drivers e d new many none_ended none_driven ended_room drivers_room = record {
-  fresh = new ∙ ap (seats_below desk) (sym many);
+  fresh = new ∙ ap (seats_below desk []) (sym many);
   none_ended = none_ended;
   none_driven = none_driven;
   room_ended = omega (arith, ended_room);
@@ -118,15 +118,15 @@ ready-first desk sessions workers len seats ended drivers e d new many none_ende
 }
 
 -- what a pop of the new seats gives and leaves
-pub last-taken : (desk : DeskName) (n m : ℕ) (seats front : List Sitting) (r : Option Sitting) → seats ≡ seats_below desk n → seats ≡ front ++ option_to_list r
-    → MatchOption r ((n ≡ 0) × (m ≡ 0)) (λ _. m + 1 ≡ n) → IfSome r (λ s. (s ≡ new_seat desk m) × (n ≡ m + 1)) × (front ≡ seats_below desk m)
-last-taken desk n m seats front None all cut h = (tt, sym (append-nil front) ∙ sym cut ∙ all ∙ ap (seats_below desk) (h.0 ∙ sym h.1))
+pub last-taken : (desk : DeskName) (n m : ℕ) (seats front : List Sitting) (r : Option Sitting) → seats ≡ seats_below desk [] n → seats ≡ front ++ option_to_list r
+    → MatchOption r ((n ≡ 0) × (m ≡ 0)) (λ _. m + 1 ≡ n) → IfSome r (λ s. (s ≡ new_seat desk [] m) × (n ≡ m + 1)) × (front ≡ seats_below desk [] m)
+last-taken desk n m seats front None all cut h = (tt, sym (append-nil front) ∙ sym cut ∙ all ∙ ap (seats_below desk []) (h.0 ∙ sym h.1))
 last-taken desk n m seats front (Some x) all cut h =
     let k = last-new desk m n seats front x all cut (omega arith) in
     ((k.1, omega arith), k.0)
 
 pub ready-taken : (desk : DeskName) (sessions n m : ℕ) (seats front : List Sitting) (ended : List SessionEnd) (drivers : List Bool) (e d : ℕ)
-    → Ready desk sessions n seats ended drivers e d → m ≤ n → front ≡ seats_below desk m → Ready desk sessions m front ended drivers e d
+    → Ready desk sessions n seats ended drivers e d → m ≤ n → front ≡ seats_below desk [] m → Ready desk sessions m front ended drivers e d
 ready-taken desk sessions n m seats front ended drivers e d r less fresh = record {
   fresh = fresh;
   none_ended = r.none_ended;

@@ -11,6 +11,8 @@ use Rattle.click_desk.specs.History.{Legal, EachLawful, installs, entry, entries
 use Rattle.click_desk.specs.Closing.{IsEntered, IsEachOnce}
 use Rattle.click_desk.specs.Sittings.{Sitting, new_seat}
 use Rattle.click_desk.specs.declared.entry.Entry.{Entry}
+use Rattle.click_desk.specs.declared.open.OpenFault.{OpenFault}
+use Rattle.click_desk.specs.declared.open.OpenFault.TheVariants as open
 use Rattle.click_control.specs.Peers.{Input, Output}
 use Rattle.click_control.specs.Serving.{NoneRefused, most_reads}
 use Rattle.click_control.specs.declared.serving.Ended.{Ended}
@@ -43,7 +45,7 @@ pub record RanOver (text : List ℕ) (readonly : Bool) (book : Booklet) (had lef
   pub seat : Sitting
   pub seats : book.seats ≡ seat ∷ []
   pub number : seat.number ≡ 0
-  pub served : SeatServes readonly most_reads NoneRefused (new_seat seat.desk 0) seat had left held holds result
+  pub served : SeatServes readonly most_reads NoneRefused (new_seat seat.desk [] 0) seat had left held holds result
   pub alone : Legal text (entries_of 0 seat.calls) book.router
 
 -- where the configuration is said to be faulty, it is, and this is its first fault
@@ -57,3 +59,11 @@ abbrev pub IsNoClose : RunFault → Type 0
 IsNoClose (fault.Config f) = Unit {0}
 IsNoClose fault.NoMemory = Unit {0}
 IsNoClose (fault.Close code) = ⊥
+
+-- a desk was not opened, and neither its seats nor its inlets are why
+abbrev pub IsLate : OpenFault → Type 0
+IsLate open.SeatCount = ⊥
+IsLate open.DeviceTwice = ⊥
+IsLate open.InletCount = ⊥
+IsLate (open.Config f) = Unit {0}
+IsLate open.NoMemory = Unit {0}

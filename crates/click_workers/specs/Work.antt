@@ -46,7 +46,7 @@ Attends {D} {Rd} {Wr} {G} lets_in input output gives told door gate readonly who
 abbrev pub Attended : {D Rd Wr G : Type 0} → (D → ℕ → Option (Rd × Wr) → Type 0) → (Rd → Input) → (Wr → Output) → (G → ℕ → ℕ → Bool → Type 0) → (G → ℕ → ℕ → Type 0)
     → D → G → Bool → Sitting → SessionEnd → Type 0
 Attended lets_in input output gives told door gate readonly s e =
-    Attends lets_in input output gives told door gate readonly (suc s.number) (new_seat s.desk s.number) s e
+    Attends lets_in input output gives told door gate readonly (suc s.number) (new_seat s.desk [] s.number) s e
 
 -- drivers are counted on after the sessions, and each had the seat of the number before it
 abbrev pub Drove : {G : Type 0} → (G → ℕ → ℕ → Bool → Type 0) → (G → ℕ → ℕ → Type 0) → G → ℕ → Sitting → Bool → Type 0
@@ -77,7 +77,7 @@ pub record Worked (attends : Sitting → SessionEnd → Type 0) (drives : Sittin
 
 -- New seats of a desk, with room for what comes of each, and nothing yet.
 pub record Ready (desk : DeskName) (sessions n : ℕ) (seats : List Sitting) (ended : List SessionEnd) (drivers : List Bool) (ended_room drivers_room : ℕ) : Type 0 where
-  pub fresh : seats ≡ seats_below desk n
+  pub fresh : seats ≡ seats_below desk [] n
   pub none_ended : ended ≡ []
   pub none_driven : drivers ≡ []
   pub room_ended : min n sessions ≤ ended_room

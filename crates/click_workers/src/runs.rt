@@ -1,15 +1,17 @@
 //! Whole runs.
 
-ghost use Rattle.std.specs.Prelude.{◌≡◌, ◌↔◌, ◌<◌, ◌≤◌, ◌+◌, IfOk, IfErr, OnErr};
+ghost use Rattle.std.specs.Prelude.{◌≡◌, ◌↔◌, ◌<◌, ◌≤◌, ◌+◌, [], IfOk, IfErr, OnErr};
+ghost use Rattle.std.specs.List.{All};
+ghost use Rattle.click_desk.specs.Sittings.{seats_below};
 ghost use Rattle.click_workers.specs.Work.{Attended, Drove, Worked};
-ghost use Rattle.click_workers.specs.Runs.{Headline, DriversRound, RanOver, IsTrueFault, IsNoClose};
+ghost use Rattle.click_workers.specs.Runs.{Headline, DriversRound, RanOver, IsTrueFault, IsNoClose, IsLate};
 
 use crate::door::Door;
 use crate::gate::Gate;
 use crate::session::{SessionEnd, serve_alone};
 use crate::work::{Work, work_all};
 use click_control::{Ended, ServeFault, Sink, Source};
-use click_desk::{Book, Desk, OpenFault};
+use click_desk::{Book, Desk, OpenFault, Seat};
 use click_router::{ConfigFault, Handlers};
 use std::alloc::Global;
 use std::sync::Wait;
@@ -47,16 +49,36 @@ pub struct Ran<T> {
     pub book: Book<T>,
 }
 
-/// Why no desk was opened, where it was to have one seat at least and 256 at most.
+/// Why no desk was opened, where it was to have one seat at least and 256 at most, and no inlets.
 fn fault_of(fault: OpenFault) -> RunFault
-    requires { fault ≡ OpenFault.SeatCount → ⊥ }
+    requires { IsLate fault }
     ensures config { (f : ConfigFault) → (result ≡ RunFault.Config f) ↔ (fault ≡ OpenFault.Config f) }
     ensures never_close { IsNoClose result }
 {
     match fault {
-        OpenFault::SeatCount => unreachable!(),
+        OpenFault::SeatCount | OpenFault::DeviceTwice | OpenFault::InletCount => unreachable!(),
         OpenFault::Config(fault) => RunFault::Config(fault),
         OpenFault::NoMemory => RunFault::NoMemory,
+    }
+}
+
+/// Opens a desk with new seats and no inlets.
+fn opened<T: Drop, R: Wait>(
+    rt: &R,
+    alloc: Global,
+    table: T,
+    text: &[u8],
+    seats: usize,
+) -> Result<(Desk<T>, Vec<Seat<T>>), RunFault>
+    requires { (0 < seats) × (seats ≤ 256) }
+    ensures desk { IfOk result (λ r. r.0.terms ≡ record { opening = text.now; room = 1048576; seats = seats }) }
+    ensures seats { IfOk result (λ r. (r.1.items ≡ seats_below r.0 [] seats) × All (λ s. s.desk ≡ r.0) r.1.items) }
+    ensures config { IfErr result (IsTrueFault text.now) }
+    ensures never_close { IfErr result IsNoClose }
+{
+    match Desk::open(rt, alloc, table, text, ROOM, seats, Vec::new(alloc)) {
+        Ok(opened) => Ok(opened),
+        Err(refused) => Err(fault_of(refused.fault)),
     }
 }
 
@@ -78,9 +100,9 @@ pub fn run<T: Handlers + Drop, S: Source, W: Sink, R: Wait>(
     ensures config { IfErr result (IsTrueFault text.now) }
     ensures never_close { IfErr result IsNoClose }
 {
-    let (desk, mut seats) = match Desk::open(rt, alloc, table, text, ROOM, 1) {
+    let (desk, mut seats) = match opened(rt, alloc, table, text, 1) {
         Ok(opened) => opened,
-        Err(refused) => return Err(fault_of(refused.fault)),
+        Err(fault) => return Err(fault),
     };
     let Some(seat) = seats.pop() else {
         unreachable!()
@@ -122,9 +144,9 @@ pub fn run_workers<T: Handlers + Send + Drop, D: Door, G: Gate, R: Threads + Wai
     let Ok(drivers) = Vec::with_capacity(alloc, workers) else {
         return Err(RunFault::NoMemory);
     };
-    let (desk, seats) = match Desk::open(rt, alloc, table, text, ROOM, sessions + workers) {
+    let (desk, seats) = match opened(rt, alloc, table, text, sessions + workers) {
         Ok(opened) => opened,
-        Err(refused) => return Err(fault_of(refused.fault)),
+        Err(fault) => return Err(fault),
     };
     let work = Work {
         seats,

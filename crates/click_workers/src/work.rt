@@ -29,7 +29,7 @@ pub(crate) struct Work<T> {
 /// Takes the last of the new seats.
 fn last_of<T>(desk: &Desk<T>, sessions: usize, work: Work<T>) -> (Option<Seat<T>>, Work<T>)
     requires { Ready desk.now sessions (vec_len work.seats) work.seats.items work.ended.items work.drivers.items (vec_capacity work.ended) (vec_capacity work.drivers) }
-    ensures some { IfSome result.0 (λ s. (s ≡ new_seat desk.now (vec_len result.1.seats)) × (vec_len work.seats ≡ vec_len result.1.seats + 1)) }
+    ensures some { IfSome result.0 (λ s. (s ≡ new_seat desk.now [] (vec_len result.1.seats)) × (vec_len work.seats ≡ vec_len result.1.seats + 1)) }
     ensures none { IfNone result.0 ((vec_len work.seats ≡ 0) × (vec_len result.1.seats ≡ 0)) }
     ensures ready { Ready desk.now sessions (vec_len result.1.seats) result.1.seats.items result.1.ended.items result.1.drivers.items (vec_capacity result.1.ended) (vec_capacity result.1.drivers) }
     ensures room { (vec_capacity work.seats ≡ vec_capacity result.1.seats) × (vec_capacity work.ended ≡ vec_capacity result.1.ended) × (vec_capacity work.drivers ≡ vec_capacity result.1.drivers) }

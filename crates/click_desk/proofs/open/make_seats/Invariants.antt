@@ -1,6 +1,7 @@
 use Rattle.std.proofs.Common.{◌≡◌, ◌≤◌, [], vec_len, vec_capacity}
 use Rattle.crossbeam_queue.specs.Passes.{view, IsPassOf}
 use Rattle.click_desk.specs.Views.{maker}
+use Rattle.click_desk.specs.Charters.{terms_of}
 use Rattle.click_desk.specs.Sittings.{seats_below}
 use Rattle.click_desk.proofs.open.make_seats.Given as goal
 
@@ -10,5 +11,5 @@ invariant-loop-number g l = record {
   known : view l.maker ≡ maker (view l.initial.maker).terms l.number [];
   len : vec_len l.given ≡ l.number;
   room : l.count ≤ vec_capacity l.given;
-  made : l.given.items ≡ seats_below (record { table = l.queue.table.shared.table_id; terms = (view l.initial.maker).terms }) l.number;
+  made : l.given.items ≡ seats_below (record { table = l.queue.table.shared.table_id; terms = terms_of (view l.initial.maker).terms }) (view l.initial.maker).terms.feeds l.number;
 }

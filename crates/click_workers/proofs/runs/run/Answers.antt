@@ -5,7 +5,7 @@ use Rattle.click_control.specs.Serving.{NoneRefused, most_reads}
 use Rattle.click_workers.specs.Seats.{SeatServes}
 use Rattle.click_workers.specs.Runs.{entries_of}
 use Rattle.click_workers.proofs.Workings.{last-new}
-use Rattle.click_workers.proofs.Runnings.{headline-of, one-seat, true-fault}
+use Rattle.click_workers.proofs.Runnings.{headline-of, one-seat}
 use Rattle.click_workers.proofs.runs.run.Goals as goal
 
 pub returns-clause-headline : goal.returns-clause-headline
@@ -24,7 +24,7 @@ returns-clause-served g c =
     let seats : book.seats ≡ s ∷ [] = closes.1.seats_are ∙ c.push_reserved.ensures.items ∙ ap (λ l. l ++ s ∷ []) taken.0 in
     let number : s.number ≡ 0 = c.serve_alone-ended.ensures.same.1 ∙ ap (λ (t : Sitting). t.number) taken.1 in
     let same : s.desk ≡ desk = c.serve_alone-ended.ensures.same.0 ∙ ap (λ (t : Sitting). t.desk) taken.1 in
-    let fresh : c.in-Some.seat ≡ new_seat s.desk 0 = taken.1 ∙ ap (λ d. new_seat d 0) (sym same) in
+    let fresh : c.in-Some.seat ≡ new_seat s.desk [] 0 = taken.1 ∙ ap (λ d. new_seat d [] 0) (sym same) in
     let headline = headline-of text _ 1 desk c.push_reserved.new.self.items book c.in-Ok.ensures.desk closes.0 closes.1 in
     record {
       seat = s;
@@ -34,6 +34,3 @@ returns-clause-served g c =
           (g.W.Sink.output c.args.writer.now) (g.W.Sink.output c.serve_alone-ended.new.writer) c.serve_alone-ended.result.0) fresh c.serve_alone-ended.ensures;
       alone = subst (λ n. Legal text (entries_of n s.calls) book.router) number (one-seat text book s headline seats).1;
     }
-
-pub returns-in-Err-clause-config : goal.returns-in-Err-clause-config
-returns-in-Err-clause-config g c = true-fault c.args.text.now c.in-Err.refused.fault c.fault_of.result c.fault_of.ensures.config c.in-Err.ensures.config

@@ -63,7 +63,7 @@ returns-else-who-sessions-clause-worked g t c =
     let desk = c.join-seat.ensures.first.0.0 ∙ ap (λ (s : Sitting). s.desk) is.0 in
     let number = c.join-seat.ensures.first.0.1 ∙ ap (λ (s : Sitting). s.number) is.0 in
     let next : vec_len c.args.work.seats ≡ suc m = omega (arith, is.1) in
-    let fresh : c.in-Some.seat ≡ new_seat s.desk s.number = is.0 ∙ ap (λ d. new_seat d m) (sym desk) ∙ ap (λ k. new_seat s.desk k) (sym number) in
+    let fresh : c.in-Some.seat ≡ new_seat s.desk [] s.number = is.0 ∙ ap (λ d. new_seat d [] m) (sym desk) ∙ ap (λ k. new_seat s.desk [] k) (sym number) in
     worked-as attends drives c.args.sessions _ _ _ _ _ _ _ _
     next c.push_reserved-else-who-sessions.ensures.items c.push_reserved-else-who-sessions-2.ensures.items refl
     (worked-session attends drives c.args.sessions m _ _ _ s c.join-seat.result.0.0

@@ -2,7 +2,9 @@ use Rattle.std.proofs.Common.{◌≡◌, ◌++◌, ◌∷◌, [], List, ◌∙�
 use Rattle.click_router.specs.One.{Answers}
 use Rattle.click_desk.specs.declared.entry.Entry.{Entry}
 use Rattle.click_desk.specs.History.{entry, Legal}
+use Rattle.click_desk.specs.Polls.{IsPolled}
 use Rattle.click_desk.proofs.Histories.{legal_more}
+use Rattle.click_desk.proofs.Polled.{polled_same}
 use Rattle.click_desk.proofs.booked.Booked.enter.Goals as goal
 
 pub invariant_of-self-2 : goal.invariant_of-self-2
@@ -10,8 +12,11 @@ invariant_of-self-2 g c =
     let e : Entry = entry c.args.number c.args.call c.in-Ok-recorded_twice.entered in
     let is : Answers c.self.inside.router c.args.call c.step.new.self c.in-Ok-recorded_twice.entered =
     subst (λ r. Answers c.self.inside.router c.args.call c.step.new.self r) (sym c.in-Ok-recorded_twice.ensures.kept.0) c.in-Ok-step.ensures.answer in
-    let items : c.push_reserved.new.self.items ≡ c.self.inside.entries.items ++ e ∷ [] = c.push_reserved.ensures.items ∙ ap (λ l. l ++ e ∷ []) c.reserve.ensures.items in
-    subst (λ (l : List Entry). Legal c.self.inside.terms.opening l c.step.new.self) (sym items) (legal_more c.self.inside.terms.opening c.self.inside.entries.items c.self.inside.router e c.step.new.self c.self.invariant is)
+    let items : c.push_reserved.new.self.items ≡ c.self.inside.entries.items ++ e ∷ [] = c.push_reserved.ensures.items ∙ ap (λ l. l ++ e ∷ []) c.reserve.ensures.items in (
+      subst (λ (l : List Entry). Legal c.self.inside.terms.opening l c.step.new.self) (sym items) (legal_more c.self.inside.terms.opening c.self.inside.entries.items c.self.inside.router e c.step.new.self c.self.invariant.0 is),
+      subst (λ (l : List Entry). IsPolled l c.self.inside.taps.items) (sym items) (polled_same c.self.inside.entries.items e c.self.inside.taps.items c.requires c.self.invariant.1),
+      c.self.invariant.2,
+    )
 
 pub returns-clause-legal : goal.returns-clause-legal
 returns-clause-legal g c =
@@ -19,4 +24,10 @@ returns-clause-legal g c =
     let is : Answers c.self.inside.router c.args.call c.step.new.self c.in-Ok-recorded_twice.entered =
     subst (λ r. Answers c.self.inside.router c.args.call c.step.new.self r) (sym c.in-Ok-recorded_twice.ensures.kept.0) c.in-Ok-step.ensures.answer in
     let items : c.push_reserved.new.self.items ≡ c.self.inside.entries.items ++ e ∷ [] = c.push_reserved.ensures.items ∙ ap (λ l. l ++ e ∷ []) c.reserve.ensures.items in
-    subst (λ (l : List Entry). Legal c.self.inside.terms.opening l c.step.new.self) (sym items) (legal_more c.self.inside.terms.opening c.self.inside.entries.items c.self.inside.router e c.step.new.self c.self.invariant is)
+    subst (λ (l : List Entry). Legal c.self.inside.terms.opening l c.step.new.self) (sym items) (legal_more c.self.inside.terms.opening c.self.inside.entries.items c.self.inside.router e c.step.new.self c.self.invariant.0 is)
+
+pub returns-clause-polled : goal.returns-clause-polled
+returns-clause-polled g c =
+    let e : Entry = entry c.args.number c.args.call c.in-Ok-recorded_twice.entered in
+    let items : c.push_reserved.new.self.items ≡ c.self.inside.entries.items ++ e ∷ [] = c.push_reserved.ensures.items ∙ ap (λ l. l ++ e ∷ []) c.reserve.ensures.items in
+    subst (λ (l : List Entry). IsPolled l c.self.inside.taps.items) (sym items) (polled_same c.self.inside.entries.items e c.self.inside.taps.items c.requires c.self.invariant.1)

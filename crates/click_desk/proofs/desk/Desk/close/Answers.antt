@@ -1,11 +1,15 @@
-use Rattle.std.proofs.Common.{◌≡◌, ◌<◌, ◌≤◌, ℕ, List, [], true≢false, length, ap, ◌∙◌, sym, subst, refl}
+use Rattle.std.proofs.Common.{◌≡◌, ◌<◌, ◌≤◌, ℕ, List, [], map, slice_index_or, true≢false, length, ap, ◌∙◌, sym, subst, refl}
 use Rattle.std.specs.List.{All}
 use Rattle.std.proofs.lemmas.List.{with_items_is}
 use Rattle.click_router.specs.State.{RouterState}
 use Rattle.click_desk.specs.declared.entry.Entry.{Entry}
 use Rattle.click_desk.specs.declared.terms.Terms.{Terms}
 use Rattle.click_desk.specs.History.{Legal, entries}
-use Rattle.click_desk.specs.Sittings.{Sitting, DeskName}
+use Rattle.click_rings.specs.Feeds.{Drawing, name_of}
+use Rattle.click_desk.specs.declared.charter.Charter.{Charter}
+use Rattle.click_desk.specs.Charters.{charter_of, terms_of}
+use Rattle.click_desk.specs.Polls.{IsPolled}
+use Rattle.click_desk.specs.Sittings.{Sitting, DeskName, new_seat}
 use Rattle.click_desk.specs.Closing.{IsEachOnce, IsEntered}
 use Rattle.click_desk.proofs.Lawful.{each_lawful}
 use Rattle.click_desk.proofs.Books.{some_seat, each_seated}
@@ -28,23 +32,41 @@ take_last-booked-requires-clause-some g c =
     let once : IsEachOnce c.self.inside.terms.seats c.as_slice.result.now = c.is_each_once.ensures.0 c.if-not-is_each_once.false in
     subst (λ (l : List Sitting). 0 < length l) (c.as_slice.ensures.value ∙ sym c.as_mut_slice.ensures.value) (some_seat c.self.inside.terms.seats c.as_slice.result.now c.self.invariant.1 once)
 
+pub take_last-booked-requires-clause-seats : goal.take_last-booked-requires-clause-seats
+take_last-booked-requires-clause-seats g c =
+    let all : All (λ s. s.desk ≡ c.args.self) c.as_mut_slice.result.now = subst (λ (l : List Sitting). All (λ s. s.desk ≡ c.args.self) l) (sym c.as_mut_slice.ensures.value) c.requires in
+    λ k d below. ap (λ (x : DeskName). x.table) (all k d below) ∙ ap (λ (x : DeskName). x.table) (sym c.self.view_is)
+
 pub returns-clause-ok : goal.returns-clause-ok
 returns-clause-ok g c =
+    let now : c.as_mut_slice.result.now ≡ c.args.seats.items = c.as_mut_slice.ensures.value in
     let n : c.self.inside.terms.seats ≡ c.args.self.terms.seats = ap (λ (d : DeskName). d.terms.seats) c.self.view_is in
-    let once : IsEachOnce c.args.self.terms.seats c.args.seats.items = subst (λ (y : ℕ × List Sitting). IsEachOnce y.0 y.1) (λ i. (n i, c.as_slice.ensures.value i)) (c.is_each_once.ensures.0 c.if-not-is_each_once.false) in
+    let here : IsEachOnce c.self.inside.terms.seats c.as_slice.result.now = c.is_each_once.ensures.0 c.if-not-is_each_once.false in
+    let once : IsEachOnce c.args.self.terms.seats c.args.seats.items = subst (λ (y : ℕ × List Sitting). IsEachOnce y.0 y.1) (λ i. (n i, c.as_slice.ensures.value i)) here in
+    let some : 0 < length c.args.seats.items = subst (λ (l : List Sitting). 0 < length l) c.as_slice.ensures.value (some_seat c.self.inside.terms.seats c.as_slice.result.now c.self.invariant.1 here) in
     let p = c.into_parts-terms.ensures.parts in
     let t = c.take_last-booked.ensures in
-    let now : c.take_last-booked.new.seats ≡ c.args.seats.items = t.same ∙ c.as_mut_slice.ensures.value in
-    let entered : All (IsEntered c.take_last-booked.result.entries) c.as_mut_slice.result.now = t.entered in
-    let legal : Legal c.into_parts-terms.result.0.opening c.into_parts-terms.result.1.items c.into_parts-terms.result.2 = subst (λ (y : Terms × List Entry × RouterState). Legal y.0.opening y.1 y.2) (λ i. (sym p.0 i, sym p.1 i, sym p.2 i)) c.into_parts-terms.ensures.legal in
-    let none : (k : ℕ) → c.args.self.terms.seats ≤ k → entries c.into_parts-terms.result.1.items k ≡ [] = λ k above. ap (λ l. entries l k) p.1 ∙ t.numbered k (subst (λ m. m ≤ k) (sym n) above) in (
+    let booked = c.take_last-booked.result in
+    let r = c.into_parts-terms.result in
+    let blank : Sitting = new_seat c.args.self [] 0 in
+    let known : (s : Sitting) → (slice_index_or c.args.seats.items 0 s).desk.terms ≡ terms_of booked.terms = λ s. subst (λ (l : List Sitting). (slice_index_or l 0 s).desk.terms ≡ terms_of booked.terms) now (t.terms s) in
+    let fed : (s : Sitting) → (slice_index_or c.args.seats.items 0 s).feeds ≡ booked.terms.feeds = λ s. subst (λ (l : List Sitting). (slice_index_or l 0 s).feeds ≡ booked.terms.feeds) now (t.feeds s) in
+    let terms : terms_of booked.terms ≡ c.args.self.terms = sym (known blank) ∙ ap (λ (x : DeskName). x.terms) (c.requires 0 blank some) in
+    let charter : booked.terms ≡ charter_of r.0 (map name_of r.3.items) = c.into_parts-terms.ensures.terms in
+    let seats : c.take_last-booked.new.seats ≡ c.args.seats.items = t.same ∙ now in
+    let entered : All (IsEntered booked.entries) c.as_mut_slice.result.now = t.entered in
+    let opening : r.0.opening ≡ booked.terms.opening = ap (λ (y : Charter). y.opening) (sym charter) in
+    let legal : Legal r.0.opening r.1.items r.2 = subst (λ (y : List ℕ × List Entry × RouterState). Legal y.0 y.1 y.2) (λ i. (sym opening i, sym p.0 i, sym p.1 i)) c.into_parts-terms.ensures.legal in
+    let none : (k : ℕ) → c.args.self.terms.seats ≤ k → entries r.1.items k ≡ [] = λ k above. ap (λ l. entries l k) p.0 ∙ t.numbered k (subst (λ (x : Terms). x.seats ≤ k) (sym terms) above) in (
       once,
       record {
-        seats_are = with_items_is c.args.seats c.take_last-booked.new.seats (ap length now ∙ sym c.args.seats.ok.0) ∙ now;
-        opening = ap (λ (y : Terms). y.opening) (p.0 ∙ t.terms) ∙ ap (λ (d : DeskName). d.terms.opening) c.self.view_is;
+        seats_are = with_items_is c.args.seats c.take_last-booked.new.seats (ap length seats ∙ sym c.args.seats.ok.0) ∙ seats;
+        opening = opening ∙ ap (λ (y : Terms). y.opening) terms;
         replayed = legal;
-        lawful = each_lawful c.into_parts-terms.result.0.opening c.into_parts-terms.result.1.items c.into_parts-terms.result.2 legal;
-        entered = subst (λ (y : List Entry × List Sitting). All (IsEntered y.0) y.1) (λ i. (sym p.1 i, c.as_mut_slice.ensures.value i)) entered;
-        numbered = each_seated c.args.self.terms.seats c.args.seats.items c.into_parts-terms.result.1.items once none;
+        lawful = each_lawful r.0.opening r.1.items r.2 legal;
+        entered = subst (λ (y : List Entry × List Sitting). All (IsEntered y.0) y.1) (λ i. (sym p.0 i, now i)) entered;
+        numbered = each_seated c.args.self.terms.seats c.args.seats.items r.1.items once none;
+        feeds = λ s. fed s ∙ ap (λ (y : Charter). y.feeds) charter;
+        polled = subst (λ (y : List Entry × List Drawing). IsPolled y.0 y.1) (λ i. (sym p.0 i, sym p.2 i)) c.into_parts-terms.ensures.polled;
       },
     )

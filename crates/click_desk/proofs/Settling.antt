@@ -1,0 +1,62 @@
+-- What a settlement rests on.
+use Rattle.std.proofs.Common.{◌≡◌, ℕ, zero, suc, ◌<◌, ◌≤◌, ◌+◌, Bool, true, false, ◌||◌, ◌&&◌, if◌then◌else◌, List, [], ◌∷◌, ◌++◌, map, length, take, drop, slice_index_or, slice_set, sym, refl, ap, ◌∙◌, subst, true≢false, arith}
+use Rattle.std.proofs.Math.Bool.{not}
+use Rattle.std.specs.List.{All, remove}
+use Rattle.std.specs.Str.{bytes_eq}
+use Rattle.click_rings.specs.Feeds.{Drawing, FeedName, name_of, has_feed, are_apart, IsPlace}
+use Rattle.click_rings.proofs.Draws.{has_at, none_first, none_rest, first_apart, rest_apart, other_first}
+use Rattle.click_desk.specs.Polls.{without}
+
+-- taking the inlet of a device out
+pub without_at : (device : List ℕ) (is : List Drawing) (k : ℕ) (y : Drawing) → IsPlace device is k → are_apart (map name_of is) ≡ true → remove (slice_set is k y) k ≡ without device is
+without_at device [] k y at apart = let h = at.0 in absurd (omega arith)
+without_at device (i ∷ is) zero y at apart =
+    let same : bytes_eq i.device device ≡ true = at.1 i in
+    rw same refl
+without_at device (i ∷ is) (suc k) y at apart =
+    let there : IsPlace device is k = (let h = at.0 in omega arith, at.1) in
+    let other : bytes_eq i.device device ≡ false = other_first device i is (bytes_eq i.device device) refl (first_apart i is apart) (has_at device is k there) in
+    rw other (ap (λ l. i ∷ l) (without_at device is k y there (rest_apart i is apart)))
+
+all_tail : (P : Drawing → Type 0) (i : Drawing) (is : List Drawing) → All P (i ∷ is) → All P is
+all_tail P i is all = λ k x below. all (suc k) x (omega arith)
+
+all_cons : (P : Drawing → Type 0) (i : Drawing) (is : List Drawing) → P i → All P is → All P (i ∷ is)
+all_cons P i is here all zero x below = here
+all_cons P i is here all (suc k) x below = all k x (omega arith)
+
+all_choice : (P : Drawing → Type 0) (i : Drawing) (is rest : List Drawing) (b : Bool) → P i → All P is → All P rest → All P (if b then is else (i ∷ rest))
+all_choice P i is rest true here all kept = all
+all_choice P i is rest false here all kept = all_cons P i rest here kept
+
+-- what is left has what all had
+pub all_without : (P : Drawing → Type 0) (device : List ℕ) (is : List Drawing) → All P is → All P (without device is)
+all_without P device [] all = all
+all_without P device (i ∷ is) all =
+    all_choice P i is (without device is) (bytes_eq i.device device) (all 0 i (omega arith)) (all_tail P i is all) (all_without P device is (all_tail P i is all))
+
+none_choice : (d : List ℕ) (i : Drawing) (is rest : List Drawing) (b : Bool) → has_feed d (map name_of (i ∷ is)) ≡ false → has_feed d (map name_of rest) ≡ false → has_feed d (map name_of (if b then is else (i ∷ rest))) ≡ false
+none_choice d i is rest true none kept = none_rest (bytes_eq i.device d) (has_feed d (map name_of is)) none
+none_choice d i is rest false none kept =
+    let first : bytes_eq i.device d ≡ false = none_first (bytes_eq i.device d) (has_feed d (map name_of is)) none in
+    rw first kept
+
+has_without : (d device : List ℕ) (is : List Drawing) → has_feed d (map name_of is) ≡ false → has_feed d (map name_of (without device is)) ≡ false
+has_without d device [] none = none
+has_without d device (i ∷ is) none =
+    none_choice d i is (without device is) (bytes_eq i.device device) none (has_without d device is (none_rest (bytes_eq i.device d) (has_feed d (map name_of is)) none))
+
+apart_cons : (i : Drawing) (is : List Drawing) → has_feed i.device (map name_of is) ≡ false → are_apart (map name_of is) ≡ true → are_apart (map name_of (i ∷ is)) ≡ true
+apart_cons i is none apart = rw none apart
+
+apart_choice : (i : Drawing) (is rest : List Drawing) (b : Bool) → are_apart (map name_of is) ≡ true → are_apart (map name_of (i ∷ rest)) ≡ true → are_apart (map name_of (if b then is else (i ∷ rest))) ≡ true
+apart_choice i is rest true apart kept = apart
+apart_choice i is rest false apart kept = kept
+
+-- what is left is apart
+pub apart_without : (device : List ℕ) (is : List Drawing) → are_apart (map name_of is) ≡ true → are_apart (map name_of (without device is)) ≡ true
+apart_without device [] apart = apart
+apart_without device (i ∷ is) apart =
+    let rest = rest_apart i is apart in
+    apart_choice i is (without device is) (bytes_eq i.device device) rest
+    (apart_cons i (without device is) (has_without i.device device is (first_apart i is apart)) (apart_without device is rest))

@@ -1,0 +1,28 @@
+use Rattle.std.proofs.Common.{inl}
+use Rattle.click_desk.proofs.Calls.{as_call, may_give, sound, polls, refuses}
+use Rattle.click_desk.proofs.desk.Desk.poll.Goals as goal
+
+pub give-requires-clause-rule : goal.give-requires-clause-rule
+give-requires-clause-rule g c =
+    let e = c.enter_poll-result.ensures in
+    let calls = c.seat.inside.calls.items in
+    let calls2 = c.enter_poll-result.new.calls.items in
+    let some = as_call c.take-booked.result c.enter_poll-result.new.self c.seat.inside.number calls calls2 c.args.device.now c.args.most c.enter_poll-result.result (record { terms = e.terms; legal = e.legal; ok = e.ok; err = e.err; full = e.full }) in
+    inl (may_give c.seat.inside.number calls _ _ _ _ calls2 some.0 c.enter_poll-result.result c.seat.invariant.1 c.seat.invariant.2.made c.take-booked.ensures.taken some.1)
+
+pub invariant_of-seat : goal.invariant_of-seat
+invariant_of-seat g c =
+    let e = c.enter_poll-result.ensures in
+    let calls = c.seat.inside.calls.items in
+    let calls2 = c.enter_poll-result.new.calls.items in
+    let some = as_call c.take-booked.result c.enter_poll-result.new.self c.seat.inside.number calls calls2 c.args.device.now c.args.most c.enter_poll-result.result (record { terms = e.terms; legal = e.legal; ok = e.ok; err = e.err; full = e.full }) in
+    let s = sound _ c.seat.inside.number calls _ _ _ _ _ calls2 some.0 c.enter_poll-result.result c.seat.invariant.1 c.seat.invariant.2.made c.take-booked.ensures.taken some.1 c.give.ensures.given in
+    (c.give.ensures.queue.1, s.0, s.1)
+
+pub returns-clause-ok : goal.returns-clause-ok
+returns-clause-ok g c =
+    let e = c.enter_poll-result.ensures in
+    let calls = c.seat.inside.calls.items in
+    let calls2 = c.enter_poll-result.new.calls.items in
+    let some = as_call c.take-booked.result c.enter_poll-result.new.self c.seat.inside.number calls calls2 c.args.device.now c.args.most c.enter_poll-result.result (record { terms = e.terms; legal = e.legal; ok = e.ok; err = e.err; full = e.full }) in
+    rw (← c.seat.view_is) (polls _ _ c.seat.inside.number calls _ _ _ _ _ calls2 c.args.device.now c.args.most c.enter_poll-result.result c.seat.invariant.1 c.seat.invariant.2.made c.take-booked.ensures.taken some c.give.ensures.given)

@@ -1,0 +1,53 @@
+-- Polls: what a history took from the feeds.
+use Rattle.std.specs.Prelude.{◌≡◌, ◌≤◌, ℕ, true, false, List, [], ◌∷◌, ◌++◌, length, if◌then◌else◌}
+use Rattle.std.specs.List.{All}
+use Rattle.std.specs.Str.{bytes_eq}
+use Rattle.click_packet.specs.Packet.{Packet}
+use Rattle.click_rings.specs.Feeds.{FeedName, Drawing, has_feed}
+use Rattle.click_router.specs.declared.call.Call.{Call}
+use Rattle.click_router.specs.declared.call.Call.TheVariants as call
+use Rattle.click_router.specs.declared.call.Reply.{Reply}
+use Rattle.click_router.specs.declared.call.Reply.TheVariants.{NoDevice}
+use Rattle.click_desk.specs.declared.entry.Entry.{Entry}
+use Rattle.click_desk.specs.Sittings.{Sitting, Calls}
+
+abbrev pub poll : List ℕ → List Packet → Call
+poll device taken = call.Poll device taken
+
+-- the packets that a call took from the feed of a device
+abbrev pub taken_of : Call → List ℕ → List Packet
+taken_of (call.Read name text) device = []
+taken_of (call.Write name text) device = []
+taken_of (call.CheckRead name) device = []
+taken_of (call.CheckWrite name) device = []
+taken_of (call.Swap text) device = []
+taken_of (call.Arrive from p) device = []
+taken_of (call.Poll from taken) device = if bytes_eq device from then taken else []
+taken_of call.Round device = []
+taken_of (call.Transmit from) device = []
+
+-- the packets that a history polled of a device, in their order
+abbrev pub polled : List Entry → List ℕ → List Packet
+polled [] device = []
+polled (e ∷ es) device = taken_of e.call device ++ polled es device
+
+-- what was drawn from each feed is what the history polled of its device
+abbrev pub IsPolled : List Entry → List Drawing → Type 0
+IsPolled history taps = All (λ t. t.drawn ≡ polled history t.device) taps
+
+-- How many packets a poll may take: up to the most that is asked for, and none where the configuration has no such device, or the desk no feed of it.
+pub record MayTake (feeds : List FeedName) (device : List ℕ) (limit : ℕ) (taken : List Packet) (reply : Reply) : Type 0 where
+  pub within : length taken ≤ limit
+  pub no_device : reply ≡ NoDevice → taken ≡ []
+  pub no_feed : has_feed device feeds ≡ false → taken ≡ []
+
+-- the seat has polled a device: a call of its own, with packets that were drawn
+pub record Polls (old new : Sitting) (device : List ℕ) (limit : ℕ) (reply : Reply) : Type 0 where
+  pub taken : List Packet
+  pub may : MayTake new.feeds device limit taken reply
+  pub calls : Calls old new (poll device taken) reply
+
+-- the feeds without that of a device
+abbrev pub without : List ℕ → List Drawing → List Drawing
+without device [] = []
+without device (t ∷ ts) = if bytes_eq t.device device then ts else (t ∷ without device ts)

@@ -1,0 +1,13 @@
+//! What the passes of a desk know of it.
+
+use click_rings::Inlet;
+use click_text::sequence::Sequence;
+use std::collections::LinkedList;
+
+/// What a desk was opened with, and which feeds it has. No value of it is made.
+pub struct Charter {
+    pub opening: Sequence<u8>,
+    pub room: usize,
+    pub seats: usize,
+    pub feeds: LinkedList<Inlet>,
+}

@@ -1,0 +1,151 @@
+//! Polls: packets that are drawn from a feed enter the router.
+
+ghost use Rattle.std.specs.Prelude.{◌≡◌, ◌≤◌, ◌++◌, ◌∷◌, ◌↔◌, [], length, map, true, false, IfOk, OnErr, Err, List, vec_len, vec_capacity};
+ghost use Rattle.click_packet.specs.Packet.{Packet};
+ghost use Rattle.click_rings.specs.Feeds.{name_of, has_feed, are_apart, drew};
+ghost use Rattle.click_desk.specs.History.{entry, Legal};
+ghost use Rattle.click_desk.specs.Polls.{poll, IsPolled, MayTake};
+
+use crate::booked::{Booked, DeskFault, recorded_twice};
+use crate::entry::Entry;
+use crate::recorded::Recorded;
+use click_packet::{PacketRoom, StoredPacket};
+use click_rings::{Tap, draw_from};
+use click_router::{Call, Handlers, Reply};
+use click_text::sequence::Sequence;
+use std::alloc::{AllocError, Global};
+
+/// Rooms for this many packets.
+fn packet_rooms(alloc: Global, count: usize) -> Result<Vec<PacketRoom>, AllocError>
+    ensures { IfOk result (λ rooms. vec_len rooms ≡ count) }
+{
+    let mut rooms = Vec::with_capacity(alloc, count)?;
+    for _ in 0..count {
+        rooms.push_reserved(PacketRoom::new(alloc)?);
+    }
+    Ok(rooms)
+}
+
+/// All memory that a poll may need: the device's name and the packets twice, for the history and for the seat's list.
+struct PollRoom {
+    entered_name: Sequence<u8>,
+    listed_name: Sequence<u8>,
+    drawn: Vec<StoredPacket>,
+    listed: Vec<StoredPacket>,
+    rooms: Vec<PacketRoom>,
+}
+
+impl PollRoom {
+    fn new(alloc: Global, device: &[u8], most: usize) -> Result<PollRoom, AllocError>
+        ensures names { IfOk result (λ r. (r.entered_name ≡ device.now) × (r.listed_name ≡ device.now)) }
+        ensures drawn { IfOk result (λ r. (r.drawn.items ≡ []) × (most ≤ vec_capacity r.drawn)) }
+        ensures listed { IfOk result (λ r. (r.listed.items ≡ []) × (most ≤ vec_capacity r.listed) × (vec_len r.rooms ≡ most)) }
+    {
+        Ok(PollRoom {
+            entered_name: Sequence::of(Vec::from_slice(alloc, device)?),
+            listed_name: Sequence::of(Vec::from_slice(alloc, device)?),
+            drawn: Vec::with_capacity(alloc, most)?,
+            listed: Vec::with_capacity(alloc, most)?,
+            rooms: packet_rooms(alloc, most)?,
+        })
+    }
+}
+
+/// Copies packets into the rooms for them. It takes no memory.
+fn copy_all(
+    packets: &[StoredPacket],
+    mut rooms: Vec<PacketRoom>,
+    mut copies: Vec<StoredPacket>,
+) -> Vec<StoredPacket>
+    requires { (copies.items ≡ []) × (length packets.now ≤ vec_capacity copies) × (length packets.now ≤ vec_len rooms) }
+    ensures { result.items ≡ packets.now }
+{
+    for packet in packets {
+        match rooms.pop() {
+            Some(room) => copies.push_reserved(room.copy_of(packet)),
+            None => unreachable!(),
+        }
+    }
+    copies
+}
+
+/// Draws for a poll, where the configuration has its device.
+fn draw_where(
+    found: bool,
+    taps: &mut [Tap],
+    device: &[u8],
+    most: usize,
+    taken: &mut Vec<StoredPacket>,
+)
+    requires apart { are_apart (map name_of taps.old) ≡ true }
+    requires room { (taken.old.items ≡ []) × (most ≤ vec_capacity taken.old) }
+    ensures taps { taps.new ≡ drew device.now taken.new.items taps.old }
+    ensures most { length taken.new.items ≤ most }
+    ensures unknown { has_feed device.now (map name_of taps.old) ≡ false → taken.new.items ≡ [] }
+    ensures nothing { found ≡ false → taken.new.items ≡ [] }
+{
+    if found {
+        draw_from(taps, device, most, taken);
+    }
+}
+
+impl<T: Handlers> Booked<T> {
+    /// One poll of a device, by the seat with this number, entered in the history and in the seat's list. All memory is taken before a packet is drawn.
+    pub fn enter_poll(
+        &mut self,
+        alloc: Global,
+        number: usize,
+        calls: &mut Vec<(Call, Recorded)>,
+        device: &[u8],
+        most: usize,
+    ) -> Result<Reply, DeskFault>
+        ensures terms { self.new.terms ≡ self.old.terms }
+        ensures legal { Legal self.new.terms.opening self.new.entries self.new.state }
+        ensures polled { IsPolled self.new.entries self.new.taps }
+        ensures ok { IfOk result (λ reply. (taken : List Packet) × MayTake self.new.terms.feeds device.now most taken reply × (self.new.entries ≡ self.old.entries ++ entry number (poll device.now taken) reply ∷ []) × (calls.new.items ≡ calls.old.items ++ (poll device.now taken, reply) ∷ []) × (length self.new.entries ≤ self.new.terms.room)) }
+        ensures err { OnErr result ((self.new ≡ self.old) × (calls.new.items ≡ calls.old.items)) }
+        ensures full { (result ≡ Err DeskFault.HistoryFull) ↔ (self.old.terms.room ≤ length self.old.entries) }
+    {
+        if self.entries.len() >= self.terms.room {
+            return Err(DeskFault::HistoryFull);
+        }
+        if self.entries.reserve(1).is_err() || calls.reserve(1).is_err() {
+            return Err(DeskFault::NoMemory);
+        }
+        let Ok(room) = PollRoom::new(alloc, device, most) else {
+            return Err(DeskFault::NoMemory);
+        };
+        let PollRoom {
+            entered_name,
+            listed_name,
+            mut drawn,
+            listed,
+            rooms,
+        } = room;
+        let found = self.router.has_source(device);
+        draw_where(found, self.taps.as_mut_slice(), device, most, &mut drawn);
+        let copies = copy_all(drawn.as_slice(), rooms, listed);
+        let call = Call::Poll {
+            device: entered_name,
+            taken: Sequence::of(drawn),
+        };
+        let copy = Call::Poll {
+            device: listed_name,
+            taken: Sequence::of(copies),
+        };
+        // From here on nothing fails: a poll and its reply take no memory.
+        let Ok(reply) = self.router.step(alloc, &call) else {
+            unreachable!()
+        };
+        let Ok((entered, told)) = recorded_twice(alloc, &reply, (None, None)) else {
+            unreachable!()
+        };
+        self.entries.push_reserved(Entry {
+            seat: number,
+            call,
+            reply: entered,
+        });
+        calls.push_reserved((copy, told));
+        Ok(reply)
+    }
+}

@@ -1,0 +1,132 @@
+//! Inlets of several devices, and what is drawn from them.
+
+ghost use Rattle.std.specs.Prelude.{◌≡◌, ◌≤◌, ◌++◌, [], length, map, true, false, vec_capacity, IfOk, IfSome, IfNone, OnErr};
+ghost use Rattle.click_rings.specs.Feeds.{name_of, has_feed, are_apart as apart, drew, IsPlace};
+
+use crate::ends::{FeedEnd, Inlet};
+use click_packet::StoredPacket;
+use click_text::sequence::Sequence;
+use rtrb::Consumer;
+use std::alloc::{AllocError, Global};
+use std::marker::Model;
+
+/// An inlet in use.
+#[derive(Drop)]
+pub struct Tap {
+    device: Sequence<u8>,
+    consumer: Consumer<StoredPacket>,
+}
+
+impl Model for Tap {
+    ghost use Rattle.click_rings.specs.Feeds.{Drawing};
+    ghost use Rattle.rtrb.specs.Ring.{received};
+
+    ghost Value = { Drawing };
+
+    ghost view = { λ t. record { device = t.device; ring = record { words = t.consumer.end.words; slots = t.consumer.end.slots; names = t.consumer.end.names }; drawn = received t.consumer } };
+}
+
+impl Tap {
+    /// Opens an inlet.
+    pub fn of(inlet: Inlet) -> Tap
+        ensures name { name_of result ≡ inlet }
+        ensures drawn { result.drawn ≡ [] }
+    {
+        let Inlet { device, consumer } = inlet;
+        Tap { device, consumer }
+    }
+
+    /// The device that it is for.
+    pub fn device(&self) -> &[u8]
+        ensures { result.now ≡ self.now.device }
+    {
+        self.device.as_slice()
+    }
+
+    /// Draws up to `most` packets, as far as they are seen to be there. It waits for nobody.
+    pub fn draw(&mut self, most: usize, taken: &mut Vec<StoredPacket>)
+        requires { (taken.old.items ≡ []) × (most ≤ vec_capacity taken.old) }
+        ensures inlet { self.new ≡ record self.old { drawn = self.old.drawn ++ taken.new.items } }
+        ensures most { length taken.new.items ≤ most }
+    {
+        for _ in 0..most {
+            let Ok(packet) = self.consumer.pop() else {
+                return;
+            };
+            taken.push_reserved(packet);
+        }
+    }
+
+    /// What is left in the ring of a feed that has ended. Where memory runs out, nothing is drawn.
+    pub fn drain(
+        &mut self,
+        alloc: Global,
+        end: &mut FeedEnd,
+    ) -> Result<Vec<StoredPacket>, AllocError>
+        requires { end.old.ring ≡ self.old.ring }
+        ensures name { name_of self.new ≡ name_of self.old }
+        ensures end { end.new ≡ end.old }
+        ensures ok { IfOk result (λ left. (end.old.put ≡ self.old.drawn ++ left.items) × (self.new.drawn ≡ end.old.put)) }
+        ensures err { OnErr result (self.new.drawn ≡ self.old.drawn) }
+    {
+        let count = self.consumer.slots_after(&mut end.finished);
+        let mut left = Vec::with_capacity(alloc, count)?;
+        for _ in 0..count {
+            left.push_reserved(self.consumer.pop_known());
+        }
+        Ok(left)
+    }
+}
+
+/// Whether one of these inlets is of the device.
+fn has_inlet(inlets: &[Inlet], device: &[u8]) -> bool
+    ensures { result ≡ has_feed device.now inlets.now }
+{
+    match inlets {
+        [] => false,
+        [first, rest @ ..] => first.device() == device || has_inlet(rest, device),
+    }
+}
+
+/// Whether no two of these inlets are of one device.
+pub fn are_apart(inlets: &[Inlet]) -> bool
+    ensures { result ≡ apart inlets.now }
+{
+    match inlets {
+        [] => true,
+        [first, rest @ ..] => !has_inlet(rest, first.device()) && are_apart(rest),
+    }
+}
+
+/// Where the device's stands.
+pub fn place_of(taps: &[Tap], device: &[u8]) -> Option<usize>
+    ensures some { IfSome result (λ place. IsPlace device.now taps.now place) }
+    ensures none { IfNone result (has_feed device.now (map name_of taps.now) ≡ false) }
+{
+    match taps {
+        [] => None,
+        [first, rest @ ..] => {
+            if first.device() == device {
+                return Some(0);
+            }
+            match place_of(rest, device) {
+                Some(place) => Some(place + 1),
+                None => None,
+            }
+        }
+    }
+}
+
+/// Draws up to `most` packets from the device's, if there is one.
+pub fn draw_from(taps: &mut [Tap], device: &[u8], most: usize, taken: &mut Vec<StoredPacket>)
+    requires apart { apart (map name_of taps.old) ≡ true }
+    requires room { (taken.old.items ≡ []) × (most ≤ vec_capacity taken.old) }
+    ensures taps { taps.new ≡ drew device.now taken.new.items taps.old }
+    ensures most { length taken.new.items ≤ most }
+    ensures unknown { has_feed device.now (map name_of taps.old) ≡ false → taken.new.items ≡ [] }
+{
+    match place_of(taps, device) {
+        Some(place) => taps[place].draw(most, taken),
+        None => {}
+    }
+}
