@@ -99,18 +99,26 @@ impl PacketRoom {
         })
     }
 
-    /// Keeps the packet, and gives back the memory that it does not need. It takes none.
-    pub fn keep(self, packet: &Packet) -> StoredPacket
-        ensures { result ≡ packet.now }
+    /// These bytes. The memory that they do not need is given back.
+    fn filled(self, given: &[u8]) -> Vec<u8>
+        requires { length given.now ≤ longest_packet }
+        ensures { result.items ≡ given.now }
     {
         let PacketRoom { mut bytes } = self;
-        match bytes.extend_from_slice(packet.bytes()) {
+        match bytes.extend_from_slice(given) {
             Ok(()) => {}
             Err(_) => unreachable!(),
         }
         bytes.shrink_to_fit();
+        bytes
+    }
+
+    /// Keeps the packet, and gives back the memory that it does not need. It takes none.
+    pub fn keep(self, packet: &Packet) -> StoredPacket
+        ensures { result ≡ packet.now }
+    {
         StoredPacket {
-            bytes,
+            bytes: self.filled(packet.bytes()),
             colour: packet.paint(),
             next: packet.destination(),
         }
@@ -120,14 +128,8 @@ impl PacketRoom {
     pub fn copy_of(self, packet: &StoredPacket) -> StoredPacket
         ensures { result ≡ packet.now }
     {
-        let PacketRoom { mut bytes } = self;
-        match bytes.extend_from_slice(packet.bytes()) {
-            Ok(()) => {}
-            Err(_) => unreachable!(),
-        }
-        bytes.shrink_to_fit();
         StoredPacket {
-            bytes,
+            bytes: self.filled(packet.bytes()),
             colour: packet.colour,
             next: packet.next,
         }
