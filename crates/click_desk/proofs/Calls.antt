@@ -1,5 +1,5 @@
 -- What a seat knows after a take, an entering and a give.
-use Rattle.std.proofs.Common.{◌≡◌, ◌↔◌, ℕ, List, [], ◌∷◌, ◌++◌, length, ◌<◌, ◌≤◌, Result, Ok, Err, IfOk, IfErr, OnErr, sym, refl, ap, ◌∙◌, subst, arith, append-nil}
+use Rattle.std.proofs.Common.{◌≡◌, ◌↔◌, ℕ, List, [], ◌∷◌, ◌++◌, length, ◌<◌, ◌≤◌, Result, Ok, Err, IfOk, IfErr, OnErr, sym, refl, ap, ◌∙◌, subst, arith, append-nil, length-append}
 use Rattle.atomic_table.specs.Seated.{TableId}
 use Rattle.click_router.specs.declared.call.Call.{Call}
 use Rattle.click_router.specs.declared.call.Reply.{Reply}
@@ -10,7 +10,8 @@ use Rattle.click_desk.specs.declared.entry.Entry.{Entry}
 use Rattle.click_desk.specs.declared.charter.Charter.{Charter}
 use Rattle.click_desk.specs.declared.view.View.{View}
 use Rattle.click_desk.specs.Charters.{terms_of}
-use Rattle.click_desk.specs.Polls.{poll, Polls, MayTake}
+use Rattle.click_router.specs.Polls.{poll}
+use Rattle.click_desk.specs.Polls.{Polls, MayTake}
 use Rattle.click_packet.specs.Packet.{Packet}
 use Rattle.click_desk.specs.History.{entry, entries, Legal}
 use Rattle.click_desk.specs.Views.{seated, taken, given, Finds, Takes, Gives, MayGive}
@@ -25,6 +26,16 @@ pub record Enters (b b2 : Booking) (n : ℕ) (calls calls2 : List (Call × Reply
   pub err : OnErr result ((b2 ≡ b) × (calls2 ≡ calls))
   pub full : (result ≡ Err HistoryFull) ↔ (b.terms.room ≤ length b.entries)
 
+-- no history is longer than the room
+within_at : (t : Charter) (n : ℕ) (calls : List (Call × Reply)) (seen : List Entry) (b b2 : Booking) (calls2 : List (Call × Reply)) (call : Call) (result : Result Reply DeskFault)
+    → Finds (seated t n calls seen) b → Enters b b2 n calls calls2 call result → length b2.entries ≤ b2.terms.room
+within_at t n calls seen b b2 calls2 call (Ok reply) finds enters = enters.ok.2
+within_at t n calls seen b b2 calls2 call (Err fault) finds enters = subst (λ (x : Booking). length x.entries ≤ x.terms.room) (sym enters.err.0) finds.2
+
+fault_or : DeskFault → Result Reply DeskFault → DeskFault
+fault_or other (Ok reply) = other
+fault_or other (Err fault) = fault
+
 may_give_at : (t : Charter) (n : ℕ) (calls : List (Call × Reply)) (seen : List Entry) (b b2 : Booking) (calls2 : List (Call × Reply)) (call : Call) (result : Result Reply DeskFault)
     → n < t.seats → Finds (seated t n calls seen) b → Enters b b2 n calls calls2 call result → MayGive (taken (seated t n calls seen) b) b2
 may_give_at t n calls seen b b2 calls2 call (Ok reply) made finds enters = record {
@@ -36,6 +47,7 @@ may_give_at t n calls seen b b2 calls2 call (Ok reply) made finds enters = recor
   terms = enters.terms ∙ finds.0;
   within = enters.ok.2;
   longer = (entry n call reply ∷ [], enters.ok.0);
+  one = let more = ap length enters.ok.0 in omega (arith, length-append b.entries (entry n call reply ∷ []));
   others = λ m apart. ap (λ l. entries l m) enters.ok.0 ∙ entries_other b.entries n call reply m apart;
 }
 may_give_at t n calls seen b b2 calls2 call (Err fault) made finds enters =
@@ -48,6 +60,7 @@ may_give_at t n calls seen b b2 calls2 call (Err fault) made finds enters =
       terms = enters.terms ∙ finds.0;
       within = subst (λ (x : Booking). length x.entries ≤ x.terms.room) (sym is) finds.2;
       longer = ([], ap (λ (x : Booking). x.entries) is ∙ sym (append-nil b.entries));
+      one = let more = ap (λ (x : Booking). length x.entries) is in omega arith;
       others = λ m apart. ap (λ (x : Booking). entries x.entries m) is;
     }
 
@@ -87,6 +100,7 @@ sound table n calls v v1 v2 b b2 calls2 call result is made takes enters gives =
       legal = (b2.state, enters.legal);
       own = mine;
       made = subst (λ (t : Charter). n < t.seats) (sym (enters.terms ∙ takes.1.0)) made;
+      within = within_at v.terms n calls v.seen b b2 calls2 call result (subst (λ (y : View). Finds y b) is takes.1) enters;
     } in (
       at ∙ ap (λ (y : View). seated y.terms n calls2 y.seen) (sym at),
       subst (λ (y : View). IsSeat (sitting table n calls2 y)) (sym at) here,
@@ -117,12 +131,18 @@ refuses table table2 n calls v v1 v2 b b2 calls2 call (Err fault) is made takes 
     let longer = takes.1.1 in record {
       seen = (longer.0, seen ∙ (same ∙ longer.1));
       calls = enters.err.1;
-      full = λ e.
-          let room = enters.full.0 (ap (λ f. Err f) e) in
-          let within = takes.1.2 in
-          let len = ap length (seen ∙ same) in
-          let rooms = ap (λ (t : Charter). t.room) terms in
-          omega arith;
+      full = (
+        (λ e.
+            let room = enters.full.0 (ap (λ f. Err f) e) in
+            let within = takes.1.2 in
+            let len = ap length (seen ∙ same) in
+            let rooms = ap (λ (t : Charter). t.room) terms in
+            omega arith),
+        (λ many.
+            let len = ap length (seen ∙ same) in
+            let rooms = ap (λ (t : Charter). t.room) terms in
+            ap (fault_or fault) (enters.full.1 (omega arith))),
+      );
       sound = (sound table2 n calls v v1 v2 b b2 calls2 call (Err fault) is made takes enters gives).1;
     }
 

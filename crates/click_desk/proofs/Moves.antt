@@ -11,7 +11,7 @@ use Rattle.click_desk.specs.declared.charter.Charter.{Charter}
 use Rattle.click_desk.specs.declared.view.View.{View}
 use Rattle.click_desk.specs.History.{entries, StartsWith}
 use Rattle.click_desk.specs.Views.{first, nobody, agent, holding, taken, given, Takes, Gives, MayGive, one_more, next_seat, met, parted, Audits}
-use Rattle.click_desk.specs.Rule.{Fits, IsHeld, Place, All, Kept, OnePlace}
+use Rattle.click_desk.specs.Rule.{Fits, IsHeld, Place, AtEachPass, Kept, OnePlace}
 use Rattle.click_desk.proofs.Histories.{starts_here, starts_empty, starts_along}
 
 -- lists of views
@@ -31,11 +31,11 @@ at_behind [] a b (suc j) e = absurd (some-ne-none b (sym e))
 at_behind (x ∷ l) a b zero e = inl e
 at_behind (x ∷ l) a b (suc j) e = ⊎_elim (λ h. inl h) (λ h. inr (ap suc h.0, h.1)) (at_behind l a b j e)
 
-all_set : (F : ℕ → View → Type 0) (views : List View) (port : ℕ) (w : View) → F port w → ((j : ℕ) (u : View) → j ≢ port → get_elem? views j ≡ some u → F j u) → All F (set views port w)
+all_set : (F : ℕ → View → Type 0) (views : List View) (port : ℕ) (w : View) → F port w → ((j : ℕ) (u : View) → j ≢ port → get_elem? views j ≡ some u → F j u) → AtEachPass F (set views port w)
 all_set F views port w mine others j u e = ⊎_elim (λ (x : (j ≡ port) × (w ≡ u)). subst (λ (y : ℕ × View). F y.0 y.1) (λ i. (sym x.0 i, x.1 i)) mine)
     (λ (x : (j ≢ port) × (get_elem? views j ≡ some u)). others j u x.0 x.1) (at_set views port j w u e)
 
-all_behind : (F : ℕ → View → Type 0) (views : List View) (w : View) → All F views → F (length views) w → All F (views ++ w ∷ [])
+all_behind : (F : ℕ → View → Type 0) (views : List View) (w : View) → AtEachPass F views → F (length views) w → AtEachPass F (views ++ w ∷ [])
 all_behind F views w old new j u e = ⊎_elim (λ (x : get_elem? views j ≡ some u). old j u x)
     (λ (x : (j ≡ length views) × (w ≡ u)). subst (λ (y : ℕ × View). F y.0 y.1) (λ i. (sym x.0 i, x.1 i)) new) (at_behind views w u j e)
 
@@ -191,7 +191,7 @@ opens n pass v x is empty items views room (inl h) at =
       acts = λ t. absurd (true≢false (sym t ∙ ap (λ (y : View). y.acts) is));
       makes = λ _ i _. (refl, ap (λ l. entries l i) empty);
     } in
-    let alone : All F (w ∷ []) = all_behind F [] w (λ j u e. absurd (some-ne-none u (sym e))) mine in
+    let alone : AtEachPass F (w ∷ []) = all_behind F [] w (λ j u e. absurd (some-ne-none u (sym e))) mine in
     let now : set views pass w ≡ w ∷ [] = (λ i. set (h.1 i) (p i) w) in (
       w,
       inr (record {
@@ -202,7 +202,7 @@ opens n pass v x is empty items views room (inl h) at =
         place = inr (x, ap (λ l. l ++ x ∷ []) h.0, refl, refl);
         within = let none = ap length empty in omega arith;
         numbered = λ i le. ap (λ l. entries l i) empty;
-        fits = subst (λ (l : List View). All F l) (sym now) alone;
+        fits = subst (λ (l : List View). AtEachPass F l) (sym now) alone;
       }),
       refl,
     )
@@ -312,7 +312,7 @@ meets pass v other w opened held items views rule at two at2 =
       acts = g.acts;
       makes = g.makes;
     } in
-    let now : All G vs = all_set G views pass both mine others in
+    let now : AtEachPass G vs = all_set G views pass both mine others in
     let spent : F other nobody = record {
       knows = λ t. absurd (true≢false (sym t));
       seen = starts_empty k.history;

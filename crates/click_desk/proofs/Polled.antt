@@ -1,27 +1,18 @@
 -- Laws of what a history polled.
-use Rattle.std.proofs.Common.{◌≡◌, ℕ, zero, suc, ◌<◌, ◌≤◌, ◌+◌, Bool, true, false, if◌then◌else◌, List, [], ◌∷◌, ◌++◌, map, length, slice_index_or, Option, Some, None, IsSome, sym, refl, ap, ◌∙◌, subst, true≢false, append-nil, append_assoc, arith}
+use Rattle.std.proofs.Common.{◌≡◌, ℕ, zero, suc, ◌<◌, ◌≤◌, ◌+◌, Bool, true, false, if◌then◌else◌, List, [], ◌∷◌, ◌++◌, map, length, slice_index_or, Option, Some, None, sym, refl, ap, ◌∙◌, subst, true≢false, append-nil, append_assoc, arith}
 use Rattle.std.specs.Str.{bytes_eq}
 use Rattle.click_packet.specs.Packet.{Packet}
 use Rattle.click_rings.specs.Feeds.{Drawing, drew}
 use Rattle.click_router.specs.State.{RouterState}
 use Rattle.click_engine.specs.Rounds.{source_of}
 use Rattle.click_router.specs.One.{entered, arrivals, holds_memory, sends_packet}
-use Rattle.click_router.specs.Polls.{is_poll}
+use Rattle.click_router.specs.Polls.{poll, is_poll}
 use Rattle.click_router.specs.declared.call.Call.{Call}
 use Rattle.click_router.specs.declared.call.Call.TheVariants as call
 use Rattle.click_router.specs.declared.call.Reply.{Reply}
 use Rattle.click_router.specs.declared.call.Reply.TheVariants as reply
 use Rattle.click_desk.specs.declared.entry.Entry.{Entry}
-use Rattle.click_desk.specs.Polls.{poll, taken_of, polled, IsPolled}
-
-drew_none : (i : Drawing) (b : Bool) → (if b then record i { drawn = i.drawn ++ [] } else i) ≡ i
-drew_none i true = (λ k. record i { drawn = append-nil i.drawn k })
-drew_none i false = refl
-
--- nothing was drawn
-pub drew_nothing : (device : List ℕ) (is : List Drawing) → drew device [] is ≡ is
-drew_nothing device [] = refl
-drew_nothing device (i ∷ is) = let rest = drew_nothing device is in (λ k. drew_none i (bytes_eq i.device device) k ∷ rest k)
+use Rattle.click_desk.specs.Polls.{taken_of, polled, IsPolled}
 
 pub drew_length : (device : List ℕ) (got : List Packet) (is : List Drawing) → length (drew device got is) ≡ length is
 drew_length device got [] = refl
@@ -71,14 +62,6 @@ arrived s device taken o = elim o [
   | Some at ↦ (record s { plant = arrivals s.plant device taken }, reply.Entered (length taken))
 ]
 
-no_source_at : (s : RouterState) (device : List ℕ) (taken : List Packet) (o : Option ℕ) → (arrived s device taken o).1 ≡ reply.NoDevice → IsSome o → ⊥
-no_source_at s device taken (Some at) none some = cc
-no_source_at s device taken None none some = some
-
--- where no device was there, the router has no such source
-pub no_source : (s t : RouterState) (device : List ℕ) (taken : List Packet) (r : Reply) → entered s device taken ≡ (t, r) → r ≡ reply.NoDevice → IsSome (source_of s.plant device) → ⊥
-no_source s t device taken r is none some = no_source_at s device taken (source_of s.plant device) (ap (λ (p : RouterState × Reply). p.1) is ∙ none) some
-
 light_at : (s : RouterState) (device : List ℕ) (taken : List Packet) (o : Option ℕ) → (holds_memory (arrived s device taken o).1 ≡ false) × (sends_packet (arrived s device taken o).1 ≡ false)
 light_at s device taken (Some at) = (refl, refl)
 light_at s device taken None = (refl, refl)
@@ -87,7 +70,3 @@ light_at s device taken None = (refl, refl)
 pub poll_light : (s t : RouterState) (device : List ℕ) (taken : List Packet) (r : Reply) → entered s device taken ≡ (t, r) → (holds_memory r ≡ false) × (sends_packet r ≡ false)
 poll_light s t device taken r is =
     subst (λ (p : RouterState × Reply). (holds_memory p.1 ≡ false) × (sends_packet p.1 ≡ false)) is (light_at s device taken (source_of s.plant device))
-
-pub not_true : (b : Bool) → (b ≡ true → ⊥) → b ≡ false
-not_true true no_way = absurd (no_way refl)
-not_true false no_way = refl

@@ -1,5 +1,5 @@
 -- What a closed desk's book says.
-use Rattle.std.specs.Prelude.{◌≡◌, ℕ, ◌<◌, ◌==◌, List, count_by, map, slice_index_or}
+use Rattle.std.specs.Prelude.{◌≡◌, ℕ, ◌<◌, ◌≤◌, ◌==◌, List, count_by, length, map, slice_index_or}
 use Rattle.std.specs.List.{All}
 use Rattle.click_desk.specs.declared.entry.Entry.{Entry}
 use Rattle.click_desk.specs.Booklet.{Booklet}
@@ -22,6 +22,7 @@ pub record Closes (desk : DeskName) (seats : List Sitting) (book : Booklet) : Ty
   pub opening : book.opening ≡ desk.terms.opening
   pub replayed : Legal book.opening book.entries book.router
   pub lawful : EachLawful (installs book.opening book.entries)
+  pub within : length book.entries ≤ desk.terms.room
   pub entered : All (IsEntered book.entries) seats
   pub numbered : All (λ e. count_by (λ s. s.number == e.seat) seats ≡ 1) book.entries
   pub feeds : (s : Sitting) → (slice_index_or seats 0 s).feeds ≡ map name_of book.taps

@@ -4,15 +4,13 @@ use Rattle.std.specs.List.{All}
 use Rattle.std.specs.Str.{bytes_eq}
 use Rattle.click_packet.specs.Packet.{Packet}
 use Rattle.click_rings.specs.Feeds.{FeedName, Drawing, has_feed}
+use Rattle.click_router.specs.Polls.{poll}
 use Rattle.click_router.specs.declared.call.Call.{Call}
 use Rattle.click_router.specs.declared.call.Call.TheVariants as call
 use Rattle.click_router.specs.declared.call.Reply.{Reply}
 use Rattle.click_router.specs.declared.call.Reply.TheVariants.{NoDevice}
 use Rattle.click_desk.specs.declared.entry.Entry.{Entry}
 use Rattle.click_desk.specs.Sittings.{Sitting, Calls}
-
-abbrev pub poll : List ℕ → List Packet → Call
-poll device taken = call.Poll device taken
 
 -- the packets that a call took from the feed of a device
 abbrev pub taken_of : Call → List ℕ → List Packet

@@ -1,4 +1,5 @@
--- The rule of the queue of one place. It speaks of histories, seat numbers, opening and room alone.
+-- The rule of the queue of one place. It speaks of histories, of seat numbers, and of what the desk was opened with (text, room, number of seats, which feeds); never of the
+-- router, of its handlers, or of what was drawn from a feed.
 use Rattle.std.specs.Prelude.{◌≡◌, ℕ, ◌≤◌, ◌⊎◌, true, List, [], ◌∷◌, length}
 use mathlib.Core.Option.{some}
 use lib.ListN.{get_elem?}
@@ -19,6 +20,7 @@ pub record Fits (items : List Booking) (history : List Entry) (terms : Charter) 
   pub acts : v.acts ≡ true → (owner v.number ≡ pass) × (entries history v.number ≡ v.mine)
   pub makes : v.makes ≡ true → (n : ℕ) → v.made ≤ n → (owner n ≡ pass) × (entries history n ≡ [])
 
+-- this pass holds the booked router
 abbrev pub IsHeld : List View → ℕ → Type 0
 IsHeld views holder = (v : View) × (get_elem? views holder ≡ some v) × (v.holds ≡ true)
 
@@ -27,9 +29,11 @@ abbrev pub Place : List Booking → List View → List Entry → Charter → ℕ
 Place items views history terms holder =
     ((items ≡ []) × IsHeld views holder) ⊎ ((b : Booking) × (items ≡ b ∷ []) × (b.terms ≡ terms) × (b.entries ≡ history))
 
-abbrev pub All : (ℕ → View → Type 0) → List View → Type 0
-All F views = (pass : ℕ) (v : View) → get_elem? views pass ≡ some v → F pass v
+-- each pass of the queue is so
+abbrev pub AtEachPass : (ℕ → View → Type 0) → List View → Type 0
+AtEachPass F views = (pass : ℕ) (v : View) → get_elem? views pass ≡ some v → F pass v
 
+-- there is one history, which is in the queue or held, and which what each pass knows fits
 pub record Kept (items : List Booking) (views : List View) : Type 0 where
   pub history : List Entry
   pub terms : Charter
@@ -38,7 +42,7 @@ pub record Kept (items : List Booking) (views : List View) : Type 0 where
   pub place : Place items views history terms holder
   pub within : length history ≤ terms.room
   pub numbered : (n : ℕ) → terms.seats ≤ n → entries history n ≡ []
-  pub fits : All (Fits items history terms owner holder) views
+  pub fits : AtEachPass (Fits items history terms owner holder) views
 
 -- at first there is one pass, which holds the empty history; from its give on the rest is kept
 abbrev pub OnePlace : List Booking → List View → Type 0

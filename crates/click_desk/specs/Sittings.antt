@@ -1,5 +1,5 @@
 -- Desks and seats as contracts see them.
-use Rattle.std.specs.Prelude.{◌≡◌, ℕ, zero, suc, ◌<◌, List, [], ◌∷◌, ◌++◌, length}
+use Rattle.std.specs.Prelude.{◌≡◌, ◌↔◌, ℕ, zero, suc, ◌<◌, ◌≤◌, List, [], ◌∷◌, ◌++◌, length}
 use Rattle.atomic_table.specs.Seated.{TableId}
 use Rattle.click_rings.specs.Feeds.{FeedName}
 use Rattle.click_router.specs.declared.call.Call.{Call}
@@ -23,11 +23,12 @@ pub record Sitting : Type 0 where
   pub calls : List (Call × Reply)
   pub seen : List Entry
 
--- what a seat saw is a history from the opening text, which has of this seat just its calls
+-- what a seat saw is a history from the opening text, within the room, which has of this seat just its calls
 pub record IsSeat (s : Sitting) : Type 0 where
   pub legal : IsLegal s.desk.terms.opening s.seen
   pub own : entries s.seen s.number ≡ s.calls
   pub made : s.number < s.desk.terms.seats
+  pub within : length s.seen ≤ s.desk.terms.room
 
 -- the seat has seen a longer history, which ends with this call and this reply, one more of its own
 pub record Calls (old new : Sitting) (call : Call) (reply : Reply) : Type 0 where
@@ -36,11 +37,11 @@ pub record Calls (old new : Sitting) (call : Call) (reply : Reply) : Type 0 wher
   pub calls : new.calls ≡ old.calls ++ (call, reply) ∷ []
   pub sound : IsSeat new
 
--- the seat made no call; it has seen the history so far, which has room entries where the history was full
+-- the seat made no call; it has seen the history so far, which has as many entries as there is room for just where that is why
 pub record IsRefused (old new : Sitting) (fault : DeskFault) : Type 0 where
   pub seen : StartsWith new.seen old.seen
   pub calls : new.calls ≡ old.calls
-  pub full : fault ≡ HistoryFull → length new.seen ≡ new.desk.terms.room
+  pub full : (fault ≡ HistoryFull) ↔ (length new.seen ≡ new.desk.terms.room)
   pub sound : IsSeat new
 
 -- a seat that has made no call

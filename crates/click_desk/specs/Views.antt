@@ -56,7 +56,7 @@ Takes v x w = (w ≡ taken v x) × Finds v x
 abbrev pub Gives : View → Booking → View → Type 0
 Gives v x w = w ≡ given v x
 
--- what may be given back: the history that was taken, or it with entries of this seat behind it
+-- what may be given back: the history that was taken, or it with one entry of this seat after it
 pub record MayGive (v : View) (x : Booking) : Type 0 where
   pub opened : v.opened ≡ true
   pub holds : v.holds ≡ true
@@ -66,6 +66,7 @@ pub record MayGive (v : View) (x : Booking) : Type 0 where
   pub terms : x.terms ≡ v.terms
   pub within : length x.entries ≤ x.terms.room
   pub longer : StartsWith x.entries v.seen
+  pub one : length x.entries ≤ length v.seen + 1
   pub others : (n : ℕ) → n ≢ v.number → entries x.entries n ≡ entries v.seen n
 
 -- the first give finds a queue that no other pass knows of, and gives an empty history

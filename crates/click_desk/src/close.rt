@@ -100,6 +100,7 @@ fn take_last<T, R: Wait>(rt: &R, queue: &Queue<T>, seats: &mut [Seat<T>]) -> Boo
     ensures feeds { (s : Sitting) → (slice_index_or seats.old 0 s).feeds ≡ result.terms.feeds }
     ensures entered { All (IsEntered result.entries) seats.old }
     ensures numbered { (n : ℕ) → result.terms.seats ≤ n → entries result.entries n ≡ [] }
+    ensures within { length result.entries ≤ result.terms.room }
 {
     let mut agent = agent(queue, &mut seats[0]);
     let booked = take(rt, queue, &mut agent);

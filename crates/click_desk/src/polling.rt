@@ -4,13 +4,14 @@ ghost use Rattle.std.specs.Prelude.{◌≡◌, ◌≤◌, ◌++◌, ◌∷◌, �
 ghost use Rattle.click_packet.specs.Packet.{Packet};
 ghost use Rattle.click_rings.specs.Feeds.{name_of, has_feed, are_apart, drew};
 ghost use Rattle.click_desk.specs.History.{entry, Legal};
-ghost use Rattle.click_desk.specs.Polls.{poll, IsPolled, MayTake};
+ghost use Rattle.click_router.specs.Polls.{poll};
+ghost use Rattle.click_desk.specs.Polls.{IsPolled, MayTake};
 
 use crate::booked::{Booked, DeskFault, recorded_twice};
 use crate::entry::Entry;
 use crate::recorded::Recorded;
 use click_packet::{PacketRoom, StoredPacket};
-use click_rings::{Tap, draw_from};
+use click_rings::{Tap, draw_from, seen_in};
 use click_router::{Call, Handlers, Reply};
 use click_text::sequence::Sequence;
 use std::alloc::{AllocError, Global};
@@ -69,23 +70,47 @@ fn copy_all(
     copies
 }
 
-/// Draws for a poll, where the configuration has its device.
-fn draw_where(
-    found: bool,
-    taps: &mut [Tap],
-    device: &[u8],
-    most: usize,
-    taken: &mut Vec<StoredPacket>,
-)
-    requires apart { are_apart (map name_of taps.old) ≡ true }
-    requires room { (taken.old.items ≡ []) × (most ≤ vec_capacity taken.old) }
-    ensures taps { taps.new ≡ drew device.now taken.new.items taps.old }
-    ensures most { length taken.new.items ≤ most }
-    ensures unknown { has_feed device.now (map name_of taps.old) ≡ false → taken.new.items ≡ [] }
-    ensures nothing { found ≡ false → taken.new.items ≡ [] }
+/// How many packets a poll is to draw: as many as are seen to be there, up to `most`, and none where the configuration has no such source.
+fn seen_where(found: bool, taps: &mut [Tap], device: &[u8], most: usize) -> usize
+    ensures taps { taps.new ≡ taps.old }
+    ensures most { result ≤ most }
+    ensures nothing { found ≡ false → result ≡ 0 }
 {
     if found {
-        draw_from(taps, device, most, taken);
+        seen_in(taps, device, most)
+    } else {
+        0
+    }
+}
+
+impl PollRoom {
+    /// Draws up to `most` packets of the device. Gives the poll of what was drawn twice. It takes no memory.
+    fn draw(self, taps: &mut [Tap], device: &[u8], most: usize) -> (Call, Call)
+        requires apart { are_apart (map name_of taps.old) ≡ true }
+        requires names { (self.entered_name ≡ device.now) × (self.listed_name ≡ device.now) }
+        requires drawn { (self.drawn.items ≡ []) × (most ≤ vec_capacity self.drawn) }
+        requires listed { (self.listed.items ≡ []) × (most ≤ vec_capacity self.listed) × (vec_len self.rooms ≡ most) }
+        ensures { (taken : List Packet) × (result.0 ≡ poll device.now taken) × (result.1 ≡ poll device.now taken) × (taps.new ≡ drew device.now taken taps.old)
+            × (length taken ≤ most) × (has_feed device.now (map name_of taps.old) ≡ false → taken ≡ []) }
+    {
+        let PollRoom {
+            entered_name,
+            listed_name,
+            mut drawn,
+            listed,
+            rooms,
+        } = self;
+        draw_from(taps, device, most, &mut drawn);
+        let copies = copy_all(drawn.as_slice(), rooms, listed);
+        let call = Call::Poll {
+            device: entered_name,
+            taken: Sequence::of(drawn),
+        };
+        let copy = Call::Poll {
+            device: listed_name,
+            taken: Sequence::of(copies),
+        };
+        (call, copy)
     }
 }
 
@@ -112,27 +137,12 @@ impl<T: Handlers> Booked<T> {
         if self.entries.reserve(1).is_err() || calls.reserve(1).is_err() {
             return Err(DeskFault::NoMemory);
         }
-        let Ok(room) = PollRoom::new(alloc, device, most) else {
+        let found = self.router.has_source(device);
+        let count = seen_where(found, self.taps.as_mut_slice(), device, most);
+        let Ok(room) = PollRoom::new(alloc, device, count) else {
             return Err(DeskFault::NoMemory);
         };
-        let PollRoom {
-            entered_name,
-            listed_name,
-            mut drawn,
-            listed,
-            rooms,
-        } = room;
-        let found = self.router.has_source(device);
-        draw_where(found, self.taps.as_mut_slice(), device, most, &mut drawn);
-        let copies = copy_all(drawn.as_slice(), rooms, listed);
-        let call = Call::Poll {
-            device: entered_name,
-            taken: Sequence::of(drawn),
-        };
-        let copy = Call::Poll {
-            device: listed_name,
-            taken: Sequence::of(copies),
-        };
+        let (call, listed) = room.draw(self.taps.as_mut_slice(), device, count);
         // From here on nothing fails: a poll and its reply take no memory.
         let Ok(reply) = self.router.step(alloc, &call) else {
             unreachable!()
@@ -145,7 +155,7 @@ impl<T: Handlers> Booked<T> {
             call,
             reply: entered,
         });
-        calls.push_reserved((copy, told));
+        calls.push_reserved((listed, told));
         Ok(reply)
     }
 }

@@ -5,15 +5,21 @@ use denote.RawPtr.{Ptr}
 use Rattle.rtrb.specs.Shared.{Names}
 use Rattle.click_packet.specs.Packet.{Packet}
 
--- which ring it is: its two blocks and its names. No other ring has this name
+-- which ring it is: its two blocks and its names
 pub record RingName : Type 0 where
   pub words : Ptr
   pub slots : Ptr
   pub names : Names
 
--- a feed: its ring, and all that it put
+-- a feed that has ended: its ring, and all that was put
 pub record Feeding : Type 0 where
   pub ring : RingName
+  pub put : List Packet
+
+-- a feed: its ring, the places of that, and all that it put so far
+pub record Putting : Type 0 where
+  pub ring : RingName
+  pub places : ℕ
   pub put : List Packet
 
 -- an inlet: the device that it is for, its ring, and all that was drawn from it

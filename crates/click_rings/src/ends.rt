@@ -1,6 +1,6 @@
 //! The two ends of a feed.
 
-ghost use Rattle.std.specs.Prelude.{◌≡◌, ◌++◌, ◌∷◌, [], IfErr, IfSome, OnOk};
+ghost use Rattle.std.specs.Prelude.{◌≡◌, ◌<◌, ◌++◌, ◌∷◌, [], length, IsOk, IfErr, IfSome, OnOk};
 
 use click_packet::StoredPacket;
 use click_text::sequence::Sequence;
@@ -14,12 +14,16 @@ pub struct Feed {
 }
 
 impl Model for Feed {
-    ghost use Rattle.click_rings.specs.Feeds.{Feeding};
-    ghost use Rattle.rtrb.specs.Ring.{sent};
+    ghost use Rattle.std.specs.Prelude.{◌≤◌, ◌+◌, length};
+    ghost use Rattle.click_rings.specs.Feeds.{Putting};
+    ghost use Rattle.rtrb.specs.Ring.{sent, known_free, producer_capacity};
 
-    ghost Value = { Feeding };
+    ghost Value = { Putting };
 
-    ghost view = { λ f. record { ring = record { words = f.producer.end.words; slots = f.producer.end.slots; names = f.producer.end.names }; put = sent f.producer } };
+    ghost view = { λ f. record { ring = record { words = f.producer.end.words; slots = f.producer.end.slots; names = f.producer.end.names }; places = producer_capacity f.producer; put = sent f.producer } };
+
+    // No place is lost: each is known to be free, or was used.
+    ghost invariant = { λ f. producer_capacity f.producer ≤ length (sent f.producer) + known_free f.producer };
 }
 
 /// What a feed that has finished put in all.
@@ -57,9 +61,10 @@ impl Model for Inlet {
 }
 
 impl Feed {
-    /// Puts a packet, or hands it back where no place is seen to be free. It waits for nobody.
+    /// Puts a packet, or hands it back where no place is seen to be free: never before as many were put as there are places. It waits for nobody.
     pub fn put(&mut self, packet: StoredPacket) -> Result<(), StoredPacket>
-        ensures ring { self.new.ring ≡ self.old.ring }
+        ensures ring { (self.new.ring ≡ self.old.ring) × (self.new.places ≡ self.old.places) }
+        ensures room { length self.old.put < self.old.places → IsOk result }
         ensures ok { OnOk result (self.new.put ≡ self.old.put ++ packet ∷ []) }
         ensures back { IfErr result (λ p. (p ≡ packet) × (self.new ≡ self.old)) }
     {
@@ -71,7 +76,7 @@ impl Feed {
 
     /// Ends the feed, and keeps what it put.
     pub fn finish(self) -> Option<FeedEnd>
-        ensures { IfSome result (λ end. end ≡ self) }
+        ensures { IfSome result (λ end. (end.ring ≡ self.ring) × (end.put ≡ self.put)) }
     {
         let Feed { producer } = self;
         let finished = producer.finish()?;

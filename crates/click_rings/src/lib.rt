@@ -7,4 +7,4 @@ mod taps;
 
 pub use ends::{Feed, FeedEnd, Inlet};
 pub use opening::FeedFault;
-pub use taps::{Tap, are_apart, draw_from, place_of};
+pub use taps::{Tap, are_apart, draw_from, place_of, seen_in};

@@ -23,7 +23,7 @@ pub enum FeedFault {
 /// A ring for packets of a device. All that a feed needs is taken here.
 fn ring(alloc: Global, device: &[u8], places: usize) -> Result<(Feed, Inlet), AllocError>
     ensures pair { IfOk result (λ r. (r.0.ring ≡ r.1.ring) × (r.1.device ≡ device.now)) }
-    ensures empty { IfOk result (λ r. r.0.put ≡ []) }
+    ensures empty { IfOk result (λ r. (r.0.put ≡ []) × (r.0.places ≡ places)) }
 {
     let device = Sequence::of(Vec::from_slice(alloc, device)?);
     let (producer, consumer) = RingBuffer::new(alloc, places)?;
@@ -33,7 +33,7 @@ fn ring(alloc: Global, device: &[u8], places: usize) -> Result<(Feed, Inlet), Al
 /// A feed of the device with 1 to 4,096 places: the driver's end, and the inlet that a desk is opened with.
 pub fn feed(alloc: Global, device: &[u8], places: usize) -> Result<(Feed, Inlet), FeedFault>
     ensures pair { IfOk result (λ r. (r.0.ring ≡ r.1.ring) × (r.1.device ≡ device.now)) }
-    ensures empty { IfOk result (λ r. r.0.put ≡ []) }
+    ensures empty { IfOk result (λ r. (r.0.put ≡ []) × (r.0.places ≡ places)) }
     ensures places { (result ≡ Err FeedFault.PlaceCount) ↔ ((places ≡ 0) ⊎ (4096 < places)) }
 {
     if places == 0 || places > MOST_PLACES {

@@ -43,6 +43,13 @@ impl Tap {
         self.device.as_slice()
     }
 
+    /// How many packets are seen to be there. The driver may put more meanwhile.
+    pub fn seen(&mut self) -> usize
+        ensures { self.new ≡ self.old }
+    {
+        self.consumer.slots()
+    }
+
     /// Draws up to `most` packets, as far as they are seen to be there. It waits for nobody.
     pub fn draw(&mut self, most: usize, taken: &mut Vec<StoredPacket>)
         requires { (taken.old.items ≡ []) × (most ≤ vec_capacity taken.old) }
@@ -114,6 +121,17 @@ pub fn place_of(taps: &[Tap], device: &[u8]) -> Option<usize>
                 None => None,
             }
         }
+    }
+}
+
+/// How many packets are seen to be in the device's, up to `most`; none where there is no such inlet.
+pub fn seen_in(taps: &mut [Tap], device: &[u8], most: usize) -> usize
+    ensures taps { taps.new ≡ taps.old }
+    ensures most { result ≤ most }
+{
+    match place_of(taps, device) {
+        Some(place) => taps[place].seen().min(most),
+        None => 0,
     }
 }
 

@@ -1,5 +1,6 @@
--- Which calls are polls.
-use Rattle.std.specs.Prelude.{Bool, true, false}
+-- Polls of devices.
+use Rattle.std.specs.Prelude.{ℕ, List, Bool, true, false}
+use Rattle.click_packet.specs.Packet.{Packet}
 use Rattle.click_router.specs.declared.call.Call.{Call}
 use Rattle.click_router.specs.declared.call.Call.TheVariants as call
 
@@ -14,3 +15,7 @@ is_poll (call.Arrive device p) = false
 is_poll (call.Poll device ps) = true
 is_poll call.Round = false
 is_poll (call.Transmit device) = false
+
+-- packets of a device enter one after another
+abbrev pub poll : List ℕ → List Packet → Call
+poll device taken = call.Poll device taken

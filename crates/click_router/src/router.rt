@@ -22,8 +22,12 @@ impl<T> Model for Router<T> {
 }
 
 impl<T> Router<T> {
-    ghost use Rattle.std.specs.Prelude.{◌≡◌, ◌↔◌, IsTrue, IsSome};
+    ghost use Rattle.std.specs.Prelude.{◌≡◌, ◌↔◌, IsTrue, IsSome, List, false};
+    ghost use Rattle.click_packet.specs.Packet.{Packet};
     ghost use Rattle.click_engine.specs.Rounds.{source_of};
+    ghost use Rattle.click_router.specs.State.{RouterState};
+    ghost use Rattle.click_router.specs.One.{Answers};
+    ghost use Rattle.click_router.specs.Polls.{poll};
     ghost use Rattle.click_router.specs.Swap.{taken};
 
     /// Begins with what was prepared, and answers handlers through the table. It takes no memory.
@@ -36,9 +40,10 @@ impl<T> Router<T> {
         }
     }
 
-    /// Whether an element is where packets of the device enter.
+    /// Whether an element is where packets of the device enter. Where none is, a poll of the device is answered so.
     pub fn has_source(&self, device: &[u8]) -> bool
-        ensures { IsTrue result ↔ IsSome (source_of self.now.plant device.now) }
+        ensures source { IsTrue result ↔ IsSome (source_of self.now.plant device.now) }
+        ensures polled { (packets : List Packet) (next : RouterState) (reply : Reply) → Answers self.now (poll device.now packets) next reply → (result ≡ false) ↔ (reply ≡ Reply.NoDevice) }
     {
         self.running.plant.has_source(device)
     }

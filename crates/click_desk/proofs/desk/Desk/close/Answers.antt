@@ -64,6 +64,7 @@ returns-clause-ok g c =
         opening = opening ∙ ap (λ (y : Terms). y.opening) terms;
         replayed = legal;
         lawful = each_lawful r.0.opening r.1.items r.2 legal;
+        within = subst (λ (y : List Entry × Terms). length y.0 ≤ y.1.room) (λ i. (sym p.0 i, terms i)) t.within;
         entered = subst (λ (y : List Entry × List Sitting). All (IsEntered y.0) y.1) (λ i. (sym p.0 i, now i)) entered;
         numbered = each_seated c.args.self.terms.seats c.args.seats.items r.1.items once none;
         feeds = λ s. fed s ∙ ap (λ (y : Charter). y.feeds) charter;

@@ -1,0 +1,28 @@
+-- Polls of a device, by whether the router has its source.
+use Rattle.std.proofs.Common.{◌≡◌, ◌↔◌, ℕ, Bool, true, false, true≢false, IsTrue, List, length, Option, Some, None, IsSome, sym, refl, subst}
+use Rattle.click_packet.specs.Packet.{Packet}
+use Rattle.click_engine.specs.Rounds.{source_of}
+use Rattle.click_router.specs.State.{RouterState}
+use Rattle.click_router.specs.One.{entered, arrivals}
+use Rattle.click_router.specs.declared.call.Reply.{Reply}
+use Rattle.click_router.specs.declared.call.Reply.TheVariants as reply
+
+-- the reply to a poll, by the source of its device
+abbrev arrived : RouterState → List ℕ → List Packet → Option ℕ → RouterState × Reply
+arrived s device taken o = elim o [
+  | None ↦ (s, reply.NoDevice)
+  | Some at ↦ (record s { plant = arrivals s.plant device taken }, reply.Entered (length taken))
+]
+
+not_none : (n : ℕ) → reply.Entered n ≡ reply.NoDevice → ⊥
+not_none n e = cc
+
+by_source : (s : RouterState) (device : List ℕ) (taken : List Packet) (o : Option ℕ) (b : Bool) → (IsTrue b ↔ IsSome o) → (b ≡ false) ↔ ((arrived s device taken o).1 ≡ reply.NoDevice)
+by_source s device taken None true h = absurd (h.0 refl)
+by_source s device taken None false h = ((λ _. refl), (λ _. refl))
+by_source s device taken (Some at) true h = ((λ e. absurd (true≢false e)), (λ e. absurd (not_none (length taken) e)))
+by_source s device taken (Some at) false h = absurd (true≢false (sym (h.1 tt)))
+
+-- a poll is answered by no device just where there is no source
+pub no_device : (s t : RouterState) (device : List ℕ) (taken : List Packet) (r : Reply) (b : Bool) → (IsTrue b ↔ IsSome (source_of s.plant device)) → entered s device taken ≡ (t, r) → (b ≡ false) ↔ (r ≡ reply.NoDevice)
+no_device s t device taken r b h is = subst (λ (p : RouterState × Reply). (b ≡ false) ↔ (p.1 ≡ reply.NoDevice)) is (by_source s device taken (source_of s.plant device) b h)
