@@ -1,6 +1,7 @@
 //! What a desk is not opened for.
 
-use click_desk::{Desk, OpenFault, OpenRefused};
+use crate::drivers::drivers_of;
+use click_desk::{Desk, OpenFault};
 use click_handlers::{Table, TakesTable, with_table};
 use click_router::{FaultKind, Handlers};
 use std::alloc::Global;
@@ -10,36 +11,100 @@ use std::thread::Threads;
 
 const SWITCH: &[u8] = b"Idle -> s :: Switch(0) -> Discard; s [1] -> Discard;";
 
-/// No desk has no seat, or 257, or a faulty configuration; the table comes back each time.
-fn refusals<T: Handlers + Drop, R: Wait>(
-    rt: &R,
-    alloc: Global,
-    table: T,
-) -> Result<T, &'static str> {
-    let refused = match Desk::open(rt, alloc, table, SWITCH, 10, 0) {
-        Ok(_) => return Err("opened without a seat"),
-        Err(refused) => refused,
-    };
-    let table = counted(refused)?;
-    let refused = match Desk::open(rt, alloc, table, SWITCH, 10, 257) {
-        Ok(_) => return Err("opened with 257 seats"),
-        Err(refused) => refused,
-    };
-    let table = counted(refused)?;
-    match Desk::open(rt, alloc, table, b"Idle -> Discrd();", 10, 2) {
-        Ok(_) => Err("opened a faulty text"),
-        Err(refused) => match &refused.fault {
-            OpenFault::Config(fault) if fault.kind == FaultKind::UnknownClass => Ok(refused.table),
-            _ => Err("another fault of a text"),
-        },
+/// What a desk is opened with: a text, the number of seats, and a letter for the device of each inlet; and why it is not.
+struct Case {
+    text: &'static [u8],
+    seats: usize,
+    letters: &'static [u8],
+    why: &'static str,
+}
+
+/// The number of seats is looked at first, then the devices, then the number of inlets, and the configuration last.
+const CASES: [Case; 7] = [
+    Case {
+        text: SWITCH,
+        seats: 0,
+        letters: b"aa",
+        why: "a desk has 1 to 256 seats",
+    },
+    Case {
+        text: SWITCH,
+        seats: 257,
+        letters: b"",
+        why: "a desk has 1 to 256 seats",
+    },
+    Case {
+        text: SWITCH,
+        seats: 2,
+        letters: b"aa",
+        why: "two inlets are of one device",
+    },
+    Case {
+        text: SWITCH,
+        seats: 2,
+        letters: b"abcdefghijklmnopa",
+        why: "two inlets are of one device",
+    },
+    Case {
+        text: SWITCH,
+        seats: 2,
+        letters: b"abcdefghijklmnopq",
+        why: "a desk has at most 16 inlets",
+    },
+    Case {
+        text: b"Idle -> Discrd();",
+        seats: 2,
+        letters: b"abcdefghijklmnopq",
+        why: "a desk has at most 16 inlets",
+    },
+    Case {
+        text: b"Idle -> Discrd();",
+        seats: 2,
+        letters: b"abcdefghijklmnop",
+        why: "13",
+    },
+];
+
+/// The text of a fault, and for a configuration's the number of that.
+fn why(fault: &OpenFault) -> &'static str {
+    match fault {
+        OpenFault::SeatCount => "a desk has 1 to 256 seats",
+        OpenFault::DeviceTwice => "two inlets are of one device",
+        OpenFault::InletCount => "a desk has at most 16 inlets",
+        OpenFault::Config(fault) if fault.kind == FaultKind::UnknownClass => "13",
+        OpenFault::Config(_) => "another fault of a text",
+        OpenFault::NoMemory => "out of memory",
     }
 }
 
-fn counted<T: Drop>(refused: OpenRefused<T>) -> Result<T, &'static str> {
-    match &refused.fault {
-        OpenFault::SeatCount => Ok(refused.table),
-        _ => Err("another fault of a number"),
+/// Whether a desk is not opened with that, for that reason, and the inlets come back with the table.
+fn is_refused<T: Drop, R: Wait>(rt: &R, alloc: Global, table: T, case: &Case) -> Option<(T, bool)> {
+    let (_drivers, inlets) = drivers_of(alloc, case.letters, 1)?;
+    match Desk::open(rt, alloc, table, case.text, 10, case.seats, inlets) {
+        Ok(_) => None,
+        Err(refused) => {
+            let same = refused
+                .inlets
+                .iter()
+                .zip(case.letters.iter())
+                .all(|(inlet, letter)| inlet.device() == [*letter].as_slice());
+            let all = refused.inlets.len() == case.letters.len();
+            let good = why(&refused.fault) == case.why;
+            Some((refused.table, good & same & all))
+        }
     }
+}
+
+/// Whether each of these is refused.
+fn are_refused<T: Handlers + Drop, R: Wait>(rt: &R, alloc: Global, table: T) -> Option<bool> {
+    let mut table = table;
+    let mut all = true;
+    for case in &CASES {
+        let (back, good) = is_refused(rt, alloc, table, case)?;
+        table = back;
+        all = all & good;
+    }
+    Some(all)
 }
 
 #[derive(Drop)]
@@ -48,20 +113,16 @@ struct Refused {
 }
 
 impl TakesTable for Refused {
-    type Out = Result<(), &'static str>;
+    type Out = Option<bool>;
 
-    fn take<R: Threads + Wait + Sync>(self, rt: &R, table: Table) -> Result<(), &'static str> {
-        let _table = refusals(rt, self.alloc, table)?;
-        Ok(())
+    fn take<R: Threads + Wait + Sync>(self, rt: &R, table: Table) -> Option<bool> {
+        are_refused(rt, self.alloc, table)
     }
 }
 
 #[test]
 fn opens_are_refused(rt: HostRuntime) -> Result<(), Fail> {
     let alloc = rt.alloc();
-    let refused = Refused { alloc };
-    if let Err(why) = with_table(&rt, alloc, refused)? {
-        return Err(why.into());
-    }
+    assert!(rt; with_table(&rt, alloc, Refused { alloc })? == Some(true));
     Ok(())
 }

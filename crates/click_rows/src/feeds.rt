@@ -1,13 +1,16 @@
 //! Feeds: what drivers put is what was polled and what is left, each once and in order.
 
-ghost use Rattle.std.specs.Prelude.{◌≡◌, ◌<◌, [], IfOk, IfSome, OnSome, vec_len, vec_capacity};
+ghost use Rattle.std.specs.Prelude.{◌≡◌, ◌≤◌, [], false, IfOk, IfSome};
 ghost use Rattle.std.specs.List.{All};
-ghost use Rattle.std.specs.Thread.{IsSync, IsSend};
+ghost use Rattle.std.specs.Thread.{IsSync};
+ghost use Rattle.click_router.specs.Polls.{is_poll};
 
-use crate::drivers::{Driver, drivers_of, packet, puts, settle_all};
-use click_desk::{Book, Desk, Seat};
+use crate::drivers::{Driver, close_and_settle, count_on, drivers_of, hands_back, puts};
+use click_desk::{Book, Desk, Entry, Seat, SettleFault};
 use click_handlers::{Table, TakesTable, with_table};
 use click_packet::StoredPacket;
+use click_rings::opening::feed as make_feed;
+use click_rings::{FeedEnd, FeedFault};
 use click_router::{Call, Handlers, Reply};
 use click_text::sequence::Sequence;
 use std::alloc::{AllocError, Global};
@@ -20,9 +23,6 @@ const DEVICE: &[u8] = b"FromDevice(a) -> Discard;";
 
 const COUNTED: &[u8] = b"Idle -> c :: Counter -> Discard;";
 
-/// Sixteen devices, each with a letter for its name.
-const LETTERS: &[u8] = b"abcdefghijklmnop";
-
 /// The sources of sixteen devices.
 const SIXTEEN: &[u8] = b"
     FromDevice(a) -> Discard; FromDevice(b) -> Discard; FromDevice(c) -> Discard; FromDevice(d) -> Discard;
@@ -30,13 +30,8 @@ const SIXTEEN: &[u8] = b"
     FromDevice(i) -> Discard; FromDevice(j) -> Discard; FromDevice(k) -> Discard; FromDevice(l) -> Discard;
     FromDevice(m) -> Discard; FromDevice(n) -> Discard; FromDevice(o) -> Discard; FromDevice(p) -> Discard;";
 
-/// How many packets each driver puts, and how often it tries.
+/// How many packets each driver puts at most.
 const PACKETS: u16 = 1000;
-const TRIES: u64 = 10_000_000;
-
-/// How often each device is polled, and for how many packets at most.
-const POLLS: usize = 10_000;
-const MOST: usize = 32;
 
 /// The only seat of a new desk of this text, with drivers of the devices of these letters.
 fn open<T: Drop, R: Wait>(
@@ -46,48 +41,72 @@ fn open<T: Drop, R: Wait>(
     text: &[u8],
     letters: &[u8],
     places: usize,
-) -> Option<(Desk<T>, Vec<Seat<T>>, Vec<Driver>)>
-    ensures seats { IfSome result (λ r. All (λ s. (s.desk ≡ r.0) × (s.feeds ≡ r.2.items)) r.1.items) }
-    ensures one { IfSome result (λ r. vec_len r.1 ≡ 1) }
+) -> Option<(Desk<T>, Seat<T>, Vec<Driver>)>
+    ensures { IfSome result (λ r. (r.1.desk ≡ r.0) × (r.1.feeds ≡ r.2.items)) }
 {
     let (drivers, inlets) = drivers_of(alloc, letters, places)?;
-    match Desk::open(rt, alloc, table, text, 1_000_000, 1, inlets) {
-        Ok((desk, seats)) => Some((desk, seats, drivers)),
-        Err(_) => None,
-    }
+    let (desk, seats) = Desk::open(rt, alloc, table, text, 1_000_000, 1, inlets).ok()?;
+    let seat = only_seat(&desk, &drivers, seats)?;
+    Some((desk, seat, drivers))
 }
 
-/// Whether a poll of a device lets this many packets in.
+/// The last of these seats.
+fn only_seat<T: Drop>(
+    desk: &Desk<T>,
+    drivers: &Vec<Driver>,
+    mut seats: Vec<Seat<T>>,
+) -> Option<Seat<T>>
+    requires { All (λ s. s.desk ≡ desk.now) seats.items × All (λ s. s.feeds ≡ drivers.now.items) seats.items }
+    ensures { IfSome result (λ s. (s.desk ≡ desk.now) × (s.feeds ≡ drivers.now.items)) }
+{
+    seats.pop()
+}
+
+/// Closes the desk with its only seat, and settles the feeds of its drivers.
+fn close<T: Drop, R: Wait>(
+    rt: &R,
+    alloc: Global,
+    desk: Desk<T>,
+    seat: Seat<T>,
+    drivers: Vec<Driver>,
+) -> Option<(Book<T>, Vec<Vec<StoredPacket>>)>
+    requires { (seat.desk ≡ desk) × (seat.feeds ≡ drivers.items) }
+    ensures { IfSome result (λ r. r.0.taps ≡ []) }
+{
+    let mut seats = Vec::with_capacity(alloc, 1).ok()?;
+    seats.push_reserved(seat);
+    close_and_settle(rt, alloc, desk, seats, drivers)
+}
+
+/// Whether a poll of the device lets this many packets in.
 fn enters<T: Handlers, R: Wait>(
     rt: &R,
     desk: &Desk<T>,
     seat: &mut Seat<T>,
-    device: &[u8],
+    most: usize,
     count: u64,
 ) -> bool
-    requires { seat.old.desk ≡ desk.now }
+    requires seat { seat.old.desk ≡ desk.now }
+    requires most { (1 ≤ most) × (most ≤ 32) }
     ensures { (seat.new.desk ≡ seat.old.desk) × (seat.new.feeds ≡ seat.old.feeds) }
 {
-    match desk.poll(rt, seat, device, MOST) {
+    match desk.poll(rt, seat, b"a", most) {
         Ok(Reply::Entered(entered)) => entered == count,
         _ => false,
     }
 }
 
-/// Whether a poll finds no such device.
-fn finds_none<T: Handlers, R: Wait>(
-    rt: &R,
-    desk: &Desk<T>,
-    seat: &mut Seat<T>,
-    device: &[u8],
-) -> bool
+/// Whether a poll finds that there is no such device.
+fn finds_none<T: Handlers, R: Wait>(rt: &R, desk: &Desk<T>, seat: &mut Seat<T>) -> bool
     requires { seat.old.desk ≡ desk.now }
     ensures { (seat.new.desk ≡ seat.old.desk) × (seat.new.feeds ≡ seat.old.feeds) }
 {
-    matches!(desk.poll(rt, seat, device, MOST), Ok(Reply::NoDevice))
+    matches!(desk.poll(rt, seat, b"a", 32), Ok(Reply::NoDevice))
 }
 
-fn swap_call(alloc: Global, text: &[u8]) -> Result<Call, AllocError> {
+fn swap(alloc: Global, text: &[u8]) -> Result<Call, AllocError>
+    ensures { IfOk result (λ call. is_poll call ≡ false) }
+{
     Ok(Call::Swap {
         text: Sequence::of(Vec::from_slice(alloc, text)?),
     })
@@ -104,8 +123,316 @@ fn swaps<T: Handlers, R: Wait>(
     requires { seat.old.desk ≡ desk.now }
     ensures { (seat.new.desk ≡ seat.old.desk) × (seat.new.feeds ≡ seat.old.feeds) }
 {
-    match swap_call(alloc, text) {
+    match swap(alloc, text) {
         Ok(call) => matches!(desk.call(rt, seat, call), Ok(Reply::Done)),
         Err(_) => false,
     }
+}
+
+/// The number after those of the packets that this entry took of the device, which come after `next`.
+fn after(entry: &Entry, device: &[u8], next: u16) -> Option<u16> {
+    match &entry.call {
+        Call::Poll {
+            device: polled,
+            taken,
+        } if polled.as_slice() == device => count_on(taken.as_slice(), next),
+        _ => Some(next),
+    }
+}
+
+/// How many packets the book polled of the device, if they are numbered from 0.
+fn polled<T>(book: &Book<T>, device: &[u8]) -> Option<u16> {
+    let mut next = 0;
+    for entry in &book.entries {
+        next = after(entry, device, next)?;
+    }
+    Some(next)
+}
+
+/// Whether the book has polled so many packets of the device, and so many are left.
+fn has_polled<T>(book: &Book<T>, left: &[Vec<StoredPacket>], count: u16, others: u16) -> bool {
+    let more = match left.first() {
+        Some(packets) => count_on(packets.as_slice(), count),
+        None => None,
+    };
+    (polled(book, b"a") == Some(count)) & (more == count.checked_add(others))
+}
+
+/// A feed of two places: two packets are put, and the third is handed back. A poll of one takes the first, and then the third finds a place.
+fn put_and_polled<T: Handlers, R: Wait>(
+    rt: &R,
+    alloc: Global,
+    desk: &Desk<T>,
+    seat: &mut Seat<T>,
+    drivers: &mut Vec<Driver>,
+) -> bool
+    requires { seat.old.desk ≡ desk.now }
+    ensures { (seat.new.desk ≡ seat.old.desk) × (seat.new.feeds ≡ seat.old.feeds) × (drivers.new.items ≡ drivers.old.items) }
+{
+    let put = puts(alloc, drivers) & puts(alloc, drivers);
+    let back = hands_back(alloc, drivers);
+    let entered = enters(rt, desk, seat, 1, 1);
+    let again = puts(alloc, drivers);
+    put & back & entered & again
+}
+
+/// The two packets that no poll took are what is left.
+fn small<T: Handlers + Drop, R: Wait>(rt: &R, alloc: Global, table: T) -> Option<bool> {
+    let (desk, mut seat, mut drivers) = open(rt, alloc, table, DEVICE, b"a", 2)?;
+    let good = put_and_polled(rt, alloc, &desk, &mut seat, &mut drivers);
+    let (book, left) = close(rt, alloc, desk, seat, drivers)?;
+    Some(good & has_polled(&book, left.as_slice(), 1, 2))
+}
+
+/// While a swap has taken the device away a poll takes nothing; once it is back, all that was put comes in by one poll.
+fn away_and_back<T: Handlers, R: Wait>(
+    rt: &R,
+    alloc: Global,
+    desk: &Desk<T>,
+    seat: &mut Seat<T>,
+    drivers: &mut Vec<Driver>,
+) -> bool
+    requires { seat.old.desk ≡ desk.now }
+    ensures { (seat.new.desk ≡ seat.old.desk) × (seat.new.feeds ≡ seat.old.feeds) × (drivers.new.items ≡ drivers.old.items) }
+{
+    let put = puts(alloc, drivers) & puts(alloc, drivers);
+    let away = swaps(rt, alloc, desk, seat, COUNTED) & finds_none(rt, desk, seat);
+    let back = swaps(rt, alloc, desk, seat, DEVICE) & enters(rt, desk, seat, 32, 2);
+    let none = enters(rt, desk, seat, 32, 0);
+    put & away & back & none
+}
+
+/// Nothing is left then.
+fn swapped<T: Handlers + Drop, R: Wait>(rt: &R, alloc: Global, table: T) -> Option<bool> {
+    let (desk, mut seat, mut drivers) = open(rt, alloc, table, DEVICE, b"a", 4)?;
+    let good = away_and_back(rt, alloc, &desk, &mut seat, &mut drivers);
+    let (book, left) = close(rt, alloc, desk, seat, drivers)?;
+    Some(good & has_polled(&book, left.as_slice(), 2, 0))
+}
+
+/// The end of another feed of `z`.
+fn another_end(alloc: Global) -> Option<FeedEnd> {
+    let (feed, _inlet) = make_feed(alloc, b"z", 1).ok()?;
+    feed.finish()
+}
+
+/// A second feed of the device is not settled.
+fn settles_no_more<T>(alloc: Global, book: &mut Book<T>) -> bool
+    requires { book.old.taps ≡ [] }
+{
+    match another_end(alloc) {
+        Some(end) => match book.settle(alloc, b"z", end) {
+            Ok(_) => false,
+            Err(refused) => refused.fault == SettleFault::NoFeed,
+        },
+        None => false,
+    }
+}
+
+/// A feed of a device that the configuration does not have: what was put is left, and it is settled once.
+fn unpolled<T: Handlers + Drop, R: Wait>(rt: &R, alloc: Global, table: T) -> Option<bool> {
+    let (desk, seat, mut drivers) = open(rt, alloc, table, DEVICE, b"z", 4)?;
+    let put = puts(alloc, &mut drivers);
+    let (mut book, left) = close(rt, alloc, desk, seat, drivers)?;
+    let had = has_polled(&book, left.as_slice(), 0, 1);
+    Some(put & had & settles_no_more(alloc, &mut book))
+}
+
+/// Whether the desk is closed with this seat, and its book has one entry.
+fn closes_with_one_entry<T: Drop, R: Wait>(
+    rt: &R,
+    alloc: Global,
+    desk: Desk<T>,
+    seat: Seat<T>,
+) -> Option<bool>
+    requires { seat.desk ≡ desk }
+{
+    let mut seats = Vec::with_capacity(alloc, 1).ok()?;
+    seats.push_reserved(seat);
+    let book = desk.close(rt, seats).ok()?;
+    Some(book.entries.len() == 1)
+}
+
+/// A feed that is dropped and does not finish: what was put is polled, and the desk is closed.
+fn dropped<T: Handlers + Drop, R: Wait>(rt: &R, alloc: Global, table: T) -> Option<bool> {
+    let (desk, mut seat, mut drivers) = open(rt, alloc, table, DEVICE, b"a", 4)?;
+    let put = puts(alloc, &mut drivers) & puts(alloc, &mut drivers);
+    drop(drivers);
+    let entered = enters(rt, &desk, &mut seat, 32, 2);
+    Some(put & entered & closes_with_one_entry(rt, alloc, desk, seat)?)
+}
+
+/// Each driver puts its packets, in a thread of its own.
+fn drive_all<R: Threads + Sync>(
+    rt: &R,
+    alloc: Global,
+    drivers: Vec<Driver>,
+    tries: u64,
+) -> Option<Vec<Driver>>
+    ensures { IfSome result (λ d. d.items ≡ drivers.items) }
+{
+    thread::map_vec(
+        rt,
+        drivers,
+        &|driver: Driver| -> Driver
+            ensures { result ≡ driver }
+        { driver.drive(alloc, PACKETS, tries) },
+    )
+    .ok()
+}
+
+/// Polls each of these devices.
+fn poll_each<T: Handlers, R: Wait>(rt: &R, desk: &Desk<T>, seat: &mut Seat<T>, letters: &[u8])
+    requires { seat.old.desk ≡ desk.now }
+    ensures { (seat.new.desk ≡ seat.old.desk) × (seat.new.feeds ≡ seat.old.feeds) }
+{
+    for letter in letters {
+        let _reply = desk.poll(rt, seat, &[*letter], 32);
+    }
+}
+
+/// Polls each of these devices so many times.
+fn poll_all<T: Handlers, R: Wait>(
+    rt: &R,
+    desk: &Desk<T>,
+    mut seat: Seat<T>,
+    letters: &[u8],
+    polls: usize,
+) -> Seat<T>
+    requires { seat.desk ≡ desk.now }
+    ensures { (result.desk ≡ seat.desk) × (result.feeds ≡ seat.feeds) }
+{
+    for _ in 0..polls {
+        poll_each(rt, desk, &mut seat, letters);
+    }
+    seat
+}
+
+/// The drivers put, while the seat polls.
+fn drive_and_poll<T: Handlers + Send + Drop, R: Threads + Wait + Sync>(
+    rt: &R,
+    alloc: Global,
+    desk: &Desk<T>,
+    seat: Seat<T>,
+    drivers: Vec<Driver>,
+    letters: &[u8],
+    polls: usize,
+    tries: u64,
+) -> (Option<Vec<Driver>>, Seat<T>)
+    requires { seat.desk ≡ desk.now }
+    ensures seat { (result.1.desk ≡ seat.desk) × (result.1.feeds ≡ seat.feeds) }
+    ensures drivers { IfSome result.0 (λ d. d.items ≡ drivers.items) }
+{
+    thread::join(
+        rt,
+        move || -> Option<Vec<Driver>>
+            requires { IsSync R.row }
+            ensures { IfSome result (λ d. d.items ≡ drivers.items) }
+        { drive_all(rt, alloc, drivers, tries) },
+        move || -> Seat<T>
+            requires { IsSync R.row × (seat.desk ≡ desk.now) }
+            ensures { (result.desk ≡ seat.desk) × (result.feeds ≡ seat.feeds) }
+        { poll_all(rt, desk, seat, letters, polls) },
+    )
+}
+
+/// How many packets each driver has put.
+fn counts(alloc: Global, drivers: &Vec<Driver>) -> Option<Vec<u16>> {
+    let mut all = Vec::new(alloc);
+    for driver in drivers {
+        all.push(driver.count).ok()?;
+    }
+    Some(all)
+}
+
+/// Whether of each device all that its driver put was polled or is left, in order, and each place of its ring was used at least.
+fn are_all<T>(book: &Book<T>, letters: &[u8], put: &[u16], left: &[Vec<StoredPacket>]) -> bool {
+    (put.len() == letters.len())
+        & (left.len() == letters.len())
+        & letters.iter().zip(put.iter()).zip(left.iter()).all(|((letter, put), left)| match polled(
+            book,
+            &[*letter],
+        ) {
+            Some(next) => (count_on(left.as_slice(), next) == Some(*put)) & (*put >= 8),
+            None => false,
+        })
+}
+
+/// Drivers of the devices of these letters put packets while a seat polls them.
+fn driven<T: Handlers + Send + Drop, R: Threads + Wait + Sync>(
+    rt: &R,
+    alloc: Global,
+    table: T,
+    letters: &[u8],
+    polls: usize,
+    tries: u64,
+) -> Option<bool> {
+    let (desk, seat, drivers) = open(rt, alloc, table, SIXTEEN, letters, 8)?;
+    let (drivers, seat) = drive_and_poll(rt, alloc, &desk, seat, drivers, letters, polls, tries);
+    let drivers = drivers?;
+    let put = counts(alloc, &drivers)?;
+    let (book, left) = close(rt, alloc, desk, seat, drivers)?;
+    Some(are_all(&book, letters, put.as_slice(), left.as_slice()))
+}
+
+/// Which of these runs.
+#[derive(Clone, Copy, Debug, PartialEq, Eq, Drop)]
+enum Case {
+    Small,
+    Swapped,
+    Unpolled,
+    Dropped,
+    OneDriver,
+    SixteenDrivers,
+}
+
+#[derive(Drop)]
+struct Fed {
+    alloc: Global,
+    case: Case,
+}
+
+impl TakesTable for Fed {
+    type Out = Option<bool>;
+
+    fn take<R: Threads + Wait + Sync>(self, rt: &R, table: Table) -> Option<bool> {
+        let alloc = self.alloc;
+        match self.case {
+            Case::Small => small(rt, alloc, table),
+            Case::Swapped => swapped(rt, alloc, table),
+            Case::Unpolled => unpolled(rt, alloc, table),
+            Case::Dropped => dropped(rt, alloc, table),
+            Case::OneDriver => driven(rt, alloc, table, b"a", 10_000, 10_000_000),
+            Case::SixteenDrivers => driven(rt, alloc, table, b"abcdefghijklmnop", 1000, 100_000),
+        }
+    }
+}
+
+const CASES: [Case; 6] = [
+    Case::Small,
+    Case::Swapped,
+    Case::Unpolled,
+    Case::Dropped,
+    Case::OneDriver,
+    Case::SixteenDrivers,
+];
+
+#[test]
+fn feeds_lose_nothing(rt: HostRuntime) -> Result<(), Fail> {
+    let alloc = rt.alloc();
+    for case in CASES {
+        let fed = Fed { alloc, case };
+        assert!(rt; with_table(&rt, alloc, fed)? == Some(true));
+    }
+    Ok(())
+}
+
+#[test]
+fn feeds_have_1_to_4096_places(rt: HostRuntime) -> Result<(), Fail> {
+    let alloc = rt.alloc();
+    for (places, good) in [(0, false), (1, true), (4096, true), (4097, false)] {
+        let refused = matches!(make_feed(alloc, b"a", places), Err(FeedFault::PlaceCount));
+        assert!(rt; refused != good);
+    }
+    Ok(())
 }

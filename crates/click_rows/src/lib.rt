@@ -10,7 +10,11 @@ mod control;
 #[cfg(test)]
 mod desk;
 #[cfg(test)]
+mod drivers;
+#[cfg(test)]
 mod expand;
+#[cfg(test)]
+mod feeds;
 #[cfg(test)]
 mod handlers;
 #[cfg(test)]

@@ -1,8 +1,9 @@
 //! Seats of one desk, on one thread and on two, and the book of their calls.
 
-ghost use Rattle.std.specs.Prelude.{◌≡◌, ◌<◌, IfSome, vec_len, vec_capacity};
+ghost use Rattle.std.specs.Prelude.{◌≡◌, ◌<◌, false, IfOk, IfSome, vec_len, vec_capacity};
 ghost use Rattle.std.specs.List.{All};
 ghost use Rattle.std.specs.Thread.{IsSync};
+ghost use Rattle.click_router.specs.Polls.{is_poll};
 
 use click_desk::{Book, Desk, DeskFault, Seat};
 use click_handlers::{Table, TakesTable, with_table};
@@ -23,14 +24,18 @@ fn bytes(alloc: Global, text: &[u8]) -> Result<Sequence<u8>, AllocError> {
     Ok(Sequence::of(Vec::from_slice(alloc, text)?))
 }
 
-fn write(alloc: Global, text: &[u8]) -> Result<Call, AllocError> {
+fn write(alloc: Global, text: &[u8]) -> Result<Call, AllocError>
+    ensures { IfOk result (λ call. is_poll call ≡ false) }
+{
     Ok(Call::Write {
         name: bytes(alloc, b"s.switch")?,
         text: bytes(alloc, text)?,
     })
 }
 
-fn read(alloc: Global) -> Result<Call, AllocError> {
+fn read(alloc: Global) -> Result<Call, AllocError>
+    ensures { IfOk result (λ call. is_poll call ≡ false) }
+{
     Ok(Call::Read {
         name: bytes(alloc, b"s.switch")?,
         text: bytes(alloc, b"")?,
@@ -245,7 +250,7 @@ fn two_seats<T: Handlers + Send + Drop, R: Threads + Wait + Sync>(
     alloc: Global,
     table: T,
 ) -> bool {
-    let Ok((desk, seats)) = Desk::open(rt, alloc, table, SWITCH, 1000, 2) else {
+    let Ok((desk, seats)) = Desk::open(rt, alloc, table, SWITCH, 1000, 2, Vec::new(alloc)) else {
         return false;
     };
     match worked(rt, alloc, &desk, seats) {
@@ -294,7 +299,7 @@ fn has_one_entry<T: Drop, R: Wait>(rt: &R, desk: Desk<T>, seats: Vec<Seat<T>>) -
 
 /// A desk with room for one entry answers one call.
 fn one_entry<T: Handlers + Drop, R: Wait>(rt: &R, alloc: Global, table: T) -> bool {
-    let Ok((desk, seats)) = Desk::open(rt, alloc, table, SWITCH, 1, 1) else {
+    let Ok((desk, seats)) = Desk::open(rt, alloc, table, SWITCH, 1, 1, Vec::new(alloc)) else {
         return false;
     };
     match filled(rt, alloc, &desk, seats) {

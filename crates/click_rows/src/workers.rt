@@ -1,9 +1,9 @@
 //! Sessions and drivers in threads of their own, held by gates.
 
 use click_control::{Ended, Reading, Writing};
-use click_desk::{Entry, Seat};
+use click_desk::{Entry, Kept, Seat};
 use click_handlers::{Table, TakesTable, with_table};
-use click_router::{Handlers, Reply};
+use click_router::Handlers;
 use click_workers::{AllRan, Door, Gate, OpenGate, SessionEnd, run_workers};
 use std::alloc::Global;
 use std::sync::Wait;
@@ -116,8 +116,11 @@ fn first_reads<T>(seat: Option<&Seat<T>>, text: &[u8]) -> bool {
         return false;
     };
     match seat.calls().first() {
-        Some((_, Reply::Value(value))) => value.as_slice() == text,
-        _ => false,
+        Some((_, reply)) => match reply.kept() {
+            Kept::Value(value) => value.as_slice() == text,
+            _ => false,
+        },
+        None => false,
     }
 }
 
@@ -148,7 +151,7 @@ fn are_rounds(entries: &[Entry]) -> bool {
     let same = wanted.iter().zip(entries.iter()).all(|(
         count,
         entry,
-    )| matches!(&entry.reply, Reply::Worked(n) if n == count));
+    )| matches!(entry.reply.kept(), Kept::Worked(n) if n == count));
     same & (entries.len() == 6)
 }
 
