@@ -8,7 +8,7 @@ use Rattle.click_router.specs.declared.call.Reply.{Reply}
 use Rattle.click_desk.specs.Sittings.{Sitting}
 use Rattle.click_control.specs.Serving.{Turned, not_yet, once_more}
 use Rattle.click_workers.specs.Gates.{place, AsksGate, TellsGate}
-use Rattle.click_workers.specs.Work.{Drives, TakesTurn, IsHeldBack}
+use Rattle.click_workers.specs.Work.{Drives, TakesTurn, IsAsked}
 
 module _ {G : Type 0} (gives : G → ℕ → ℕ → Bool → Type 0) (told : G → ℕ → ℕ → Type 0) (gate : G) (who : ℕ) where
   pub none-driven : (s : Sitting) → s.calls ≡ [] → Drives gives told gate who 0 s true
@@ -46,5 +46,5 @@ module _ {G : Type 0} (gives : G → ℕ → ℕ → Bool → Type 0) (told : G 
         within = omega (arith, many, less);
         full = (λ e. absurd cc, λ e. absurd (omega (arith, many, less, e)));
         turned = subst (λ k. Turned (AsksGate gives) (TellsGate told) (place gate who) k (place gate who)) (sym (ap length same)) d.turned;
-        stopped = λ e. subst (λ k. IsHeldBack gives gate who (k + 1) new) (sym many) held;
+        stopped = λ e. subst (λ k. IsAsked gives gate who (k + 1)) (sym many) held;
       }

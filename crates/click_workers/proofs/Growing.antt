@@ -25,18 +25,18 @@ asked-length readonly _ _ _ _ (then_one p mid q cs answers c a before step) =
     omega (arith, asked-length readonly p cs answers mid before, length-append cs (c ∷ []), length-append answers (a ∷ []))
 
 answered-grows : (p q : Sitting) (call : Option Call) (a : Answer) → Answered SeatAsks p call a q → SameSeat p q × (q.calls ≡ p.calls ++ made_one call a)
-answered-grows p q None a h = ((ap (λ s. s.desk) h.1, ap (λ s. s.number) h.1), ap (λ s. s.calls) h.1 ∙ sym (append-nil p.calls))
+answered-grows p q None a h = ((ap (λ s. s.desk) h.1, ap (λ s. s.number) h.1, ap (λ s. s.feeds) h.1), ap (λ s. s.calls) h.1 ∙ sym (append-nil p.calls))
 answered-grows p q (Some c) a (Ok r, h, e) = (h.0, h.1.calls ∙ ap (λ b. p.calls ++ made_one (Some c) b) (sym e))
 answered-grows p q (Some c) a (Err f, h, e) = (h.0, h.1.calls ∙ sym (append-nil p.calls) ∙ ap (λ b. p.calls ++ made_one (Some c) b) (sym e))
 
 -- the seat stays who it is, and its list grows by the asks that were not refused
 pub asked-grows : (readonly : Bool) (p : Sitting) (cs : List Command) (answers : List Answer) (q : Sitting) → Asked SeatAsks readonly p cs answers q
     → SameSeat p q × (q.calls ≡ p.calls ++ made readonly cs answers)
-asked-grows readonly _ _ _ _ (nothing p) = ((refl, refl), sym (append-nil p.calls))
+asked-grows readonly _ _ _ _ (nothing p) = ((refl, refl, refl), sym (append-nil p.calls))
 asked-grows readonly _ _ _ _ (then_one p mid q cs answers c a before step) =
     let h = asked-grows readonly p cs answers mid before in
     let k = answered-grows mid q (call_of readonly c) a step in (
-      (k.0.0 ∙ h.0.0, k.0.1 ∙ h.0.1),
+      (k.0.0 ∙ h.0.0, k.0.1 ∙ h.0.1, k.0.2 ∙ h.0.2),
       k.1 ∙ ap (λ l. l ++ made_one (call_of readonly c) a) h.1 ∙ append_assoc p.calls (made readonly cs answers) (made_one (call_of readonly c) a)
           ∙ ap (λ l. p.calls ++ l) (sym (made-push readonly cs answers c a (asked-length readonly p cs answers mid before))),
     )

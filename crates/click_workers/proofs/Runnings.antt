@@ -1,5 +1,5 @@
 -- What whole runs leave.
-use Rattle.std.proofs.Common.{◌≡◌, ◌↔◌, ℕ, ◌+◌, ◌==◌, ◌<◌, ◌≤◌, inl, inr, Bool, true, false, true≢false, cond, List, [], ◌∷◌, count_by, refl, sym, ap, ◌∙◌, subst, arith}
+use Rattle.std.proofs.Common.{◌≡◌, ◌↔◌, ℕ, ◌+◌, ◌==◌, ◌<◌, ◌≤◌, inl, inr, Bool, true, false, true≢false, cond, List, [], ◌∷◌, map, length, count_by, refl, sym, ap, ◌∙◌, subst, arith}
 use Rattle.std.proofs.lemmas.Bool.Decides.{nat_tests}
 use Rattle.std.specs.List.{All}
 use Rattle.std.proofs.lemmas.List.Elements.{All-head, All-tail}
@@ -9,7 +9,9 @@ use Rattle.click_desk.specs.Booklet.{Booklet}
 use Rattle.click_desk.specs.History.{Legal, entries, entry}
 use Rattle.click_desk.specs.Openings.{IsOpenFault}
 use Rattle.click_desk.specs.Closing.{IsEntered, IsEachOnce, Closes}
-use Rattle.click_desk.specs.Sittings.{DeskName, Sitting}
+use Rattle.click_desk.specs.Sittings.{DeskName, Sitting, new_seat}
+use Rattle.click_rings.specs.Feeds.{Drawing, name_of}
+use Rattle.click_workers.specs.Seats.{IsOf}
 use Rattle.click_desk.specs.declared.entry.Entry.{Entry}
 use Rattle.click_desk.specs.declared.terms.Terms.{Terms}
 use Rattle.click_desk.specs.declared.open.OpenFault.{OpenFault}
@@ -18,10 +20,20 @@ use Rattle.click_workers.specs.declared.runs.RunFault.{RunFault}
 use Rattle.click_workers.specs.declared.runs.RunFault.TheVariants as run
 use Rattle.click_workers.specs.Runs.{Headline, IsTrueFault, IsLate, entries_of}
 
+none-named : (taps : List Drawing) → map name_of taps ≡ [] → taps ≡ []
+none-named [] e = refl
+none-named (t ∷ taps) e = absurd (let n : length (map name_of (t ∷ taps)) ≡ 0 = ap length e in omega arith)
+
+-- the book of a desk whose seats have no feeds has none
+no-feeds : (desk : DeskName) (seats : List Sitting) (book : Booklet) → 0 < length seats → All (IsOf desk) seats → Closes desk seats book → book.taps ≡ []
+no-feeds desk seats book some all closes =
+    let blank : Sitting = new_seat desk [] 0 in
+    none-named book.taps (sym (closes.feeds blank) ∙ (all 0 blank some).1)
+
 -- what a closed desk's book says of the text that it was opened with
 pub headline-of : (text : List ℕ) (room n : ℕ) (desk : DeskName) (seats : List Sitting) (book : Booklet)
-    → desk.terms ≡ record { opening = text; room = room; seats = n } → IsEachOnce desk.terms.seats seats → Closes desk seats book → Headline text n book
-headline-of text room n desk seats book terms once closes = record {
+    → desk.terms ≡ record { opening = text; room = room; seats = n } → 0 < length seats → All (IsOf desk) seats → IsEachOnce desk.terms.seats seats → Closes desk seats book → Headline text n book
+headline-of text room n desk seats book terms some all once closes = record {
   opening = closes.opening ∙ ap (λ (t : Terms). t.opening) terms;
   replayed = closes.replayed;
   lawful = closes.lawful;
@@ -29,6 +41,7 @@ headline-of text room n desk seats book terms once closes = record {
   once = subst (λ m. IsEachOnce m book.seats) (ap (λ (t : Terms). t.seats) terms)
       (subst (λ (l : List Sitting). IsEachOnce desk.terms.seats l) (sym closes.seats_are) once);
   numbered = subst (λ (l : List Sitting). All (λ e. count_by (λ s. s.number == e.seat) l ≡ 1) book.entries) (sym closes.seats_are) closes.numbered;
+  no_feeds = no-feeds desk seats book some all closes;
 }
 
 -- a fault that the opening told is the text's first, also as the run tells it

@@ -23,7 +23,7 @@ use Rattle.click_workers.specs.declared.runs.RunFault.TheVariants as fault
 
 -- The book is a history of one thread from this text, of so many seats: made one after another from what the text opens, its calls get just their replies and
 -- lead to its router, and every configuration that was installed is lawful. It has of each seat just the calls that the seat made, in their order and with
--- the replies that it got, each number is that of one seat, and each entry is of one of them.
+-- the replies that it got, each number is that of one seat, and each entry is of one of them. It has no feeds.
 pub record Headline (text : List ℕ) (n : ℕ) (book : Booklet) : Type 0 where
   pub opening : book.opening ≡ text
   pub replayed : Legal book.opening book.entries book.router
@@ -31,6 +31,7 @@ pub record Headline (text : List ℕ) (n : ℕ) (book : Booklet) : Type 0 where
   pub entered : All (IsEntered book.entries) book.seats
   pub once : IsEachOnce n book.seats
   pub numbered : All (λ e. count_by (λ s. s.number == e.seat) book.seats ≡ 1) book.entries
+  pub no_feeds : book.taps ≡ []
 
 -- of the seats behind those of the sessions the book has Rounds alone
 abbrev pub DriversRound : ℕ → Booklet → Type 0

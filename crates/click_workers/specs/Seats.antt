@@ -4,7 +4,7 @@ use Rattle.click_router.specs.declared.call.Call.{Call}
 use Rattle.click_router.specs.declared.call.Reply.{Reply}
 use Rattle.click_desk.specs.declared.booked.DeskFault.{DeskFault}
 use Rattle.click_desk.specs.declared.booked.DeskFault.TheVariants as desk
-use Rattle.click_desk.specs.Sittings.{Sitting, Calls, IsRefused}
+use Rattle.click_desk.specs.Sittings.{DeskName, Sitting, Calls, IsRefused}
 use Rattle.click_control.specs.declared.port.AskFault.{AskFault}
 use Rattle.click_control.specs.declared.port.AskFault.TheVariants as ask
 use Rattle.click_control.specs.declared.command.Command.{Command}
@@ -15,9 +15,13 @@ use Rattle.click_control.specs.declared.serving.ServeFault.{ServeFault}
 use Rattle.click_control.specs.Peers.{Input, Output}
 use Rattle.click_control.specs.Serving.{call_of, Course, ServesSo}
 
--- the seat is the one of that number at that desk, as before
+-- the seat is the one of that number at that desk with those feeds, as before
 abbrev pub SameSeat : Sitting → Sitting → Type 0
-SameSeat old new = (new.desk ≡ old.desk) × (new.number ≡ old.number)
+SameSeat old new = (new.desk ≡ old.desk) × (new.number ≡ old.number) × (new.feeds ≡ old.feeds)
+
+-- a seat of this desk, which has no feeds
+abbrev pub IsOf : DeskName → Sitting → Type 0
+IsOf desk s = (s.desk ≡ desk) × (s.feeds ≡ [])
 
 abbrev pub refusal_of : AskFault → DeskFault
 refusal_of ask.NoMemory = desk.NoMemory

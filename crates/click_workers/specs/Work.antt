@@ -3,8 +3,7 @@ use Rattle.std.specs.Prelude.{◌≡◌, ◌⊎◌, ◌↔◌, ℕ, zero, suc, �
 use Rattle.std.specs.List.{All}
 use Rattle.click_router.specs.declared.call.Call.TheVariants as call
 use Rattle.click_router.specs.declared.call.Reply.{Reply}
-use Rattle.click_desk.specs.declared.booked.DeskFault.{DeskFault}
-use Rattle.click_desk.specs.Sittings.{DeskName, Sitting, IsRefused, new_seat, seats_below}
+use Rattle.click_desk.specs.Sittings.{DeskName, Sitting, new_seat, seats_below}
 use Rattle.click_control.specs.Peers.{Input, Output}
 use Rattle.click_control.specs.Serving.{Turned, WentThrough, most_reads}
 use Rattle.click_workers.specs.Gates.{Place, place, AsksGate, TellsGate}
@@ -12,26 +11,24 @@ use Rattle.click_workers.specs.Seats.{SeatServes}
 use Rattle.click_workers.specs.declared.session.SessionEnd.{SessionEnd}
 use Rattle.click_workers.specs.declared.session.SessionEnd.TheVariants as end
 
--- what holds a driver of this seat back from its nth call: the gate refused the turn, or gave it and the desk refused the call
-abbrev pub IsHeldBack : {G : Type 0} → (G → ℕ → ℕ → Bool → Type 0) → G → ℕ → ℕ → Sitting → Type 0
-IsHeldBack gives gate who nth s =
-    gives gate who nth false
-    ⊎ (gives gate who nth true × ((old : Sitting) × (fault : DeskFault) × IsRefused old s fault))
+-- the gate was asked for this turn, and refused it or gave it
+abbrev pub IsAsked : {G : Type 0} → (G → ℕ → ℕ → Bool → Type 0) → G → ℕ → ℕ → Type 0
+IsAsked gives gate who nth = gives gate who nth false ⊎ gives gate who nth true
 
--- One turn of a driver: the gate gave it, the Round was made, and the gate was told; or the gate or the desk held it back, and no call was made.
+-- One turn of a driver: the gate gave it, the Round was made, and the gate was told; or the gate was asked for it, and no call was made.
 abbrev pub TakesTurn : {G : Type 0} → (G → ℕ → ℕ → Bool → Type 0) → (G → ℕ → ℕ → Type 0) → G → ℕ → ℕ → Sitting → Sitting → Bool → Type 0
 TakesTurn gives told gate who nth old new true =
     gives gate who nth true × told gate who nth × ((reply : Reply) × (new.calls ≡ old.calls ++ (call.Round, reply) ∷ []))
-TakesTurn gives told gate who nth old new false = (new.calls ≡ old.calls) × IsHeldBack gives gate who nth new
+TakesTurn gives told gate who nth old new false = (new.calls ≡ old.calls) × IsAsked gives gate who nth
 
--- A driver's calls are Rounds alone, and it is true exactly where they are so many. Each went through the gate; it stops only where the gate or the desk
--- holds it back.
+-- A driver's calls are Rounds alone, and it is true exactly where they are so many. Each went through the gate; it stops early only at a turn for which it asked the
+-- gate.
 pub record Drives {G : Type 0} (gives : G → ℕ → ℕ → Bool → Type 0) (told : G → ℕ → ℕ → Type 0) (gate : G) (who rounds : ℕ) (s : Sitting) (all : Bool) : Type 0 where
   pub rounds_alone : All (λ p. p.0 ≡ call.Round) s.calls
   pub within : length s.calls ≤ rounds
   pub full : (all ≡ true) ↔ (length s.calls ≡ rounds)
   pub turned : Turned (AsksGate gives) (TellsGate told) (place gate who) (length s.calls) (place gate who)
-  pub stopped : all ≡ false → IsHeldBack gives gate who (length s.calls + 1) s
+  pub stopped : all ≡ false → IsAsked gives gate who (length s.calls + 1)
 
 -- What came of a session: the door did not let it in and it made no call, or the door let it in under its number and it was served over the seat, with its turns at
 -- the gate.

@@ -1,14 +1,12 @@
 //! What holds of the definitions, in the run's words.
 
-ghost use Rattle.std.specs.Prelude.{◌≡◌, ◌∷◌, [], ℕ, List, Ok, false};
+ghost use Rattle.std.specs.Prelude.{◌≡◌, ◌∷◌, [], ℕ, List, Ok};
 ghost use Rattle.click_control.specs.Serving.{Course, WentThrough};
 ghost use Rattle.click_control.specs.declared.serving.Ended.TheVariants as ended;
 ghost use Rattle.click_desk.specs.Booklet.{Booklet};
 ghost use Rattle.click_desk.specs.History.{Legal};
-ghost use Rattle.click_desk.specs.Sittings.{Sitting, IsRefused};
-ghost use Rattle.click_desk.specs.declared.booked.DeskFault.{DeskFault};
+ghost use Rattle.click_desk.specs.Sittings.{Sitting};
 ghost use Rattle.click_workers.specs.Gates.{Place, place, AsksGate, TellsGate};
-ghost use Rattle.click_workers.specs.Work.{Drives};
 ghost use Rattle.click_workers.specs.Runs.{Headline, entries_of};
 ghost use Rattle.click_workers.specs.declared.gate.OpenGate.{OpenGate};
 
@@ -20,10 +18,8 @@ pub fn one_seat_is_one_thread()
         → (book.entries ≡ entries_of s.number s.calls) × Legal text (entries_of s.number s.calls) book.router }
 {}
 
-/// At the open gate no session ends because its turn was refused, and a driver stops early only where the desk refuses its call.
+/// At the open gate no session ends because its turn was refused.
 pub fn the_open_gate_holds_nobody()
-    ensures sessions { (gate : OpenGate) (who : ℕ) (is : Place OpenGate) (course : Course)
+    ensures { (gate : OpenGate) (who : ℕ) (is : Place OpenGate) (course : Course)
         → WentThrough (AsksGate ⟦<OpenGate as Gate>⟧.gives) (TellsGate ⟦<OpenGate as Gate>⟧.told) (place gate who) is (Ok ended.GateClosed) course → ⊥ }
-    ensures drivers { (gate : OpenGate) (who rounds : ℕ) (s : Sitting) → Drives ⟦<OpenGate as Gate>⟧.gives ⟦<OpenGate as Gate>⟧.told gate who rounds s false
-        → (old : Sitting) × (fault : DeskFault) × IsRefused old s fault }
 {}

@@ -4,7 +4,7 @@ ghost use Rattle.std.specs.Prelude.{◌≡◌, ◌≤◌, ◌+◌, [], IfSome, I
 ghost use Rattle.std.specs.List.{All};
 ghost use Rattle.std.specs.Thread.{IsSend, IsSync};
 ghost use Rattle.click_desk.specs.Sittings.{new_seat};
-ghost use Rattle.click_workers.specs.Seats.{SameSeat};
+ghost use Rattle.click_workers.specs.Seats.{SameSeat, IsOf};
 ghost use Rattle.click_workers.specs.Work.{Attends, Attended, Drives, Drove, Ready, Worked};
 
 use crate::door::Door;
@@ -61,7 +61,7 @@ pub(crate) fn work_all<T: Handlers + Send + Drop, D: Door, G: Gate, R: Threads +
     work: Work<T>,
 ) -> Work<T>
     requires { Ready desk.now sessions (vec_len work.seats) work.seats.items work.ended.items work.drivers.items (vec_capacity work.ended) (vec_capacity work.drivers) }
-    ensures desk { All (λ s. s.desk ≡ desk.now) result.seats.items }
+    ensures desk { All (IsOf desk.now) result.seats.items }
     ensures worked { Worked (Attended D.lets_in D.Reader.input D.Writer.output G.gives G.told door.now gate.now readonly) (Drove G.gives G.told gate.now rounds)
         sessions (vec_len work.seats) result.seats.items result.ended.items result.drivers.items }
     ensures room { (vec_capacity work.seats ≤ vec_capacity result.seats) × (vec_capacity work.ended ≤ vec_capacity result.ended) × (vec_capacity work.drivers ≤ vec_capacity result.drivers) }
@@ -80,7 +80,7 @@ pub(crate) fn work_all<T: Handlers + Send + Drop, D: Door, G: Gate, R: Threads +
             { drive(rt, desk, seat, gate, who, rounds) },
             move || -> Work<T>
                 requires { IsSync R.row × IsSync D.row × IsSync G.row × IsSend T.row × Ready desk.now sessions (vec_len rest.seats) rest.seats.items rest.ended.items rest.drivers.items (vec_capacity rest.ended) (vec_capacity rest.drivers) }
-                ensures { All (λ s. s.desk ≡ desk.entry.now) result.seats.items
+                ensures { All (IsOf desk.entry.now) result.seats.items
                     × Worked (Attended D.lets_in D.Reader.input D.Writer.output G.gives G.told door.entry.now gate.entry.now readonly) (Drove G.gives G.told gate.entry.now rounds)
                     sessions (vec_len rest.seats) result.seats.items result.ended.items result.drivers.items
                     × (vec_capacity rest.seats ≤ vec_capacity result.seats) × (vec_capacity rest.ended ≤ vec_capacity result.ended) × (vec_capacity rest.drivers ≤ vec_capacity result.drivers) }
@@ -102,7 +102,7 @@ pub(crate) fn work_all<T: Handlers + Send + Drop, D: Door, G: Gate, R: Threads +
             { attend(rt, alloc, desk, seat, readonly, door, gate, who) },
             move || -> Work<T>
                 requires { IsSync R.row × IsSync D.row × IsSync G.row × IsSend T.row × Ready desk.now sessions (vec_len rest.seats) rest.seats.items rest.ended.items rest.drivers.items (vec_capacity rest.ended) (vec_capacity rest.drivers) }
-                ensures { All (λ s. s.desk ≡ desk.entry.now) result.seats.items
+                ensures { All (IsOf desk.entry.now) result.seats.items
                     × Worked (Attended D.lets_in D.Reader.input D.Writer.output G.gives G.told door.entry.now gate.entry.now readonly) (Drove G.gives G.told gate.entry.now rounds)
                     sessions (vec_len rest.seats) result.seats.items result.ended.items result.drivers.items
                     × (vec_capacity rest.seats ≤ vec_capacity result.seats) × (vec_capacity rest.ended ≤ vec_capacity result.ended) × (vec_capacity rest.drivers ≤ vec_capacity result.drivers) }

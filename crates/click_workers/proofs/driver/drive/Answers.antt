@@ -4,7 +4,7 @@ use Rattle.click_workers.proofs.driver.drive.Goals as goal
 
 pub loop-nth-init : goal.loop-nth-init
 loop-nth-init g c = record {
-  same = (refl, refl);
+  same = (refl, refl, refl);
   desk = c.requires.desk;
   drives = none-driven g.G.Gate.gives g.G.Gate.told c.args.gate.now c.args.who c.args.seat c.requires.fresh;
 }
@@ -14,7 +14,7 @@ loop-nth-preserved g c =
     let h = c.loop-nth.invariant in
     let same = c.take_turn.ensures.same in
     record {
-      same = (same.0 ∙ h.same.0, same.1 ∙ h.same.1);
+      same = (same.0 ∙ h.same.0, same.1 ∙ h.same.1, same.2 ∙ h.same.2);
       desk = same.0 ∙ h.desk;
       drives = one-driven g.G.Gate.gives g.G.Gate.told c.args.gate.now c.args.who c.loop-nth.nth c.loop-nth.seat c.take_turn.new.seat h.drives c.if-not-take_turn.ensures.turn;
     }

@@ -1,8 +1,10 @@
-use Rattle.std.proofs.Common.{◌≡◌, [], ◌∷◌, ◌++◌, refl, sym, ap, ◌∙◌, subst}
+use Rattle.std.proofs.Common.{◌≡◌, ◌<◌, List, [], ◌∷◌, ◌++◌, length, refl, sym, ap, ◌∙◌, subst, arith}
+use Rattle.std.specs.List.{All}
+use Rattle.std.proofs.lemmas.List.Elements.{All-nil, All-push}
 use Rattle.click_desk.specs.History.{Legal}
 use Rattle.click_desk.specs.Sittings.{Sitting, new_seat}
 use Rattle.click_control.specs.Serving.{NoneRefused, most_reads}
-use Rattle.click_workers.specs.Seats.{SeatServes}
+use Rattle.click_workers.specs.Seats.{SeatServes, IsOf}
 use Rattle.click_workers.specs.Runs.{entries_of}
 use Rattle.click_workers.proofs.Workings.{last-new}
 use Rattle.click_workers.proofs.Runnings.{headline-of, one-seat}
@@ -11,7 +13,14 @@ use Rattle.click_workers.proofs.runs.run.Goals as goal
 pub returns-clause-headline : goal.returns-clause-headline
 returns-clause-headline g c =
     let closes = c.in-Ok-close.ensures.ok in
-    headline-of c.args.text.now _ 1 c.in-Ok.opened.0 c.push_reserved.new.self.items c.in-Ok-close.book c.in-Ok.ensures.desk closes.0 closes.1
+    let desk = c.in-Ok.opened.0 in
+    let s = c.serve_alone-ended.result.1 in
+    let taken = last-new desk 0 1 c.in-Ok.opened.1.items c.pop.new.self.items c.in-Some.seat c.in-Ok.ensures.seats.0 c.in-Some.ensures.items refl in
+    let items : c.push_reserved.new.self.items ≡ s ∷ [] = c.push_reserved.ensures.items ∙ ap (λ l. l ++ s ∷ []) taken.0 in
+    let of : IsOf desk s = (c.serve_alone-ended.ensures.same.0 ∙ ap (λ (t : Sitting). t.desk) taken.1, c.serve_alone-ended.ensures.same.2 ∙ ap (λ (t : Sitting). t.feeds) taken.1) in
+    headline-of c.args.text.now _ 1 desk c.push_reserved.new.self.items c.in-Ok-close.book c.in-Ok.ensures.desk
+    (subst (λ (l : List Sitting). 0 < length l) (sym items) (omega arith))
+    (subst (λ (l : List Sitting). All (IsOf desk) l) (sym items) (All-push (IsOf desk) [] s (All-nil (IsOf desk)) of)) closes.0 closes.1
 
 pub returns-clause-served : goal.returns-clause-served
 returns-clause-served g c =
@@ -25,7 +34,7 @@ returns-clause-served g c =
     let number : s.number ≡ 0 = c.serve_alone-ended.ensures.same.1 ∙ ap (λ (t : Sitting). t.number) taken.1 in
     let same : s.desk ≡ desk = c.serve_alone-ended.ensures.same.0 ∙ ap (λ (t : Sitting). t.desk) taken.1 in
     let fresh : c.in-Some.seat ≡ new_seat s.desk [] 0 = taken.1 ∙ ap (λ d. new_seat d [] 0) (sym same) in
-    let headline = headline-of text _ 1 desk c.push_reserved.new.self.items book c.in-Ok.ensures.desk closes.0 closes.1 in
+    let headline = returns-clause-headline g c in
     record {
       seat = s;
       seats = seats;

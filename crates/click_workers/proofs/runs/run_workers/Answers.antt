@@ -14,6 +14,9 @@ work_all-seats-requires-after_bounds g c κs within =
     ready-first desk c.args.sessions c.args.workers _ _ _ _ _ _ new (omega (arith, c.in-Ok-opened.opened.1.ok.0, ap length new, seats-many desk n))
     c.in-Ok.ensures.items c.in-Ok-with_capacity.ensures.items c.in-Ok.ensures.exact c.in-Ok-with_capacity.ensures.exact
 
+pub close-requires : goal.close-requires
+close-requires g c = λ k d below. (c.work_all-seats.ensures.desk k d below).0
+
 pub unreachable-requires : goal.unreachable-requires
 unreachable-requires g c =
     let desk = c.in-Ok-opened.opened.0 in
@@ -27,7 +30,11 @@ unreachable-requires g c =
 pub returns-clause-headline : goal.returns-clause-headline
 returns-clause-headline g c =
     let closes = c.in-Ok-close.ensures.ok in
-    headline-of c.args.text.now _ (c.args.sessions + c.args.workers) c.in-Ok-opened.opened.0 _ c.in-Ok-close.book c.in-Ok-opened.ensures.desk closes.0 closes.1
+    let n = c.args.sessions + c.args.workers in
+    let new = c.in-Ok-opened.ensures.seats.0 in
+    let len : vec_len c.in-Ok-opened.opened.1 ≡ n = omega (arith, c.in-Ok-opened.opened.1.ok.0, ap length new, seats-many c.in-Ok-opened.opened.0 n) in
+    headline-of c.args.text.now _ (c.args.sessions + c.args.workers) c.in-Ok-opened.opened.0 _ c.in-Ok-close.book c.in-Ok-opened.ensures.desk
+    (omega (arith, c.work_all-seats.ensures.worked.many, len, c.requires.0)) c.work_all-seats.ensures.desk closes.0 closes.1
 
 pub returns-clause-worked : goal.returns-clause-worked
 returns-clause-worked g c =

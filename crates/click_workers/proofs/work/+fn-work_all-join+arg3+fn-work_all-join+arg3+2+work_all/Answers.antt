@@ -3,6 +3,7 @@ use Rattle.std.specs.List.{All}
 use Rattle.std.proofs.lemmas.List.Elements.{All-push}
 use Rattle.click_desk.specs.Sittings.{Sitting, new_seat}
 use Rattle.click_workers.proofs.Workings.{ended-many, drivers-many, worked-driver, worked-session, worked-as, attended-by, driven-by}
+use Rattle.click_workers.specs.Seats.{IsOf}
 use Rattle.click_workers.specs.Work.{Attended, Drove}
 use Rattle.click_workers.proofs.work.+fn-work_all-join+arg3+fn-work_all-join+arg3+2+work_all.Goals as goal
 
@@ -27,9 +28,9 @@ push_reserved-requires-else-who-sessions-2 g t c =
 pub returns-then-who-sessions-clause-desk : goal.returns-then-who-sessions-clause-desk
 returns-then-who-sessions-clause-desk g t c =
     let is = rw c.in-Some.is at c.last_of-last.ensures.some in
-    subst (λ (l : List Sitting). All (λ s. s.desk ≡ c.args.desk.now) l) (sym c.push_reserved.ensures.items)
-    (All-push (λ (s : Sitting). s.desk ≡ c.args.desk.now) c.join-all.result.1.seats.items c.join-all.result.0.1 c.join-all.ensures.second.0
-    (c.join-all.ensures.first.0.0 ∙ ap (λ (s : Sitting). s.desk) is.0))
+    subst (λ (l : List Sitting). All (IsOf c.args.desk.now) l) (sym c.push_reserved.ensures.items)
+    (All-push (IsOf c.args.desk.now) c.join-all.result.1.seats.items c.join-all.result.0.1 c.join-all.ensures.second.0
+    (c.join-all.ensures.first.0.0 ∙ ap (λ (s : Sitting). s.desk) is.0, c.join-all.ensures.first.0.2 ∙ ap (λ (s : Sitting). s.feeds) is.0))
 
 pub returns-then-who-sessions-clause-worked : goal.returns-then-who-sessions-clause-worked
 returns-then-who-sessions-clause-worked g t c =
@@ -49,9 +50,9 @@ returns-then-who-sessions-clause-worked g t c =
 pub returns-else-who-sessions-clause-desk : goal.returns-else-who-sessions-clause-desk
 returns-else-who-sessions-clause-desk g t c =
     let is = rw c.in-Some.is at c.last_of-last.ensures.some in
-    subst (λ (l : List Sitting). All (λ s. s.desk ≡ c.args.desk.now) l) (sym c.push_reserved-else-who-sessions.ensures.items)
-    (All-push (λ (s : Sitting). s.desk ≡ c.args.desk.now) c.join-seat.result.1.seats.items c.join-seat.result.0.1 c.join-seat.ensures.second.0
-    (c.join-seat.ensures.first.0.0 ∙ ap (λ (s : Sitting). s.desk) is.0))
+    subst (λ (l : List Sitting). All (IsOf c.args.desk.now) l) (sym c.push_reserved-else-who-sessions.ensures.items)
+    (All-push (IsOf c.args.desk.now) c.join-seat.result.1.seats.items c.join-seat.result.0.1 c.join-seat.ensures.second.0
+    (c.join-seat.ensures.first.0.0 ∙ ap (λ (s : Sitting). s.desk) is.0, c.join-seat.ensures.first.0.2 ∙ ap (λ (s : Sitting). s.feeds) is.0))
 
 pub returns-else-who-sessions-clause-worked : goal.returns-else-who-sessions-clause-worked
 returns-else-who-sessions-clause-worked g t c =
