@@ -56,6 +56,11 @@ pub all_belong : (desk : DeskName) (feeds : List FeedName) (n : ℕ) → All (λ
 all_belong desk feeds zero = λ k d below. absurd (omega arith)
 all_belong desk feeds (suc n) = All-push (λ s. s.desk ≡ desk) (seats_below desk feeds n) (new_seat desk feeds n) (all_belong desk feeds n) refl
 
+-- and have its feeds
+pub all_fed : (desk : DeskName) (feeds : List FeedName) (n : ℕ) → All (λ s. s.feeds ≡ feeds) (seats_below desk feeds n)
+all_fed desk feeds zero = λ k d below. absurd (omega arith)
+all_fed desk feeds (suc n) = All-push (λ s. s.feeds ≡ feeds) (seats_below desk feeds n) (new_seat desk feeds n) (all_fed desk feeds n) refl
+
 -- how often a number stands there, one seat more
 count_more : (k : ℕ) (xs : List Sitting) (x : Sitting) → count_by (λ s. s.number == k) (xs ++ x ∷ []) ≡ count_by (λ s. s.number == k) xs + cond (x.number == k) 1 0
 count_more k xs x = sum_by_push (λ (s : Sitting). cond (s.number == k) 1 0) xs x

@@ -156,8 +156,9 @@ fn misfit(seats: usize, inlets: &[Inlet]) -> Option<OpenFault>
 }
 
 impl<T: Drop> Desk<T> {
-    /// Opens a desk with 1 to 256 seats and at most 16 inlets, no two of them of one device, for a history of at most `room` entries. A refusal hands the table and the inlets back: for the number of seats, else for a device that is there twice, else for the number of inlets, else for the
-    /// configuration, else because memory runs out.
+    /// Opens a desk with 1 to 256 seats and at most 16 inlets, no two of them of one device, for a history of at most `room` entries. A refusal hands the table and
+    /// the inlets back: for the number of seats, else for a device that is there twice, else for the number of inlets, else for the configuration, else because
+    /// memory runs out.
     pub fn open<R: Wait>(
         rt: &R,
         alloc: Global,
@@ -169,6 +170,7 @@ impl<T: Drop> Desk<T> {
     ) -> Result<(Desk<T>, Vec<Seat<T>>), OpenRefused<T>>
         ensures desk { IfOk result (λ r. r.0.terms ≡ record { opening = text.now; room = room; seats = seats }) }
         ensures seats { IfOk result (λ r. (r.1.items ≡ seats_below r.0 inlets.items seats) × All (λ s. s.desk ≡ r.0) r.1.items) }
+        ensures fed { IfOk result (λ r. All (λ s. s.feeds ≡ inlets.items) r.1.items) }
         ensures good { IfOk result (λ r. AreFit seats inlets.items × IsLegal text.now []) }
         ensures handed { IfErr result (λ r. (r.table ≡ table) × (r.inlets ≡ inlets)) }
         ensures fault { IfErr result (λ r. IsOpenFault seats inlets.items text.now r.fault) }

@@ -7,7 +7,7 @@ use Rattle.click_desk.specs.declared.charter.Charter.{Charter}
 use Rattle.click_desk.specs.declared.terms.Terms.{Terms}
 use Rattle.click_desk.specs.declared.view.View.{View}
 use Rattle.click_desk.specs.Sittings.{DeskName, Sitting, seats_below}
-use Rattle.click_desk.proofs.Books.{all_belong}
+use Rattle.click_desk.proofs.Books.{all_belong, all_fed}
 use Rattle.click_desk.proofs.desk.Desk.open.Goals as goal
 
 pub returns-clause-seats : goal.returns-clause-seats
@@ -21,3 +21,9 @@ returns-clause-seats g c =
     let made : c.make_seats.new.given.items ≡ seats_below desk feeds c.args.seats =
     c.make_seats.ensures ∙ ap (λ (y : Charter). seats_below (record { table = desk.table; terms = terms_of y }) y.feeds c.args.seats) terms in
     (made, subst (λ (l : List Sitting). All (λ s. s.desk ≡ desk) l) (sym made) (all_belong desk feeds c.args.seats))
+
+pub returns-clause-fed : goal.returns-clause-fed
+returns-clause-fed g c =
+    let feeds : List FeedName = c.args.inlets.items in
+    let made = (returns-clause-seats g c).0 in
+    subst (λ (l : List Sitting). All (λ s. s.feeds ≡ feeds) l) (sym made) (all_fed _ feeds c.args.seats)
