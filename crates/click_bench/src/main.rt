@@ -8,12 +8,14 @@
 //! - `engine CASE COUNT` drives a plant that many times (bench/engine);
 //! - `read ELEMENTS COUNT` reads a Counter's count that many times in a router of so many elements (bench/handlers);
 //! - `rounds COUNT` makes that many rounds of the router on standard input (bench/desk);
+//! - `feeds ring|polls|arrivals COUNT` sends packets through a ring alone, or 32 at a time into a router (bench/feeds);
 //! - `make CLASS` makes an element of the class with the configuration string on standard input.
 #![tactic(auto)]
 
 mod driving;
 mod engine;
 mod expanding;
+mod feeding;
 mod making;
 mod preparing;
 mod reading;
@@ -159,6 +161,14 @@ fn run<R: Threads + Wait + Sync>(threads: &R, rt: &HostRuntime) -> io::Result<()
     if let [_, word, case, count] = words.as_slice() {
         if word.as_str() == "engine" {
             return engine::run(rt, case.as_str(), count.parse::<usize>().unwrap_or(0));
+        }
+        if word.as_str() == "feeds" {
+            return feeding::run(
+                threads,
+                rt,
+                case.as_str(),
+                count.parse::<usize>().unwrap_or(0),
+            );
         }
         if word.as_str() == "read" {
             let elements = case.parse::<usize>().unwrap_or(0);

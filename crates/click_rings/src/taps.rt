@@ -55,6 +55,7 @@ impl Tap {
         requires { (taken.old.items ≡ []) × (most ≤ vec_capacity taken.old) }
         ensures inlet { self.new ≡ record self.old { drawn = self.old.drawn ++ taken.new.items } }
         ensures most { length taken.new.items ≤ most }
+        ensures room { most ≤ vec_capacity taken.new }
     {
         for _ in 0..most {
             let Ok(packet) = self.consumer.pop() else {
