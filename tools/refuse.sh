@@ -195,6 +195,19 @@ refuse_calls() {
     passed none 'while handlers are read and written, and configurations are swapped'
 }
 
+# fed_desk STEP: what `refeed` of click_bench writes where that step has a request refused: a read, a poll of two of three packets, a read, and the one that is left.
+fed_desk() {
+    if [ "$1" = open ]; then echo 'open: out of memory'; fi
+    if [ "$1" = call ]; then echo 'call: out of memory'; fi
+    echo 'value [48]'
+    if [ "$1" = poll ]; then echo 'poll: out of memory'; fi
+    echo 'entered 2'
+    if [ "$1" = again ]; then echo 'call: out of memory'; fi
+    echo 'value [50]'
+    if [ "$1" = settle ]; then echo 'settle: out of memory'; fi
+    printf 'left [3]\n3 entries\n'
+}
+
 refuse_bench() {
     # click_bench writes the fault, or fails to read its input.
     : > "$work/nothing"
@@ -215,6 +228,15 @@ refuse_bench() {
     in_turn 'a swap' "$work/text" "$work/whole" "$work/answer" 1 "$work/nothing" "$bench" retry
     in_one_row 'a swap'
     passed "$work/answer" 'in a swap of a router with packets'
+
+    # A desk with a feed: what is refused is made again, and nothing was drawn, entered or lost.
+    mkdir -p "$work/steps"
+    for step in none open call poll again settle; do fed_desk "$step" > "$work/steps/$step"; done
+    mv "$work/steps/none" "$work/whole"
+    : > "$work/came"
+    in_turn 'a desk with a feed' /dev/null "$work/whole" "$work/steps" 1 "$work/whole" "$bench" refeed
+    each_came "$work/steps" 'a desk with a feed'
+    passed "$work/steps" 'while a desk with a feed is opened, called, polled and settled'
 
     # What click_bench asks for itself comes first, as for an element without arguments; it is left out.
     while asks_for_itself "$first"; do first=$((first + 1)); done

@@ -4,6 +4,7 @@
 //! - `KIND SIZE` parses a text of that kind and size in bytes: its kind, its size, how many statements and bodies it has;
 //! - `input` parses what stands on standard input, `flat` expands it too, and `router` prepares a router from it;
 //! - `retry` swaps a router with queued packets to what stands on standard input, and again where memory was refused;
+//! - `refeed` opens, calls, polls, closes and settles a desk with a feed, and each again where memory was refused;
 //! - `lookup COUNT`, `classifier COUNT` make an element of that many arguments;
 //! - `engine CASE COUNT` drives a plant that many times (bench/engine);
 //! - `read ELEMENTS COUNT` reads a Counter's count that many times in a router of so many elements (bench/handlers);
@@ -19,6 +20,7 @@ mod feeding;
 mod making;
 mod preparing;
 mod reading;
+mod refeeding;
 mod retrying;
 
 use click_classes::Class;
@@ -144,6 +146,7 @@ fn run<R: Threads + Wait + Sync>(threads: &R, rt: &HostRuntime) -> io::Result<()
             "flat" => return expanding::input(rt),
             "router" => return preparing::input(rt),
             "retry" => return retrying::input(threads, rt),
+            "refeed" => return refeeding::run(threads, rt),
             _ => {}
         }
     }

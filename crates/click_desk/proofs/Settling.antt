@@ -4,7 +4,7 @@ use Rattle.std.proofs.Math.Bool.{not}
 use Rattle.std.specs.List.{All, remove}
 use Rattle.std.specs.Str.{bytes_eq}
 use Rattle.click_rings.specs.Feeds.{Drawing, FeedName, name_of, has_feed, are_apart, IsPlace}
-use Rattle.click_rings.proofs.Draws.{has_at, none_first, none_rest, first_apart, rest_apart, other_first}
+use Rattle.click_rings.proofs.Draws.{has_at, none_first, none_rest, first_apart, rest_apart, other_first, is_itself}
 use Rattle.click_desk.specs.Polls.{without}
 
 -- taking the inlet of a device out
@@ -60,3 +60,36 @@ apart_without device (i ∷ is) apart =
     let rest = rest_apart i is apart in
     apart_choice i is (without device is) (bytes_eq i.device device) rest
     (apart_cons i (without device is) (has_without i.device device is (first_apart i is apart)) (apart_without device is rest))
+
+abbrev first_or : FeedName → List FeedName → FeedName
+first_or n [] = n
+first_or n (f ∷ fs) = f
+
+abbrev after_first : List FeedName → List FeedName
+after_first [] = []
+after_first (f ∷ fs) = fs
+
+away_at : (device : List ℕ) (is : List Drawing) (k : ℕ) (x : Drawing) → has_feed device (map name_of is) ≡ false → k < length is → (slice_index_or is k x).device ≡ device → ⊥
+away_at device [] k x away below same = absurd (omega arith)
+away_at device (i ∷ is) zero x away below same =
+    let here : bytes_eq i.device device ≡ true = ap (λ d. bytes_eq d device) same ∙ is_itself device in
+    true≢false (sym here ∙ none_first (bytes_eq i.device device) (has_feed device (map name_of is)) away)
+away_at device (i ∷ is) (suc k) x away below same =
+    away_at device is k x (none_rest (bytes_eq i.device device) (has_feed device (map name_of is)) away) (omega arith) same
+
+-- of inlets that are apart, those of the first feed's device have its ring
+pub own_ring : (n : FeedName) (others : List FeedName) (is : List Drawing) → map name_of is ≡ n ∷ others → are_apart (map name_of is) ≡ true
+    → All (λ i. i.device ≡ n.device → i.ring ≡ n.ring) is
+own_ring n others [] same apart k x below = absurd (omega arith)
+own_ring n others (i ∷ is) same apart zero x below = λ here. ap (λ (f : FeedName). f.ring) (ap (first_or n) same)
+own_ring n others (i ∷ is) same apart (suc k) x below = λ here.
+    let first : i.device ≡ n.device = ap (λ (f : FeedName). f.device) (ap (first_or n) same) in
+    let away : has_feed n.device (map name_of is) ≡ false = ap (λ d. has_feed d (map name_of is)) (sym first) ∙ first_apart i is apart in
+    absurd (away_at n.device is k x away (omega arith) here)
+
+-- without the first feed's, the others are left
+pub others_left : (n : FeedName) (others : List FeedName) (is : List Drawing) → map name_of is ≡ n ∷ others → map name_of (without n.device is) ≡ others
+others_left n others [] same = absurd (let e : 0 ≡ length (n ∷ others) = ap length same in omega arith)
+others_left n others (i ∷ is) same =
+    let here : bytes_eq i.device n.device ≡ true = ap (λ (f : FeedName). bytes_eq f.device n.device) (ap (first_or n) same) ∙ is_itself n.device in
+    rw here (ap after_first same)

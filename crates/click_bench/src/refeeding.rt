@@ -1,0 +1,222 @@
+//! A desk with a feed: it is opened, called, polled and settled, and each again where memory was refused; tools/refuse.sh refuses each request for memory of it.
+
+ghost use Rattle.std.specs.Prelude.{◌≡◌, ◌<◌, [], ◌∷◌, codes, false, length, vec_len, vec_capacity, IfOk, IfSome};
+ghost use Rattle.std.specs.List.{All};
+ghost use Rattle.click_router.specs.Polls.{is_poll};
+
+use click_desk::{Book, Desk, Seat};
+use click_handlers::{Table, TakesTable, with_table};
+use click_packet::{Packet, StoredPacket};
+use click_rings::opening::feed as make_feed;
+use click_rings::{Feed, FeedEnd, Inlet};
+use click_router::{Call, Handlers, Reply};
+use click_text::sequence::Sequence;
+use std::alloc::{AllocError, Global};
+use std::io;
+use std::sync::Wait;
+use std::thread::Threads;
+
+/// What runs: packets from the device are counted.
+const RUNNING: &[u8] = b"FromDevice(a) -> c :: Counter -> Discard;";
+
+/// The bytes of the packets that are put. A poll takes two of them.
+const PUT: [u8; 3] = [1, 2, 3];
+
+/// A feed that has put its packets, and a list of its inlet.
+fn fed(alloc: Global) -> Result<(Feed, Vec<Inlet>), AllocError>
+    ensures { IfOk result (λ r. r.1.items ≡ record { device = codes "a"; ring = r.0.ring } ∷ []) }
+{
+    let Ok((feed, inlet)) = make_feed(alloc, b"a", 4) else {
+        return Err(AllocError);
+    };
+    let mut inlets = Vec::with_capacity(alloc, 1)?;
+    inlets.push_reserved(inlet);
+    Ok((put_all(alloc, feed)?, inlets))
+}
+
+/// Puts the packets.
+fn put_all(alloc: Global, mut feed: Feed) -> Result<Feed, AllocError>
+    ensures { IfOk result (λ f. f.ring ≡ feed.ring) }
+{
+    for byte in PUT {
+        let packet = StoredPacket::of(alloc, &Packet::of(&[byte]).unwrap_or(Packet::empty()))?;
+        let _put = feed.put(packet);
+    }
+    Ok(feed)
+}
+
+/// Opens a desk with one seat, and again where memory was refused.
+fn open_again<T: Drop, R: Wait>(
+    rt: &R,
+    host: &HostRuntime,
+    table: T,
+    inlets: Vec<Inlet>,
+) -> io::Result<Option<(Desk<T>, Vec<Seat<T>>)>>
+    ensures desk { IfOk result (λ o. IfSome o (λ r. All (λ s. s.desk ≡ r.0) r.1.items)) }
+    ensures fed { IfOk result (λ o. IfSome o (λ r. All (λ s. s.feeds ≡ inlets.items) r.1.items)) }
+{
+    let alloc = host.alloc();
+    match Desk::open(rt, alloc, table, RUNNING, 10, 1, inlets) {
+        Ok(opened) => Ok(Some(opened)),
+        Err(refused) => {
+            println!(host; "open: {}", refused.fault)?;
+            Ok(Desk::open(rt, alloc, refused.table, RUNNING, 10, 1, refused.inlets).ok())
+        }
+    }
+}
+
+/// Tells what a call was answered.
+fn tell(host: &HostRuntime, reply: &Reply) -> io::Result<()> {
+    match reply {
+        Reply::Value(value) => println!(host; "value {:?}", value.as_slice()),
+        Reply::Entered(count) => println!(host; "entered {count}"),
+        _ => println!(host; "another reply"),
+    }
+}
+
+fn read(alloc: Global) -> Result<Call, AllocError>
+    ensures { IfOk result (λ call. is_poll call ≡ false) }
+{
+    Ok(Call::Read {
+        name: Sequence::of(Vec::from_slice(alloc, b"c.count")?),
+        text: Sequence::new(alloc),
+    })
+}
+
+/// Reads the count, and again where memory was refused.
+fn read_again<T: Handlers, R: Wait>(
+    rt: &R,
+    host: &HostRuntime,
+    desk: &Desk<T>,
+    seat: &mut Seat<T>,
+) -> io::Result<()>
+    requires { seat.old.desk ≡ desk.now }
+    ensures { (seat.new.desk ≡ seat.old.desk) × (seat.new.feeds ≡ seat.old.feeds) }
+{
+    for _ in 0..2 {
+        let call = read(host.alloc())?;
+        match desk.call(rt, seat, call) {
+            Ok(reply) => return tell(host, &reply),
+            Err(fault) => println!(host; "call: {fault}")?,
+        }
+    }
+    Ok(())
+}
+
+/// Polls for two packets, and again where memory was refused.
+fn poll_again<T: Handlers, R: Wait>(
+    rt: &R,
+    host: &HostRuntime,
+    desk: &Desk<T>,
+    seat: &mut Seat<T>,
+) -> io::Result<()>
+    requires { seat.old.desk ≡ desk.now }
+    ensures { (seat.new.desk ≡ seat.old.desk) × (seat.new.feeds ≡ seat.old.feeds) }
+{
+    for _ in 0..2 {
+        match desk.poll(rt, seat, b"a", 2) {
+            Ok(reply) => return tell(host, &reply),
+            Err(fault) => println!(host; "poll: {fault}")?,
+        }
+    }
+    Ok(())
+}
+
+/// Reads, polls, and reads again.
+fn work<T: Handlers, R: Wait>(
+    rt: &R,
+    host: &HostRuntime,
+    desk: &Desk<T>,
+    mut seat: Seat<T>,
+) -> io::Result<Seat<T>>
+    requires { seat.desk ≡ desk.now }
+    ensures { IfOk result (λ s. (s.desk ≡ seat.desk) × (s.feeds ≡ seat.feeds)) }
+{
+    read_again(rt, host, desk, &mut seat)?;
+    poll_again(rt, host, desk, &mut seat)?;
+    read_again(rt, host, desk, &mut seat)?;
+    Ok(seat)
+}
+
+/// Tells which packets were left, and how many entries the book has.
+fn tell_left<T>(host: &HostRuntime, book: &Book<T>, left: &[StoredPacket]) -> io::Result<()> {
+    for packet in left {
+        println!(host; "left {:?}", packet.bytes())?;
+    }
+    println!(host; "{} entries", book.entries.len())
+}
+
+/// Settles the feed, and again where memory was refused.
+fn settle_again<T>(host: &HostRuntime, book: &mut Book<T>, end: FeedEnd) -> io::Result<()>
+    requires { All (λ t. t.device ≡ codes "a" → t.ring ≡ end.ring) book.old.taps }
+{
+    let alloc = host.alloc();
+    match book.settle(alloc, b"a", end) {
+        Ok(left) => tell_left(host, book, left.as_slice()),
+        Err(refused) => {
+            println!(host; "settle: {}", refused.fault)?;
+            match book.settle(alloc, b"a", refused.end) {
+                Ok(left) => tell_left(host, book, left.as_slice()),
+                Err(refused) => println!(host; "settle: {}", refused.fault),
+            }
+        }
+    }
+}
+
+/// Closes the desk and settles the feed.
+fn close<T: Drop, R: Wait>(
+    rt: &R,
+    host: &HostRuntime,
+    desk: Desk<T>,
+    seat: Seat<T>,
+    feed: Feed,
+) -> io::Result<()>
+    requires { (seat.desk ≡ desk) × (seat.feeds ≡ record { device = codes "a"; ring = feed.ring } ∷ []) }
+{
+    let mut seats = Vec::with_capacity(host.alloc(), 1)?;
+    seats.push_reserved(seat);
+    match (desk.close(rt, seats), feed.finish()) {
+        (Ok(mut book), Some(end)) => settle_again(host, &mut book, end),
+        _ => println!(host; "not closed"),
+    }
+}
+
+/// The last of these seats.
+fn last_of<T: Drop>(desk: &Desk<T>, feed: &Feed, mut seats: Vec<Seat<T>>) -> Option<Seat<T>>
+    requires desk { All (λ s. s.desk ≡ desk.now) seats.items }
+    requires fed { All (λ s. s.feeds ≡ record { device = codes "a"; ring = feed.now.ring } ∷ []) seats.items }
+    ensures { IfSome result (λ s. (s.desk ≡ desk.now) × (s.feeds ≡ record { device = codes "a"; ring = feed.now.ring } ∷ [])) }
+{
+    seats.pop()
+}
+
+/// All of that over a table.
+fn run_over<T: Handlers + Drop, R: Wait>(rt: &R, host: &HostRuntime, table: T) -> io::Result<()> {
+    let (feed, inlets) = fed(host.alloc())?;
+    let Some((desk, seats)) = open_again(rt, host, table, inlets)? else {
+        return println!(host; "not opened");
+    };
+    let Some(seat) = last_of(&desk, &feed, seats) else {
+        return println!(host; "no seat");
+    };
+    let seat = work(rt, host, &desk, seat)?;
+    close(rt, host, desk, seat, feed)
+}
+
+#[derive(Drop)]
+struct Refeeding<'a> {
+    host: &'a HostRuntime,
+}
+
+impl<'a> TakesTable for Refeeding<'a> {
+    type Out = io::Result<()>;
+
+    fn take<R: Threads + Wait + Sync>(self, rt: &R, table: Table) -> io::Result<()> {
+        run_over(rt, self.host, table)
+    }
+}
+
+/// Runs it, and tells what came of each step.
+pub fn run<R: Threads + Wait + Sync>(threads: &R, host: &HostRuntime) -> io::Result<()> {
+    with_table(threads, host.alloc(), Refeeding { host })?
+}
