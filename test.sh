@@ -21,6 +21,7 @@ examples/run.sh
 tools/language_examples.sh
 tools/fault_examples.sh
 tools/element_pages.sh
+tools/feed_page.sh
 tools/calls_examples.sh
 tools/swap_faults.sh
 tools/swap_sizes.sh

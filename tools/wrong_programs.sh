@@ -297,6 +297,7 @@ wrong_page tools/tries.sh README.md '/^    rt try/d' '/^    cd crates/d' 's/^   
 wrong_page tools/control_example.sh docs/CONTROL.md '/^An example, with/d' 's/^    > QUIT/    > STOP/' 's/^    510/    511/' '/^    DATA 1/d'
 wrong_page tools/control_example.sh docs/HOTSWAP.md '/^An example, with/d' 's/^    > QUIT/    > STOP/' 's/^    520 31/    520 32/' 's/^    2> /    3> /' 's/^    >   ->/    > ->/' \
     's/^      ->/     ->/'
+wrong_page tools/feed_page.sh docs/FEEDS.md 's/self.count >= packets/self.count > packets/' '/thread::yield_now/d' '/^    /d'
 wrong_page tools/calls_examples.sh docs/CALLS.md '/^An example, with/d' 's/^    > transmit b/    > transmit a/' 's/^    value 32/    value 33/' '/^    sent none/d'
 CALLS=$calls wrong_page tools/element_pages.sh docs/ELEMENTS.md 's/^## Tee$/## Tea/' '/^## Tee$/,/^## PullTee$/d' 's/Tee(2)/Tee(3)/' 's/Packets pass\./Packets pass on./' \
     '0,/^```calls$/s//```/' '0,/^> transmit b/s//> transmit a/' 's/^sent 61 255 /sent 61 254 /' '/^nodevice$/d' '$a ```calls\nIdle;\n> round\nworked 0\n```' '$d'
