@@ -17,11 +17,14 @@ arrived s device taken o = elim o [
 not_none : (n : ℕ) → reply.Entered n ≡ reply.NoDevice → ⊥
 not_none n e = cc
 
+none_there : IsSome {T = ℕ} None → ⊥
+none_there e = true≢false (sym e)
+
 by_source : (s : RouterState) (device : List ℕ) (taken : List Packet) (o : Option ℕ) (b : Bool) → (IsTrue b ↔ IsSome o) → (b ≡ false) ↔ ((arrived s device taken o).1 ≡ reply.NoDevice)
-by_source s device taken None true h = absurd (h.0 refl)
+by_source s device taken None true h = absurd (none_there (h.0 refl))
 by_source s device taken None false h = ((λ _. refl), (λ _. refl))
 by_source s device taken (Some at) true h = ((λ e. absurd (true≢false e)), (λ e. absurd (not_none (length taken) e)))
-by_source s device taken (Some at) false h = absurd (true≢false (sym (h.1 tt)))
+by_source s device taken (Some at) false h = absurd (true≢false (sym (h.1 refl)))
 
 -- a poll is answered by no device just where there is no source
 pub no_device : (s t : RouterState) (device : List ℕ) (taken : List Packet) (r : Reply) (b : Bool) → (IsTrue b ↔ IsSome (source_of s.plant device)) → entered s device taken ≡ (t, r) → (b ≡ false) ↔ (r ≡ reply.NoDevice)
