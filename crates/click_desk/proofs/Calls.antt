@@ -32,7 +32,8 @@ within_at : (t : Charter) (n : ℕ) (calls : List (Call × Reply)) (seen : List 
 within_at t n calls seen b b2 calls2 call (Ok reply) finds enters = enters.ok.2
 within_at t n calls seen b b2 calls2 call (Err fault) finds enters = subst (λ (x : Booking). length x.entries ≤ x.terms.room) (sym enters.err.0) finds.2
 
-fault_or : DeskFault → Result Reply DeskFault → DeskFault
+-- the fault of a result
+abbrev fault_or : DeskFault → Result Reply DeskFault → DeskFault
 fault_or other (Ok reply) = other
 fault_or other (Err fault) = fault
 

@@ -3,20 +3,20 @@ use Rattle.std.proofs.Common.{◌≡◌, ℕ, zero, suc, ◌<◌, ◌≤◌, ◌
 use Rattle.std.specs.Str.{bytes_eq}
 use Rattle.click_packet.specs.Packet.{Packet}
 use Rattle.click_rings.specs.Feeds.{Drawing, drew}
-use Rattle.click_router.specs.State.{RouterState}
-use Rattle.click_engine.specs.Rounds.{source_of}
-use Rattle.click_router.specs.One.{entered, arrivals, holds_memory, sends_packet}
 use Rattle.click_router.specs.Polls.{poll, is_poll}
 use Rattle.click_router.specs.declared.call.Call.{Call}
 use Rattle.click_router.specs.declared.call.Call.TheVariants as call
-use Rattle.click_router.specs.declared.call.Reply.{Reply}
-use Rattle.click_router.specs.declared.call.Reply.TheVariants as reply
 use Rattle.click_desk.specs.declared.entry.Entry.{Entry}
 use Rattle.click_desk.specs.Polls.{taken_of, polled, IsPolled}
 
 pub drew_length : (device : List ℕ) (got : List Packet) (is : List Drawing) → length (drew device got is) ≡ length is
 drew_length device got [] = refl
 drew_length device got (i ∷ is) = ap suc (drew_length device got is)
+
+-- no packet
+pub none_of : (l : List Packet) → length l ≤ 0 → l ≡ []
+none_of [] e = refl
+none_of (p ∷ l) e = absurd (omega arith)
 
 -- one entry more
 pub polled_push : (h : List Entry) (e : Entry) (device : List ℕ) → polled (h ++ e ∷ []) device ≡ polled h device ++ taken_of e.call device
@@ -54,19 +54,3 @@ pub polled_drew : (h : List Entry) (e : Entry) (device : List ℕ) (got : List P
 polled_drew h e device got [] is all k x below = absurd (omega arith)
 polled_drew h e device got (i ∷ rest) is all zero x below = drew_one h e device got i (bytes_eq i.device device) refl is (all 0 x (omega arith))
 polled_drew h e device got (i ∷ rest) is all (suc k) x below = polled_drew h e device got rest is (λ j y less. all (suc j) y (omega arith)) k x (omega arith)
-
--- the reply to a poll, by the source of its device
-abbrev arrived : RouterState → List ℕ → List Packet → Option ℕ → RouterState × Reply
-arrived s device taken o = elim o [
-  | None ↦ (s, reply.NoDevice)
-  | Some at ↦ (record s { plant = arrivals s.plant device taken }, reply.Entered (length taken))
-]
-
-light_at : (s : RouterState) (device : List ℕ) (taken : List Packet) (o : Option ℕ) → (holds_memory (arrived s device taken o).1 ≡ false) × (sends_packet (arrived s device taken o).1 ≡ false)
-light_at s device taken (Some at) = (refl, refl)
-light_at s device taken None = (refl, refl)
-
--- the reply to a poll holds no memory and no packet
-pub poll_light : (s t : RouterState) (device : List ℕ) (taken : List Packet) (r : Reply) → entered s device taken ≡ (t, r) → (holds_memory r ≡ false) × (sends_packet r ≡ false)
-poll_light s t device taken r is =
-    subst (λ (p : RouterState × Reply). (holds_memory p.1 ≡ false) × (sends_packet p.1 ≡ false)) is (light_at s device taken (source_of s.plant device))

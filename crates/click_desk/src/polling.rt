@@ -71,13 +71,13 @@ fn copy_all(
 }
 
 /// How many packets a poll is to draw: as many as are seen to be there, up to `most`, and none where the configuration has no such source.
-fn seen_where(found: bool, taps: &mut [Tap], device: &[u8], most: usize) -> usize
-    ensures taps { taps.new ≡ taps.old }
+fn seen_where(found: bool, taps: &mut Vec<Tap>, device: &[u8], most: usize) -> usize
+    ensures taps { taps.new.items ≡ taps.old.items }
     ensures most { result ≤ most }
     ensures nothing { found ≡ false → result ≡ 0 }
 {
     if found {
-        seen_in(taps, device, most)
+        seen_in(taps.as_mut_slice(), device, most)
     } else {
         0
     }
@@ -138,7 +138,7 @@ impl<T: Handlers> Booked<T> {
             return Err(DeskFault::NoMemory);
         }
         let found = self.router.has_source(device);
-        let count = seen_where(found, self.taps.as_mut_slice(), device, most);
+        let count = seen_where(found, &mut self.taps, device, most);
         let Ok(room) = PollRoom::new(alloc, device, count) else {
             return Err(DeskFault::NoMemory);
         };

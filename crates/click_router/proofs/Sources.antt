@@ -3,7 +3,7 @@ use Rattle.std.proofs.Common.{◌≡◌, ◌↔◌, ℕ, Bool, true, false, true
 use Rattle.click_packet.specs.Packet.{Packet}
 use Rattle.click_engine.specs.Rounds.{source_of}
 use Rattle.click_router.specs.State.{RouterState}
-use Rattle.click_router.specs.One.{entered, arrivals}
+use Rattle.click_router.specs.One.{entered, arrivals, holds_memory, sends_packet}
 use Rattle.click_router.specs.declared.call.Reply.{Reply}
 use Rattle.click_router.specs.declared.call.Reply.TheVariants as reply
 
@@ -29,3 +29,12 @@ by_source s device taken (Some at) false h = absurd (true≢false (sym (h.1 refl
 -- a poll is answered by no device just where there is no source
 pub no_device : (s t : RouterState) (device : List ℕ) (taken : List Packet) (r : Reply) (b : Bool) → (IsTrue b ↔ IsSome (source_of s.plant device)) → entered s device taken ≡ (t, r) → (b ≡ false) ↔ (r ≡ reply.NoDevice)
 no_device s t device taken r b h is = subst (λ (p : RouterState × Reply). (b ≡ false) ↔ (p.1 ≡ reply.NoDevice)) is (by_source s device taken (source_of s.plant device) b h)
+
+light_at : (s : RouterState) (device : List ℕ) (taken : List Packet) (o : Option ℕ) → (holds_memory (arrived s device taken o).1 ≡ false) × (sends_packet (arrived s device taken o).1 ≡ false)
+light_at s device taken (Some at) = (refl, refl)
+light_at s device taken None = (refl, refl)
+
+-- the reply to a poll holds no memory and no packet
+pub poll_light : (s t : RouterState) (device : List ℕ) (taken : List Packet) (r : Reply) → entered s device taken ≡ (t, r) → (holds_memory r ≡ false) × (sends_packet r ≡ false)
+poll_light s t device taken r is =
+    subst (λ (p : RouterState × Reply). (holds_memory p.1 ≡ false) × (sends_packet p.1 ≡ false)) is (light_at s device taken (source_of s.plant device))

@@ -5,7 +5,7 @@ use Rattle.click_router.specs.State.{RouterState}
 use Rattle.click_desk.specs.declared.entry.Entry.{Entry}
 use Rattle.click_desk.specs.declared.terms.Terms.{Terms}
 use Rattle.click_desk.specs.History.{Legal, entries}
-use Rattle.click_rings.specs.Feeds.{Drawing, name_of}
+use Rattle.click_rings.specs.Feeds.{Drawing, name_of, are_apart}
 use Rattle.click_desk.specs.declared.charter.Charter.{Charter}
 use Rattle.click_desk.specs.Charters.{charter_of, terms_of}
 use Rattle.click_desk.specs.Polls.{IsPolled}
@@ -70,4 +70,12 @@ returns-clause-ok g c =
         feeds = λ s. fed s ∙ ap (λ (y : Charter). y.feeds) charter;
         polled = subst (λ (y : List Entry × List Drawing). IsPolled y.0 y.1) (λ i. (sym p.0 i, sym p.2 i)) c.into_parts-terms.ensures.polled;
       },
+    )
+
+pub invariant_of-result : goal.invariant_of-result
+invariant_of-result g c =
+    let p = c.into_parts-terms.ensures.parts in
+    let r = c.into_parts-terms.result in (
+      subst (λ (y : List Entry × List Drawing). IsPolled y.0 y.1) (λ i. (sym p.0 i, sym p.2 i)) c.into_parts-terms.ensures.polled,
+      ap (λ (l : List Drawing). are_apart (map name_of l)) p.2 ∙ c.into_parts-terms.ensures.apart,
     )

@@ -6,6 +6,7 @@ use Rattle.click_desk.specs.Charters.{charter_of, terms_of}
 use Rattle.click_desk.specs.declared.charter.Charter.{Charter}
 use Rattle.click_desk.specs.declared.terms.Terms.{Terms}
 use Rattle.click_desk.specs.declared.view.View.{View}
+use Rattle.click_desk.specs.Openings.{IsOpenFault}
 use Rattle.click_desk.specs.Sittings.{DeskName, Sitting, seats_below}
 use Rattle.click_desk.proofs.Books.{all_belong, all_fed}
 use Rattle.click_desk.proofs.desk.Desk.open.Goals as goal
@@ -27,3 +28,7 @@ returns-clause-fed g c =
     let feeds : List FeedName = c.args.inlets.items in
     let made = (returns-clause-seats g c).0 in
     subst (λ (l : List Sitting). All (λ s. s.feeds ≡ feeds) l) (sym made) (all_fed _ feeds c.args.seats)
+
+pub returns-in-Some-clause-fault : goal.returns-in-Some-clause-fault
+returns-in-Some-clause-fault g c =
+    subst (λ (l : List FeedName). IsOpenFault c.args.seats l c.args.text.now c.in-Some.fault) c.as_slice.ensures.value (c.in-Some.ensures.fault c.args.text.now)
