@@ -12,7 +12,7 @@ use Rattle.click_desk.specs.Closing.{IsEntered, IsEachOnce}
 use Rattle.click_desk.specs.Sittings.{Sitting, new_seat}
 use Rattle.click_desk.specs.declared.entry.Entry.{Entry}
 use Rattle.click_desk.specs.declared.open.OpenFault.{OpenFault}
-use Rattle.click_desk.specs.declared.open.OpenFault.TheVariants as open
+use Rattle.click_desk.specs.declared.open.OpenFault.TheVariants as refused
 use Rattle.click_control.specs.Peers.{Input, Output}
 use Rattle.click_control.specs.Serving.{NoneRefused, most_reads}
 use Rattle.click_control.specs.declared.serving.Ended.{Ended}
@@ -63,8 +63,8 @@ IsNoClose (fault.Close code) = ⊥
 
 -- a desk was not opened, and neither its seats nor its inlets are why
 abbrev pub IsLate : OpenFault → Type 0
-IsLate open.SeatCount = ⊥
-IsLate open.DeviceTwice = ⊥
-IsLate open.InletCount = ⊥
-IsLate (open.Config f) = Unit {0}
-IsLate open.NoMemory = Unit {0}
+IsLate refused.SeatCount = ⊥
+IsLate refused.DeviceTwice = ⊥
+IsLate refused.InletCount = ⊥
+IsLate (refused.Config f) = Unit {0}
+IsLate refused.NoMemory = Unit {0}

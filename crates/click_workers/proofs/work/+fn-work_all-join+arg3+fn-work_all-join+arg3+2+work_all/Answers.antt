@@ -1,4 +1,4 @@
-use Rattle.std.proofs.Common.{arith, ◌≡◌, List, suc, sym, subst, refl, ap, ◌∙◌, vec_len}
+use Rattle.std.proofs.Common.{arith, [], ◌≡◌, List, suc, sym, subst, refl, ap, ◌∙◌, vec_len}
 use Rattle.std.specs.List.{All}
 use Rattle.std.proofs.lemmas.List.Elements.{All-push}
 use Rattle.click_desk.specs.Sittings.{Sitting, new_seat}
