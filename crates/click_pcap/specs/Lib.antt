@@ -1,2 +1,3 @@
 pub mod Statuses
 pub mod Reading
+pub mod Writing

@@ -1,7 +1,10 @@
 //! A capture that comes from a source, record by record.
 
-ghost use Rattle.std.specs.Prelude.{◌≡◌, ◌≤◌, ◌<◌, length, take, IfOk, IfErr, OnErr};
-ghost use Rattle.click_pcap.specs.Reading.{Took, TookSome, ReadsHeader, ReadsRecord};
+ghost use Rattle.std.specs.Prelude.{◌≡◌, ◌≤◌, length, take, IfOk, OnErr};
+ghost use Rattle.click_capture.specs.Captures.{longest, head_bytes};
+ghost use Rattle.click_pcap.specs.Reading.{Took, Fills, ReadFails, ReadsHeader, ReadsRecord};
+ghost use Rattle.click_control.specs.Peers.{Input};
+ghost use Rattle.click_capture.specs.declared.header.Header.{Header as AHeader};
 
 use click_capture::{HEAD_LEN, HEADER_LEN, Head, Header, HeaderFault, TooLong, head_of, header_of};
 use click_control::{Failed, Source};
@@ -34,8 +37,8 @@ pub enum NoRecord {
 /// Reads bytes until the piece is full or the input ends, and answers how many.
 fn fill<R: Source>(reader: &mut R, piece: &mut [u8]) -> Result<usize, Failed>
     ensures len { length piece.new ≡ length piece.old }
-    ensures ok { IfOk result (λ n. (n ≤ length piece.new) × Took (R.input reader.old) (R.input reader.new) (length piece.new) (take n piece.new)) }
-    ensures err { OnErr result (TookSome (R.input reader.old) (R.input reader.new)) }
+    ensures ok { IfOk result (λ n. (n ≡ length (take n piece.new)) × Fills (R.input reader.old) (R.input reader.new) (length piece.new) (take n piece.new)) }
+    ensures err { OnErr result (ReadFails (R.input reader.old) (R.input reader.new)) }
 {
     let mut at = 0;
     while at < piece.len() {
@@ -72,7 +75,6 @@ pub fn read_record<R: Source>(
     requires { length packet.old ≡ 262144 }
     ensures len { length packet.new ≡ 262144 }
     ensures reads { ReadsRecord header.now (R.input reader.old) (R.input reader.new) packet.new result }
-    ensures kept { IfOk result (λ next. FitsNext next) }
 {
     let mut bytes = [0; HEAD_LEN];
     match fill(reader, &mut bytes) {
@@ -88,7 +90,13 @@ pub fn read_record<R: Source>(
 }
 
 /// Reads the bytes of the packet that this stands before.
-fn read_packet<R: Source>(reader: &mut R, head: Head, packet: &mut [u8]) -> Result<Next, NoRecord> {
+fn read_packet<R: Source>(reader: &mut R, head: Head, packet: &mut [u8]) -> Result<Next, NoRecord>
+    requires room { length packet.old ≡ 262144 }
+    requires kept { head.kept ≤ 262144 }
+    ensures len { length packet.new ≡ 262144 }
+    ensures reads { (had : Input) (header : AHeader) → Took had (R.input reader.old) (head_bytes header.order head) → head.kept ≤ longest header.snap
+        → ReadsRecord header had (R.input reader.new) packet.new result }
+{
     let kept = head.kept as usize;
     match fill(reader, &mut packet[..kept]) {
         Err(Failed) => Err(NoRecord::ReadFailed),

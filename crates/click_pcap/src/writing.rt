@@ -2,7 +2,7 @@
 
 ghost use Rattle.std.specs.Prelude.{false, true, OnOk, OnErr};
 ghost use Rattle.click_control.specs.Peers.{HasWritten};
-ghost use Rattle.click_control.specs.kept.Going.{WroteFront};
+ghost use Rattle.click_pcap.specs.Writing.{WroteFront};
 
 use click_control::{Failed, Sink};
 
