@@ -22,6 +22,7 @@ tools/language_examples.sh
 tools/fault_examples.sh
 tools/element_pages.sh
 tools/calls_examples.sh
+tools/pcap_example.sh
 tools/swap_faults.sh
 tools/swap_sizes.sh
 tools/refuse.sh
