@@ -1,3 +1,6 @@
 pub mod Statuses
+pub mod Stops
 pub mod Reading
 pub mod Writing
+pub mod Ways
+pub mod Carrying

@@ -4,8 +4,6 @@ use Rattle.std.specs.declared.io.ErrorKind.{ErrorKind}
 use Rattle.std.specs.declared.io.ErrorKind.TheVariants as io
 use Rattle.click_router.specs.declared.fault.FaultKind.{FaultKind}
 use Rattle.click_router.specs.declared.fault.FaultKind.TheVariants as kind
-use Rattle.click_desk.specs.declared.booked.DeskFault.{DeskFault}
-use Rattle.click_desk.specs.declared.booked.DeskFault.TheVariants as desk
 use Rattle.click_pcap.specs.declared.status.Status.{Status}
 use Rattle.click_pcap.specs.declared.status.Status.TheVariants as status
 use Rattle.click_pcap.specs.declared.stop.Stop.{Stop}
@@ -37,11 +35,6 @@ stop_status stop.FeedStuck = status.Faulty
 stop_status stop.NoMemory = status.NoMemory
 stop_status stop.ReadFailed = status.DeviceFailed
 stop_status stop.WriteFailed = status.DeviceFailed
-
--- why a run breaks off where the desk refuses a call
-abbrev pub desk_stop : DeskFault → Stop
-desk_stop desk.NoMemory = stop.NoMemory
-desk_stop desk.HistoryFull = stop.HistoryFull
 
 -- where the words of the command line cannot be read
 abbrev pub unread_status : ErrorKind → Status

@@ -56,7 +56,7 @@ impl From<AllocError> for Stop {
 
 impl From<DeskFault> for Stop {
     ghost use Rattle.std.specs.Prelude.{◌≡◌};
-    ghost use Rattle.click_pcap.specs.Statuses.{desk_stop};
+    ghost use Rattle.click_pcap.specs.Stops.{desk_stop};
 
     ghost from_gives = { λ fault e. e ≡ desk_stop fault };
 
