@@ -242,15 +242,16 @@ def records():
 
 
 def endless():
-    """A record that claims to go on for ever is refused at once, while its bytes still come."""
+    """A record that claims to have 4 GiB is refused at once, while its bytes still come; 64 MiB of them would."""
     words = [PROGRAM, "-e", PLAIN, "--in", "eth0", "--out", "eth1"]
     start = header() + record(b"first")
     with subprocess.Popen(words, stdin=subprocess.PIPE, stdout=subprocess.PIPE, stderr=subprocess.PIPE) as child:
         def feed():
             try:
                 child.stdin.write(start + struct.pack("<IIII", 0, 0, 0xFFFFFFFF, 0xFFFFFFFF))
-                while True:
+                for _ in range(1024):
                     child.stdin.write(b"\0" * 65536)
+                child.stdin.close()
             except OSError:
                 pass
 
