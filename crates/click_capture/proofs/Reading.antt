@@ -1,11 +1,11 @@
 -- No two captures have the same bytes, and none has a fault in its header.
-use Rattle.std.proofs.Common.{◌≡◌, ◌≢◌, ℕ, ◌+◌, ◌<◌, ◌≤◌, ◌^◌, List, [], ◌∷◌, ◌++◌, length, take, drop, Result, Ok, Err, refl, sym, ap, subst, ◌∙◌, append_assoc, arith, lit<}
+use Rattle.std.proofs.Common.{◌≡◌, ℕ, ◌<◌, ◌^◌, List, [], ◌∷◌, ◌++◌, length, take, drop, Result, Ok, Err, refl, sym, ap, subst, ◌∙◌, append_assoc, arith, lit<}
 use Rattle.std.specs.Prelude.{IfOk, IfErr}
 use Rattle.std.specs.Int.{w16, w32, from_le_bytes, from_be_bytes}
 use Rattle.std.proofs.lemmas.List.{take_at, drop_at, length-append}
 use Rattle.std.proofs.lemmas.Nat.{from_le_bytes-to_le_bytes_2, from_be_bytes-to_be_bytes_2, from_le_bytes-to_le_bytes_4, from_be_bytes-to_be_bytes_4}
 use Rattle.click_capture.specs.Numbers.{word, half}
-use Rattle.click_capture.specs.Captures.{magic, link_number, header_bytes, head_bytes, head_with, Record, record_bytes, records_bytes, capture_bytes, FitsHeader, FitsRecord, AllFit, IsHeaderFault}
+use Rattle.click_capture.specs.Captures.{magic, link_number, header_bytes, Record, record_bytes, records_bytes, capture_bytes, FitsHeader, FitsRecord, AllFit, IsHeaderFault}
 use Rattle.click_capture.specs.declared.order.Order.{Order}
 use Rattle.click_capture.specs.declared.order.Order.TheVariants as order
 use Rattle.click_capture.specs.declared.header.Resolution.{Resolution}
@@ -13,7 +13,6 @@ use Rattle.click_capture.specs.declared.header.Resolution.TheVariants as resolut
 use Rattle.click_capture.specs.declared.header.Link.{Link}
 use Rattle.click_capture.specs.declared.header.Link.TheVariants as link
 use Rattle.click_capture.specs.declared.header.Header.{Header}
-use Rattle.click_capture.specs.declared.record.Time.{Time}
 use Rattle.click_capture.specs.declared.fault.HeaderFault.{HeaderFault}
 use Rattle.click_capture.specs.declared.fault.HeaderFault.TheVariants as fault
 

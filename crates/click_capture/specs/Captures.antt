@@ -1,5 +1,5 @@
 -- Captures as bytes: the classic format of pcap-savefile(5), version 2.4.
-use Rattle.std.specs.Prelude.{◌≡◌, ◌≢◌, ℕ, ◌<◌, ◌≤◌, ◌^◌, List, [], ◌∷◌, ◌++◌, length, take, drop, ◌==◌, ◌||◌, nat_lt, if◌then◌else◌}
+use Rattle.std.specs.Prelude.{◌≡◌, ◌≢◌, ℕ, ◌<◌, ◌^◌, List, [], ◌∷◌, ◌++◌, length, take, drop, ◌==◌, ◌||◌, nat_lt, if◌then◌else◌}
 use Rattle.click_capture.specs.declared.order.Order.{Order}
 use Rattle.click_capture.specs.declared.header.Resolution.{Resolution}
 use Rattle.click_capture.specs.declared.header.Resolution.TheVariants as resolution

@@ -4,3 +4,4 @@ pub mod Reading
 pub mod Writing
 pub mod Ways
 pub mod Carrying
+pub mod Runs
