@@ -32,6 +32,9 @@ abbrev pub given : List (Call × Reply) → List Packet
 given [] = []
 given (c ∷ cs) = option_to_list (sent_packet c.1) ++ given cs
 
+abbrev pub polling : List ℕ → List Packet → Call
+polling device taken = call.Poll device taken
+
 abbrev pub transmit : List ℕ → Call
 transmit device = call.Transmit device
 
