@@ -23,6 +23,7 @@ tools/fault_examples.sh
 tools/element_pages.sh
 tools/feed_page.sh
 tools/calls_examples.sh
+tools/pcap_example.sh
 tools/swap_faults.sh
 tools/swap_sizes.sh
 tools/refuse.sh

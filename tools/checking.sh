@@ -7,6 +7,7 @@ top=$(dirname "$(dirname "$(readlink -f "${BASH_SOURCE[0]}")")")
 program=${PROGRAM:-$top/crates/click_prog/out/click_prog}
 bench=${BENCH:-$top/crates/click_bench/out/click_bench}
 calls=${CALLS:-$top/crates/click_calls/out/click_calls}
+pcap=${PCAP:-$top/crates/click_pcap/out/click_pcap}
 work=$(mktemp -d)
 trap 'rm -rf "$work"' EXIT
 

@@ -4,7 +4,7 @@
 # so that it is the change that is refused. The programs must have been built.
 set -eu
 . "$(dirname "$(readlink -f "$0")")/checking.sh"
-is_built "$program" "$bench" "$calls"
+is_built "$program" "$bench" "$calls" "$pcap"
 cd "$top"
 refused=0
 
@@ -274,6 +274,36 @@ done
 wrong_bench F 'a swap that breaks off at some requests' 'if grep -q "^out of" "$out" && [ $((REFUSE % 2)) = 0 ]; then : > "$out"; status=1; fi'
 wrong F 'the other text where a swap has no memory' 'sed -i "/^520 Out/,\$ s/Queue(3)/Queue(2)/" "$out"'
 wrong F 'a refused swap that is told as made' 'sed -i "s/^520 Out.*/200 Write handler '"'hotconfig'"' OK\r/" "$out"'
+# Captures.
+wrong_pcap() {
+    wrapped "$work/wrong_pcap" "$pcap" "$2"
+    QUICK=1 PCAP=$work/wrong_pcap is_refused "a click_pcap with $1" tools/pcap_example.sh
+}
+wrapped "$work/click_pcap" "$pcap" ''
+QUICK=1 PCAP=$work/click_pcap ran tools/pcap_example.sh
+same_status 0 "$status" 'tools/pcap_example.sh, with a program that changes nothing'
+for from in 0 1 2 4; do
+    for to in 0 1 2 3 4; do
+        if [ $from != $to ]; then wrong_pcap "status $to in place of $from" "if [ \$status = $from ]; then status=$to; fi"; fi
+    done
+done
+# Each field of the header, of what stands before a packet, and of a packet: Ethernet header, time to live, checksum, payload.
+for at in 0 4 6 8 12 16 20 24 28 32 36 40 46 52 62 64 65 82; do
+    wrong_pcap "another byte $at" "python3 -I '$top/tools/pcap_edit.py' \"\$out\" bump $at"
+done
+for what in drop double exchange; do
+    wrong_pcap "records that are changed: $what" "python3 -I '$top/tools/pcap_edit.py' \"\$out\" $what"
+done
+wrong_pcap 'no answer' ': > "$out"'
+wrong_pcap 'no answer to a fault' 'if [ $status = 1 ]; then : > "$out"; fi'
+wrong_pcap 'a last byte that is lost' 'head -c -1 "$out" > "$out.cut"; mv "$out.cut" "$out"'
+wrong_pcap 'a byte too many' 'printf x >> "$out"'
+wrong_pcap 'nothing on standard error' ': > "$err"'
+wrong_pcap 'an input that is read for nothing' 'cat > /dev/null'
+for change in 's/^read \([0-9]*\)/read 1\1/' 's/left out \([0-9]*\)/left out 1\1/' 's/entered \([0-9]*\)/entered 1\1/' 's/written \([0-9]*\)/written 1\1/' '/^read/d' '/^error/d' \
+    's/^error: //' 's/packet 2/packet 1/' 's/byte 45/byte 46/' 's/byte 20:/byte 21:/' 's/source of/sink of/' 's/4294967295/4294967296/' '$a junk'; do
+    wrong_pcap "the change $change on standard error" "sed -i '$change' \"\$err\""
+done
 echo "$refused times a wrong program was refused"
 
 # changed FILE CHANGE: the file with the change, a script of sed that has to change something, as $work/page.
@@ -299,6 +329,8 @@ wrong_page tools/control_example.sh docs/HOTSWAP.md '/^An example, with/d' 's/^ 
     's/^      ->/     ->/'
 wrong_page tools/feed_page.sh docs/FEEDS.md 's/self.count >= packets/self.count > packets/' '/thread::yield_now/d' '/^    /d'
 wrong_page tools/calls_examples.sh docs/CALLS.md '/^An example, with/d' 's/^    > transmit b/    > transmit a/' 's/^    value 32/    value 33/' '/^    sent none/d'
+QUICK=1 PCAP=$pcap wrong_page tools/pcap_example.sh docs/PCAP.md '/^An example/d' 's/^    read 3/    read 4/' 's/--in eth0/--in eth1/' \
+    's/^    > click_pcap/    > click_calls/' 's/^    rt -> DecIPTTL/    rt -> Paint(1)/' '/^The configuration/d'
 CALLS=$calls wrong_page tools/element_pages.sh docs/ELEMENTS.md 's/^## Tee$/## Tea/' '/^## Tee$/,/^## PullTee$/d' 's/Tee(2)/Tee(3)/' 's/Packets pass\./Packets pass on./' \
     '0,/^```calls$/s//```/' '0,/^> transmit b/s//> transmit a/' 's/^sent 61 255 /sent 61 254 /' '/^nodevice$/d' '$a ```calls\nIdle;\n> round\nworked 0\n```' '$d'
 wrong_page tools/fault_examples.sh docs/FAULTS.md '/^| 23 /d' 's/^| 23 BadText/| 23 BadWord/' 's/^| 23 /| 27 /' '/^| 23 /p' 's/at 1:48/at 1:49/' \

@@ -1,0 +1,179 @@
+//! The header of a capture: its first 24 bytes.
+
+ghost use Rattle.std.specs.Prelude.{◌≡◌, ◌≢◌, ◌++◌, ℕ, length, take, IfOk, IfErr, IfNone, IfSome, Ok};
+ghost use Rattle.click_capture.specs.Numbers.{word};
+ghost use Rattle.click_capture.specs.Captures.{magic, link_number, header_bytes, FitsHeader, IsHeaderFault};
+ghost use Rattle.click_capture.specs.declared.order.Order.{Order as AnOrder};
+ghost use Rattle.click_capture.specs.declared.header.Header.{Header as AHeader};
+ghost use Rattle.click_capture.specs.declared.header.Resolution.{Resolution as AResolution};
+
+use crate::fault::HeaderFault;
+use crate::order::Order;
+use std::alloc::{AllocError, Global};
+
+/// How many bytes a header has.
+pub const HEADER_LEN: usize = 24;
+
+/// The version of the format that is read and written, 2.4.
+const MAJOR: u16 = 2;
+
+const MINOR: u16 = 4;
+
+/// The magic numbers of captures with times in microseconds and in nanoseconds, and the same in the other byte order.
+const MICRO: u32 = 0xa1b2_c3d4;
+
+const NANO: u32 = 0xa1b2_3c4d;
+
+const MICRO_TURNED: u32 = 0xd4c3_b2a1;
+
+const NANO_TURNED: u32 = 0x4d3c_b2a1;
+
+/// What the second number of a time counts.
+#[derive(Clone, Copy, Debug, PartialEq, Eq)]
+pub enum Resolution {
+    Micro,
+    Nano,
+}
+
+/// What the packets of a capture begin with.
+#[derive(Clone, Copy, Debug, PartialEq, Eq)]
+pub enum Link {
+    /// An Ethernet header (LINKTYPE_ETHERNET).
+    Ethernet,
+    /// An IPv4 or IPv6 header (LINKTYPE_RAW).
+    Raw,
+    /// An IPv4 header (LINKTYPE_IPV4).
+    Ipv4,
+}
+
+/// What stands in the header of a capture of version 2.4.
+#[derive(Clone, Copy, Debug, PartialEq, Eq)]
+pub struct Header {
+    pub order: Order,
+    pub resolution: Resolution,
+    /// The time zone of the times: seconds, 0 in practice.
+    pub zone: u32,
+    /// The accuracy of the times, 0 in practice.
+    pub accuracy: u32,
+    /// How many bytes of a packet are kept at most; see `longest`.
+    pub snap: u32,
+    pub link: Link,
+}
+
+impl Resolution {
+    fn magic(self) -> u32
+        ensures { result ≡ magic self }
+    {
+        match self {
+            Resolution::Micro => MICRO,
+            Resolution::Nano => NANO,
+        }
+    }
+}
+
+impl Link {
+    fn number(self) -> u32
+        ensures { result ≡ link_number self }
+    {
+        match self {
+            Link::Ethernet => 1,
+            Link::Raw => 101,
+            Link::Ipv4 => 228,
+        }
+    }
+
+    fn of(number: u32) -> Option<Link>
+        ensures some { IfSome result (λ link. number ≡ link_number link) }
+        ensures none { IfNone result ((number ≢ 1) × (number ≢ 101) × (number ≢ 228)) }
+    {
+        if number == 1 {
+            return Some(Link::Ethernet);
+        }
+        if number == 101 {
+            return Some(Link::Raw);
+        }
+        if number == 228 {
+            return Some(Link::Ipv4);
+        }
+        None
+    }
+}
+
+/// The kind of capture that the first four bytes tell, and the bytes after them.
+fn kind_at(bytes: &[u8]) -> Option<((Order, Resolution), &[u8])>
+    requires { length bytes.now ≡ 24 }
+    ensures some { IfSome result (λ r. (bytes.now ≡ word r.0.0 (magic r.0.1) ++ r.1.now) × (length r.1.now ≡ 20)) }
+    ensures none { IfNone result ((o : AnOrder) (r : AResolution) → take 4 bytes.now ≢ word o (magic r)) }
+{
+    let (number, rest) = Order::Little.word_at(bytes);
+    if number == MICRO {
+        return Some(((Order::Little, Resolution::Micro), rest));
+    }
+    if number == NANO {
+        return Some(((Order::Little, Resolution::Nano), rest));
+    }
+    if number == MICRO_TURNED {
+        return Some(((Order::Big, Resolution::Micro), rest));
+    }
+    if number == NANO_TURNED {
+        return Some(((Order::Big, Resolution::Nano), rest));
+    }
+    None
+}
+
+/// The header that 24 bytes are, or the first thing that is wrong with them. Bytes that are a header's give that header.
+pub fn header_of(bytes: &[u8]) -> Result<Header, HeaderFault>
+    requires { length bytes.now ≡ 24 }
+    ensures ok { IfOk result (λ header. bytes.now ≡ header_bytes header) }
+    ensures only { (h : AHeader) → FitsHeader h → bytes.now ≡ header_bytes h → result ≡ Ok h }
+    ensures fault { IfErr result (IsHeaderFault bytes.now) }
+{
+    fields_of(bytes)
+}
+
+/// The fields of a header, or the first of them that is wrong.
+fn fields_of(bytes: &[u8]) -> Result<Header, HeaderFault>
+    requires { length bytes.now ≡ 24 }
+    ensures ok { IfOk result (λ header. (bytes.now ≡ header_bytes header) × FitsHeader header) }
+    ensures fault { IfErr result (IsHeaderFault bytes.now) }
+{
+    let Some(((order, resolution), rest)) = kind_at(bytes) else {
+        return Err(HeaderFault::Magic);
+    };
+    let (major, rest) = order.half_at(rest);
+    let (minor, rest) = order.half_at(rest);
+    if major != MAJOR || minor != MINOR {
+        return Err(HeaderFault::Version { major, minor });
+    }
+    let (zone, rest) = order.word_at(rest);
+    let (accuracy, rest) = order.word_at(rest);
+    let (snap, rest) = order.word_at(rest);
+    let (number, _none) = order.word_at(rest);
+    let Some(link) = Link::of(number) else {
+        return Err(HeaderFault::Link { number });
+    };
+    Ok(Header {
+        order,
+        resolution,
+        zone,
+        accuracy,
+        snap,
+        link,
+    })
+}
+
+/// The 24 bytes of a header.
+pub fn header_bytes(alloc: Global, header: &Header) -> Result<Vec<u8>, AllocError>
+    ensures { IfOk result (λ bytes. bytes.items ≡ header_bytes header.now) }
+{
+    let order = header.order;
+    let mut bytes = Vec::with_capacity(alloc, HEADER_LEN)?;
+    bytes.extend_from_slice(&order.word(header.resolution.magic()))?;
+    bytes.extend_from_slice(&order.half(MAJOR))?;
+    bytes.extend_from_slice(&order.half(MINOR))?;
+    bytes.extend_from_slice(&order.word(header.zone))?;
+    bytes.extend_from_slice(&order.word(header.accuracy))?;
+    bytes.extend_from_slice(&order.word(header.snap))?;
+    bytes.extend_from_slice(&order.word(header.link.number()))?;
+    Ok(bytes)
+}

@@ -1,0 +1,17 @@
+//! What holds of the definitions, in the format's words.
+
+ghost use Rattle.std.specs.Prelude.{◌≡◌, List};
+ghost use Rattle.click_capture.specs.Captures.{Record, capture_bytes, header_bytes, FitsHeader, AllFit, IsHeaderFault};
+ghost use Rattle.click_capture.specs.declared.header.Header.{Header};
+ghost use Rattle.click_capture.specs.declared.fault.HeaderFault.{HeaderFault};
+
+/// The bytes of a capture are those of one header and one list of records at most: what was written is read back as it was.
+pub fn captures_read_back()
+    ensures { (g h : Header) (rs qs : List Record) → FitsHeader g → FitsHeader h → AllFit rs → AllFit qs
+        → capture_bytes g rs ≡ capture_bytes h qs → (g ≡ h) × (rs ≡ qs) }
+{}
+
+/// The bytes of a header have no fault.
+pub fn headers_have_no_fault()
+    ensures { (h : Header) (f : HeaderFault) → FitsHeader h → IsHeaderFault (header_bytes h) f → ⊥ }
+{}

@@ -1,0 +1,13 @@
+//! Captures of packets: the classic format of pcap-savefile(5), as bytes and as values.
+#![tactic(auto)]
+
+mod fault;
+mod header;
+pub mod laws;
+mod order;
+mod record;
+
+pub use fault::{HeaderFault, TooLong};
+pub use header::{HEADER_LEN, Header, Link, Resolution, header_bytes, header_of};
+pub use order::Order;
+pub use record::{HEAD_LEN, Head, LONGEST_RECORD, Time, head_of, longest, record_bytes};

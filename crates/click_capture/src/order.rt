@@ -1,0 +1,75 @@
+//! Numbers in the byte order of a capture.
+
+ghost use Rattle.std.specs.Prelude.{◌≡◌, ◌+◌, ◌≤◌, ◌++◌, length};
+ghost use Rattle.click_capture.specs.Numbers.{word, half};
+
+/// Which byte of a number stands first: that of the machine that wrote the capture.
+#[derive(Clone, Copy, Debug, PartialEq, Eq)]
+pub enum Order {
+    /// The lowest byte.
+    Little,
+    /// The highest byte.
+    Big,
+}
+
+impl Order {
+    /// A number in four bytes.
+    pub(crate) fn word(self, number: u32) -> [u8; 4]
+        ensures { result ≡ word self number }
+    {
+        match self {
+            Order::Little => number.to_le_bytes(),
+            Order::Big => number.to_be_bytes(),
+        }
+    }
+
+    /// A number in two bytes.
+    pub(crate) fn half(self, number: u16) -> [u8; 2]
+        ensures { result ≡ half self number }
+    {
+        match self {
+            Order::Little => number.to_le_bytes(),
+            Order::Big => number.to_be_bytes(),
+        }
+    }
+
+    /// The number in the first four bytes, and the bytes after it.
+    pub(crate) fn word_at(self, bytes: &[u8]) -> (u32, &[u8])
+        requires { 4 ≤ length bytes.now }
+        ensures parts { bytes.now ≡ word self result.0 ++ result.1.now }
+        ensures rest { length result.1.now + 4 ≡ length bytes.now }
+    {
+        let (front, rest) = bytes.split_at(4);
+        (self.number([front[0], front[1], front[2], front[3]]), rest)
+    }
+
+    /// The number in the first two bytes, and the bytes after it.
+    pub(crate) fn half_at(self, bytes: &[u8]) -> (u16, &[u8])
+        requires { 2 ≤ length bytes.now }
+        ensures parts { bytes.now ≡ half self result.0 ++ result.1.now }
+        ensures rest { length result.1.now + 2 ≡ length bytes.now }
+    {
+        let (front, rest) = bytes.split_at(2);
+        (self.short([front[0], front[1]]), rest)
+    }
+
+    /// The number that four bytes are.
+    fn number(self, bytes: [u8; 4]) -> u32
+        ensures { word self result ≡ bytes }
+    {
+        match self {
+            Order::Little => u32::from_le_bytes(bytes),
+            Order::Big => u32::from_be_bytes(bytes),
+        }
+    }
+
+    /// The number that two bytes are.
+    fn short(self, bytes: [u8; 2]) -> u16
+        ensures { half self result ≡ bytes }
+    {
+        match self {
+            Order::Little => u16::from_le_bytes(bytes),
+            Order::Big => u16::from_be_bytes(bytes),
+        }
+    }
+}

@@ -1,0 +1,4 @@
+pub mod Peers
+pub mod Pieces
+pub mod Legs
+pub mod Outputs

@@ -1,0 +1,7 @@
+pub mod Statuses
+pub mod Stops
+pub mod Reading
+pub mod Writing
+pub mod Ways
+pub mod Carrying
+pub mod Runs

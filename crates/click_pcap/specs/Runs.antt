@@ -1,0 +1,55 @@
+-- The beginning and the end of a run.
+use Rattle.std.specs.Prelude.{◌≡◌, ◌≢◌, ℕ, List, [], ◌∷◌, ◌++◌, Result, Ok, Err}
+use Rattle.click_packet.specs.Packet.{Packet}
+use Rattle.click_router.specs.Opened.{IsFirstFault}
+use Rattle.click_router.specs.State.{RouterState}
+use Rattle.click_router.specs.declared.call.Call.{Call}
+use Rattle.click_router.specs.declared.call.Reply.{Reply}
+use Rattle.click_router.specs.declared.call.Reply.TheVariants as reply
+use Rattle.click_router.specs.declared.fault.FaultKind.TheVariants as kind
+use Rattle.click_desk.specs.History.{Legal, entries}
+use Rattle.click_desk.specs.Polls.{polled}
+use Rattle.click_desk.specs.declared.entry.Entry.{Entry}
+use Rattle.click_desk.specs.declared.open.OpenFault.{OpenFault}
+use Rattle.click_desk.specs.declared.open.OpenFault.TheVariants as open_fault
+use Rattle.click_pcap.specs.declared.passage.NoPassage.{NoPassage}
+use Rattle.click_pcap.specs.declared.passage.NoPassage.TheVariants as none
+use Rattle.click_pcap.specs.declared.stop.Stop.{Stop}
+use Rattle.click_pcap.specs.declared.stop.Stop.TheVariants as stop
+use Rattle.click_pcap.specs.Ways.{Way, called, polling, transmit}
+use Rattle.click_pcap.specs.Carrying.{CanBreak}
+
+-- where the configuration is said to be faulty, it is, and this is its first fault
+abbrev pub IsTrueFault : List ℕ → NoPassage → Type 0
+IsTrueFault text (none.Config f) = IsFirstFault text f × (f.kind ≡ kind.NoMemory → ⊥)
+IsTrueFault text none.NoMemory = Unit {0}
+
+-- a desk was not opened, and neither its seats nor its inlets are why
+abbrev pub IsLate : OpenFault → Type 0
+IsLate open_fault.SeatCount = ⊥
+IsLate open_fault.DeviceTwice = ⊥
+IsLate open_fault.InletCount = ⊥
+IsLate (open_fault.Config f) = Unit {0}
+IsLate open_fault.NoMemory = Unit {0}
+
+-- why there is no passage then
+abbrev pub no_passage : OpenFault → NoPassage
+no_passage (open_fault.Config f) = none.Config f
+no_passage _ = none.NoMemory
+
+-- Whether a router has the source and the sink: it was polled and asked for a packet; it has no source, or no sink, where it was answered so.
+abbrev pub AsksEnds : {T : Type 0} → Way → Way → Result T Stop → Type 0
+AsksEnds old new (Ok _) =
+    (taken : List Packet) × (a : Reply) × (b : Reply) × (new ≡ called old ((polling old.source taken, a) ∷ (transmit old.sink, b) ∷ [])) × (a ≢ reply.NoDevice) × (b ≢ reply.NoDevice)
+AsksEnds old new (Err stop.NoSource) = (taken : List Packet) × (new ≡ called old ((polling old.source taken, reply.NoDevice) ∷ []))
+AsksEnds old new (Err stop.NoSink) =
+    (taken : List Packet) × (a : Reply) × (new ≡ called old ((polling old.source taken, a) ∷ (transmit old.sink, reply.NoDevice) ∷ [])) × (a ≢ reply.NoDevice)
+AsksEnds old new (Err s) = CanBreak s × ((made : List (Call × Reply)) × (new ≡ called old made))
+
+-- The calls of a run are all those of a history of one thread that begins with what the text opens, and its polls took from the feed just what was put there: no packet was lost.
+pub record Closed (w : Way) : Type 0 where
+  pub history : List Entry
+  pub router : RouterState
+  pub legal : Legal w.opening history router
+  pub own : entries history 0 ≡ w.calls
+  pub taken : w.put ≡ polled history w.source

@@ -1,0 +1,221 @@
+//! Packets from a capture through a router into a capture.
+
+ghost use Rattle.std.specs.Prelude.{◌≡◌, [], length};
+ghost use Rattle.click_capture.specs.Captures.{header_bytes};
+ghost use Rattle.click_control.specs.Peers.{Input as AnInput, Output as AnOutput};
+ghost use Rattle.click_pcap.specs.Ways.{Way};
+ghost use Rattle.click_pcap.specs.Carrying.{widened, header_stop, Wrote, SendsAll, Passes, Carried, Ends, Carries};
+
+use crate::passage::Passage;
+use crate::reading::{Next, NoHeader, NoRecord, read_header, read_record};
+use crate::stop::Stop;
+use crate::tally::Tally;
+use crate::writing::write_all;
+use click_capture::{
+    HEAD_LEN, HEADER_LEN, Head, Header, LONGEST_RECORD, Time, header_bytes, record_bytes,
+};
+use click_control::{Failed, Sink, Source};
+use click_packet::Packet;
+use click_router::Handlers;
+use std::alloc::Global;
+use std::sync::Wait;
+
+/// The least snap length of a capture that is written: room for a packet of any length, since a router may make one longer.
+const LEAST_SNAP: u32 = 1_600;
+
+/// The header that is written for one that was read: the same, but with room for each packet.
+fn widened(header: &Header) -> Header
+    ensures { result ≡ widened header.now }
+{
+    let mut widened = *header;
+    if widened.snap != 0 && widened.snap < LEAST_SNAP {
+        widened.snap = LEAST_SNAP;
+    }
+    widened
+}
+
+/// Carries the packets of a capture through the router: each enters, each task runs once, and what the sink then gives is written with the time of the packet
+/// that entered. A packet of more than 1,600 bytes is left out. The tally counts on, also where the run breaks off.
+pub fn carry<T: Handlers + Drop, I: Source, O: Sink, R: Wait>(
+    rt: &R,
+    alloc: Global,
+    passage: &mut Passage<T>,
+    reader: &mut I,
+    writer: &mut O,
+    tally: &mut Tally,
+) -> Result<(), Stop>
+    ensures { Carries (I.input reader.old) (I.input reader.new) (O.output writer.old) (O.output writer.new) passage.old passage.new result }
+{
+    let header = match read_header(reader) {
+        Ok(header) => header,
+        Err(why) => return Err(header_stop(why)),
+    };
+    if let Err(stop) = write_header(alloc, &widened(&header), writer) {
+        return Err(stop);
+    }
+    carry_records(rt, alloc, passage, &header, reader, writer, tally)
+}
+
+/// Why no header was read, as a run is told.
+fn header_stop(why: NoHeader) -> Stop
+    ensures { result ≡ header_stop why }
+{
+    match why {
+        NoHeader::ReadFailed => Stop::ReadFailed,
+        NoHeader::Short(count) => Stop::ShortHeader { at: count as u64 },
+        NoHeader::Fault(fault) => Stop::Header(fault),
+    }
+}
+
+/// Writes a header.
+fn write_header<O: Sink>(alloc: Global, header: &Header, writer: &mut O) -> Result<(), Stop>
+    ensures { Wrote result (O.output writer.old) (O.output writer.new) (header_bytes header.now) }
+{
+    let Ok(bytes) = header_bytes(alloc, header) else {
+        return Err(Stop::NoMemory);
+    };
+    written(writer, &bytes)
+}
+
+/// Carries the packets of the records, which take 262,144 bytes of memory whatever the capture claims.
+fn carry_records<T: Handlers + Drop, I: Source, O: Sink, R: Wait>(
+    rt: &R,
+    alloc: Global,
+    passage: &mut Passage<T>,
+    header: &Header,
+    reader: &mut I,
+    writer: &mut O,
+    tally: &mut Tally,
+) -> Result<(), Stop>
+    ensures { (had : AnInput) (held : AnOutput) (first : Way)
+        → Carried header.now had (I.input reader.old) held (O.output writer.old) first passage.old []
+        → Ends header.now had (I.input reader.new) held (O.output writer.new) first passage.new result }
+{
+    let Ok(mut packet) = vec![in alloc; 0u8; LONGEST_RECORD as usize] else {
+        return Err(Stop::NoMemory);
+    };
+    carry_each(
+        rt,
+        alloc,
+        passage,
+        header,
+        packet.as_mut_slice(),
+        reader,
+        writer,
+        tally,
+    )
+}
+
+/// Carries the packets of the records, each of which stands in the piece for its time.
+fn carry_each<T: Handlers + Drop, I: Source, O: Sink, R: Wait>(
+    rt: &R,
+    alloc: Global,
+    passage: &mut Passage<T>,
+    header: &Header,
+    piece: &mut [u8],
+    reader: &mut I,
+    writer: &mut O,
+    tally: &mut Tally,
+) -> Result<(), Stop>
+    requires { length piece.old ≡ 262144 }
+    ensures { (had : AnInput) (held : AnOutput) (first : Way)
+        → Carried header.now had (I.input reader.old) held (O.output writer.old) first passage.old []
+        → Ends header.now had (I.input reader.new) held (O.output writer.new) first passage.new result }
+{
+    let mut at = HEADER_LEN as u64;
+    for before in 0..u64::MAX {
+        let number = before + 1;
+        let head = match read_record(reader, header, piece) {
+            Ok(Next::End) => return Ok(()),
+            Ok(Next::Packet(head)) => head,
+            Err(NoRecord::ReadFailed) => return Err(Stop::ReadFailed),
+            Err(NoRecord::Cut) => return Err(Stop::Cut { number, at }),
+            Err(NoRecord::TooLong(fault)) => return Err(Stop::TooLong { number, at, fault }),
+        };
+        tally.read = number;
+        let kept = head.kept as usize;
+        if let Err(stop) = carry_packet(
+            rt,
+            alloc,
+            passage,
+            header,
+            &head,
+            &piece[..kept],
+            writer,
+            tally,
+        ) {
+            return Err(stop);
+        }
+        at = at.saturating_add((HEAD_LEN + kept) as u64);
+    }
+    // No input has that many records.
+    Err(Stop::HistoryFull)
+}
+
+/// Carries the packet of a record.
+fn carry_packet<T: Handlers + Drop, O: Sink, R: Wait>(
+    rt: &R,
+    alloc: Global,
+    passage: &mut Passage<T>,
+    header: &Header,
+    head: &Head,
+    bytes: &[u8],
+    writer: &mut O,
+    tally: &mut Tally,
+) -> Result<(), Stop>
+    ensures { Passes header.now (record { time = head.now.time; wire = head.now.wire; bytes = bytes.now }) passage.old passage.new (O.output writer.old) (O.output writer.new) result }
+{
+    let packet = match Packet::of(bytes) {
+        Ok(packet) => packet,
+        Err(_) => {
+            tally.left_out = tally.left_out.saturating_add(1);
+            return Ok(());
+        }
+    };
+    let entered = match passage.enter(rt, alloc, &packet) {
+        Ok(entered) => entered,
+        Err(stop) => return Err(stop),
+    };
+    tally.entered = tally.entered.saturating_add(entered);
+    send_all(rt, alloc, passage, header, head.time, writer, tally)
+}
+
+/// Writes what the sink gives until it gives none, as records of this time.
+fn send_all<T: Handlers + Drop, O: Sink, R: Wait>(
+    rt: &R,
+    alloc: Global,
+    passage: &mut Passage<T>,
+    header: &Header,
+    time: Time,
+    writer: &mut O,
+    tally: &mut Tally,
+) -> Result<(), Stop>
+    ensures { SendsAll header.now time passage.old passage.new (O.output writer.old) (O.output writer.new) result }
+{
+    for _ in 0..u64::MAX {
+        let packet = match passage.sent(rt, alloc) {
+            Ok(Some(packet)) => packet,
+            Ok(None) => return Ok(()),
+            Err(stop) => return Err(stop),
+        };
+        let Ok(record) = record_bytes(alloc, header.order, time, packet.bytes()) else {
+            return Err(Stop::NoMemory);
+        };
+        if let Err(stop) = written(writer, &record) {
+            return Err(stop);
+        }
+        tally.written = tally.written.saturating_add(1);
+    }
+    // The history is full long before.
+    Err(Stop::HistoryFull)
+}
+
+/// Writes the bytes in full.
+fn written<O: Sink>(writer: &mut O, bytes: &[u8]) -> Result<(), Stop>
+    ensures { Wrote result (O.output writer.old) (O.output writer.new) bytes.now }
+{
+    match write_all(writer, bytes) {
+        Ok(()) => Ok(()),
+        Err(Failed) => Err(Stop::WriteFailed),
+    }
+}

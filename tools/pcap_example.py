@@ -1,0 +1,347 @@
+"""Makes captures, sends them through click_pcap, and checks what comes by arithmetic of its own.
+
+    pcap_example.py PROGRAM GATEWAY THREE [quick]
+
+GATEWAY is the configuration of the gateway, and THREE a capture that the page has. The first thing that is wrong ends it with status 1.
+A capture is what pcap-savefile(5) says. With `quick` the run that fills the router's history is left out.
+"""
+
+import os
+import struct
+import subprocess
+import sys
+import tempfile
+import threading
+
+MICRO, NANO = 0xA1B2C3D4, 0xA1B23C4D
+ETHERNET, RAW, IPV4 = 1, 101, 228
+PLAIN = "FromDevice(eth0) -> Queue(64) -> ToDevice(eth1);"
+ROUTED = "FromDevice(eth0) -> CheckIPHeader -> DecIPTTL -> Queue(64) -> ToDevice(eth1);"
+checked = 0
+
+
+def fail(what, wanted, came):
+    print(f"pcap_example.py: {what}\nwanted: {wanted!r:.600}\ncame:   {came!r:.600}", file=sys.stderr)
+    sys.exit(1)
+
+
+def same(what, wanted, came):
+    if wanted != came:
+        fail(what, wanted, came)
+
+
+# ---- captures
+
+
+def header(order="<", magic=MICRO, major=2, minor=4, zone=0, accuracy=0, snap=65535, link=ETHERNET):
+    return struct.pack(order + "IHHIIII", magic, major, minor, zone, accuracy, snap, link)
+
+
+def record(packet, time=(0, 0), order="<", wire=None):
+    return struct.pack(order + "IIII", *time, len(packet), len(packet) if wire is None else wire) + packet
+
+
+# ---- packets
+
+
+def summed(header_bytes):
+    """The ones' complement sum of RFC 791, one pair of bytes at a time."""
+    total = 0
+    for at in range(0, len(header_bytes), 2):
+        total += header_bytes[at] * 256 + header_bytes[at + 1]
+        if total > 0xFFFF:
+            total -= 0xFFFF
+    return total
+
+
+def ip(destination, ttl, payload, options=b""):
+    words = 5 + len(options) // 4
+    front = struct.pack(">BBHHHBBH4s4s", 0x40 + words, 0, 4 * words + len(payload), 7, 0, ttl, 17, 0, bytes((10, 9, 8, 7)), bytes(destination)) + options
+    checksum = 0xFFFF - summed(front)
+    return front[:10] + struct.pack(">H", checksum) + front[12:] + payload
+
+
+def frame(packet, kind=0x0800):
+    return bytes(range(0x10, 0x1C)) + struct.pack(">H", kind) + packet
+
+
+def counted_down(packet):
+    """The packet with a time to live that is one less and its checksum, or none."""
+    if packet[8] < 2:
+        return None
+    words = packet[0] % 16
+    front = bytearray(packet[: 4 * words])
+    front[8] -= 1
+    front[10:12] = b"\0\0"
+    front[10:12] = struct.pack(">H", 0xFFFF - summed(front))
+    return bytes(front) + packet[4 * words :]
+
+
+def through_gateway(sent):
+    """What examples/pcap/gateway.click makes of a frame; none where it is dropped."""
+    packet = sent[14:]
+    if len(packet) < 20 or packet[0] // 16 != 4:
+        return None
+    if summed(packet[: 4 * (packet[0] % 16)]) != 0xFFFF:
+        return None
+    to = packet[16:20]
+    if to[0] != 10 and to[:3] != bytes((192, 168, 7)):
+        return None
+    packet = counted_down(packet)
+    if packet is None:
+        return None
+    return bytes((2, 0, 0, 0, 0, 2)) + bytes((2, 0, 0, 0, 0, 1)) + b"\x08\x00" + packet
+
+
+GOOD = [
+    frame(ip((10, 1, 2, 3), 64, b"first")),
+    frame(ip((192, 168, 7, 255), 2, b"second" * 40)),
+    frame(ip((10, 0, 0, 1), 255, b"third", options=b"\x01" * 8)),
+    frame(ip((10, 255, 255, 255), 128, b"") + b"\0" * 26),
+]
+BAD = [
+    frame(ip((10, 1, 2, 3), 1, b"its time is up")),
+    frame(ip((10, 1, 2, 3), 0, b"its time was up")),
+    frame(ip((192, 168, 8, 1), 64, b"for no network")),
+    frame(bytes((0, 1, 8, 0, 6, 4, 0, 1)) + b"\0" * 20, kind=0x0806),
+    frame(ip((10, 1, 2, 3), 64, b"wrong")[:11] + b"\x77" + ip((10, 1, 2, 3), 64, b"wrong")[12:]),
+    b"short",
+    b"",
+]
+MIXED = [GOOD[0], BAD[0], GOOD[1], BAD[1], BAD[2], GOOD[2], BAD[3], BAD[4], GOOD[3], BAD[5], BAD[6], GOOD[0]]
+
+
+# ---- runs
+
+
+def run(text, given, source="eth0", sink="eth1", **how):
+    words = [PROGRAM, "-e", text, "--in", source, "--out", sink]
+    if isinstance(given, bytes):
+        how["input"] = given
+    else:
+        how["stdin"] = given
+    how.setdefault("stdout", subprocess.PIPE)
+    return subprocess.run(words, stderr=subprocess.PIPE, timeout=600, **how)
+
+
+def numbers(read=0, left_out=0, entered=0, written=0):
+    return f"read {read}, left out {left_out}, entered {entered}, written {written}\n".encode()
+
+
+def has(what, done, status, out, error):
+    """A run that is done had this status, this standard output and this standard error."""
+    global checked
+    same(f"{what}: standard error", error, done.stderr)
+    same(f"{what}: standard output", out, done.stdout)
+    same(f"{what}: the status", status, done.returncode)
+    checked += 1
+
+
+def carried(what, text, front, packets, order, model, front_out=None):
+    """Packets, each with its time, and what the model makes of them."""
+    given, wanted, counts = front, front_out or front, [0, 0, 0, 0]
+    for at, packet in enumerate(packets):
+        time = (1_700_000_000 + 97 * at, (123_456 * at) % 1_000_000)
+        given += record(packet, time, order)
+        counts[0] += 1
+        if len(packet) > 1600:
+            counts[1] += 1
+            continue
+        counts[2] += 1
+        for made in model(packet):
+            counts[3] += 1
+            wanted += record(made, time, order)
+    has(what, run(text, given), 0, wanted, numbers(*counts))
+
+
+def one(model):
+    return lambda packet: [made for made in [model(packet)] if made is not None]
+
+
+def kinds():
+    """Each magic number in each byte order, each link type, and the fields of a header."""
+    for order in "<>":
+        for magic in (MICRO, NANO):
+            front = header(order, magic, zone=3600, accuracy=9)
+            carried(f"the gateway, {order} {magic:x}", GATEWAY, front, MIXED, order, one(through_gateway))
+            for link in (RAW, IPV4):
+                front = header(order, magic, link=link)
+                packets = [packet[14:] for packet in GOOD + BAD[:2]]
+                carried(f"link type {link}, {order} {magic:x}", ROUTED, front, packets, order, one(counted_down))
+    for snap, wanted in ((0, 0), (1, 1600), (1599, 1600), (1600, 1600), (1601, 1601), (262144, 262144), (0xFFFFFFFF, 0xFFFFFFFF)):
+        for order in "<>":
+            packets = [b"\xff"] if snap == 1 else [b"\x01" * 1599]
+            carried(f"snap length {snap}", PLAIN, header(order, snap=snap), packets, order, lambda packet: [packet], header(order, snap=wanted))
+    carried("a capture without packets", PLAIN, header(), [], "<", lambda packet: [packet])
+
+
+def sizes():
+    """Packets of all sizes; those of more than 1,600 bytes are left out."""
+    packets = [bytes(length % 251 for _ in range(length)) for length in (0, 1, 60, 1599, 1600, 1601, 1600, 9000, 65535, 2, 262144)]
+    carried("sizes", PLAIN, header(snap=0), packets, "<", lambda packet: [packet])
+    # Of a packet that was cut by its capture just what was kept enters, and it is written as a packet of that length.
+    given = header(snap=96) + record(b"\x05" * 96, (5, 6), wire=1514)
+    has("a packet that was cut", run(PLAIN, given), 0, header(snap=1600) + record(b"\x05" * 96, (5, 6)), numbers(1, 0, 1, 1))
+
+
+def elements():
+    """Several packets for one, and packets that no packet brought."""
+    packets = [b"one", b"two", b"three"]
+    tee = "FromDevice(eth0) -> t :: Tee(3); q :: Queue; t -> q; t [1] -> q; t [2] -> q; q -> ToDevice(eth1);"
+    carried("three for one", tee, header(), packets, "<", lambda packet: [packet] * 3)
+    moved = "FromDevice(eth0) -> Queue -> Unqueue -> Queue -> ToDevice(eth1);"
+    carried("a task between", moved, header(), packets, "<", lambda packet: [packet])
+    stays = "FromDevice(eth0) -> Queue -> ToDevice(eth2); Idle -> ToDevice(eth1);"
+    carried("packets that stay inside", stays, header(), packets, "<", lambda packet: [])
+    source = "FromDevice(eth0) -> q :: Queue -> ToDevice(eth1); InfiniteSource(ab, 2, 1) -> q;"
+    made = iter([b"ab", b"ab"])
+    carried("packets of a source", source, header(), packets, "<", lambda packet: [packet] + list(filter(None, [next(made, None)])))
+    one_device = "FromDevice(eth0) -> Queue -> ToDevice(eth0);"
+    done = run(one_device, header() + record(b"x"), sink="eth0")
+    has("one device for both", done, 0, header() + record(b"x"), numbers(1, 0, 1, 1))
+
+
+# ---- faults
+
+
+def broken(what, given, read, out, error):
+    has(what, run(PLAIN, given), 1, out, b"error: " + error.encode() + b"\n" + numbers(read, 0, read, read))
+
+
+def headers():
+    """Headers that are cut, or of no capture that is read."""
+    whole = header()
+    for length in range(24):
+        broken(f"a header of {length} bytes", whole[:length], 0, b"", f"byte {length}: the capture ends inside its header of 24 bytes")
+    for magic in (0, 0x0A0D0D0A, 0xA1B2CD34, 0xA1B2C3D5, 0xC3D4A1B2):
+        for order in "<>":
+            broken(f"the magic number {magic:x}", header(order, magic), 0, b"", "byte 0: no magic number of a pcap capture")
+    for major, minor in ((2, 3), (2, 5), (1, 4), (4, 2), (0x0204, 0)):
+        for order in "<>":
+            wanted = f"byte 4: version {major}.{minor} of the format, and not 2.4"
+            broken(f"version {major}.{minor}", header(order, major=major, minor=minor), 0, b"", wanted)
+    for link in (0, 113, 2, 0x10000001, 0x01000000):
+        for order in "<>":
+            wanted = f"byte 20: link type {link}, and not 1 (Ethernet), 101 (raw IP) or 228 (IPv4)"
+            broken(f"link type {link}", header(order, link=link), 0, b"", wanted)
+
+
+def records():
+    """Records that are cut or too long; what came before them is written."""
+    front = header() + record(b"first", (1, 2))
+    second = record(b"the second", (3, 4))
+    for length in range(1, len(second)):
+        wanted = "packet 2, byte 45: the capture ends inside this record"
+        broken(f"a record of {length} bytes", front + second[:length], 1, front, wanted)
+    for snap, most in ((65535, 65535), (1600, 1600), (0, 262144), (262145, 262144)):
+        for claimed in (most + 1, 0x7FFFFFFF, 0xFFFFFFFF):
+            start = header(snap=snap) + record(b"first")
+            wanted = f"packet 2, byte 45: {claimed} bytes, where the capture has {most} a packet at most"
+            broken(f"{claimed} bytes at snap length {snap}", start + struct.pack("<IIII", 0, 0, claimed, claimed) + b"x" * 99, 1, start, wanted)
+    endless()
+
+
+def endless():
+    """A record that claims to have 4 GiB is refused at once, while its bytes still come; 64 MiB of them would."""
+    words = [PROGRAM, "-e", PLAIN, "--in", "eth0", "--out", "eth1"]
+    start = header() + record(b"first")
+    with subprocess.Popen(words, stdin=subprocess.PIPE, stdout=subprocess.PIPE, stderr=subprocess.PIPE) as child:
+        def feed():
+            try:
+                child.stdin.write(start + struct.pack("<IIII", 0, 0, 0xFFFFFFFF, 0xFFFFFFFF))
+                for _ in range(1024):
+                    child.stdin.write(b"\0" * 65536)
+                child.stdin.close()
+            except OSError:
+                pass
+
+        feeder = threading.Thread(target=feed, daemon=True)
+        feeder.start()
+        out, error = child.stdout.read(), child.stderr.read()
+        child.wait(timeout=60)
+        feeder.join(timeout=60)
+        try:
+            child.stdin.close()
+        except OSError:
+            pass
+    wanted = b"error: packet 2, byte 45: 4294967295 bytes, where the capture has 65535 a packet at most\n" + numbers(1, 0, 1, 1)
+    has("an endless record", subprocess.CompletedProcess(words, child.returncode, out, error), 1, start, wanted)
+
+
+def devices():
+    """Sources and sinks that are not there: nothing is read then."""
+    for what, source, sink, wanted in (
+        ("no source", "eth7", "eth1", "error: the configuration has no source of the device --in\n"),
+        ("no sink", "eth0", "eth7", "error: the configuration has no sink of the device --out\n"),
+        ("neither", "", "", "error: the configuration has no source of the device --in\n"),
+        ("the wrong way round", "eth1", "eth0", "error: the configuration has no source of the device --in\n"),
+    ):
+        with tempfile.TemporaryFile() as given:
+            given.write(header() + record(b"x"))
+            given.seek(0)
+            has(what, run(PLAIN, given, source, sink), 1, b"", wanted.encode())
+            same(f"{what}: how much was read", 0, os.lseek(given.fileno(), 0, os.SEEK_CUR))
+    with tempfile.TemporaryFile() as given:
+        given.write(header())
+        given.seek(0)
+        has("a faulty configuration", run("Counter -> Discard;", given), 1, b"", b"31 Count at Counter@1 inputs 0\n")
+        same("a faulty configuration: how much was read", 0, os.lseek(given.fileno(), 0, os.SEEK_CUR))
+
+
+def arguments():
+    """Wrong arguments and help: clap's text on standard error."""
+    every = ["-e", PLAIN, "--in", "eth0", "--out", "eth1"]
+    for words in ([], every[:2], every[:4], every[2:], every + ["more"], every + ["-x"], ["--help"], ["-h"], every[:-1]):
+        done = subprocess.run([PROGRAM] + words, input=b"", stdout=subprocess.PIPE, stderr=subprocess.PIPE, timeout=60)
+        same(f"{words}: the status", 2, done.returncode)
+        same(f"{words}: standard output", b"", done.stdout)
+        if not done.stderr:
+            fail(f"{words}: standard error", "some text", done.stderr)
+    done = subprocess.run([PROGRAM, b"\xff"], input=b"", stdout=subprocess.PIPE, stderr=subprocess.PIPE, timeout=60)
+    has("an argument that is no text", done, 2, b"", b"click_pcap: an argument is not UTF-8\n")
+
+
+def failures():
+    """Reads and writes that fail."""
+    given = header() + record(b"first") + record(b"second")
+    with open("/dev/full", "wb") as full:
+        done = run(PLAIN, given, stdout=full)
+    done.stdout = b""
+    has("a full device", done, 4, b"", b"error: a write failed\n" + numbers())
+    done = run(PLAIN, None, preexec_fn=lambda: os.close(0))
+    has("closed standard input", done, 4, b"", b"error: a read failed\n" + numbers())
+    with tempfile.TemporaryDirectory() as folder:
+        place = os.open(folder, os.O_RDONLY)
+        done = run(PLAIN, place)
+        os.close(place)
+    has("a folder as standard input", done, 4, b"", b"error: a read failed\n" + numbers())
+
+
+def history():
+    """A run has room for 1,048,576 calls: two at first, and four for each of 262,143 packets; the next has a poll and a round."""
+    one_more = record(b"x")
+    done = run(PLAIN, header() + one_more * 262_200)
+    wanted = b"error: a run has room for 1048576 calls, and made them all\n" + numbers(262_144, 0, 262_144, 262_143)
+    has("a history that is full", done, 1, header() + one_more * 262_143, wanted)
+
+
+def three():
+    """The page's capture: one packet that goes on, one whose time is up, and one more that goes on."""
+    with open(THREE, "rb") as file:
+        given = file.read()
+    times = [(1_700_000_000, 1), (1_700_000_000, 250_000), (1_700_000_001, 0)]
+    packets = [GOOD[0], BAD[0], GOOD[1]]
+    same("the page's capture", header() + b"".join(record(p, t) for p, t in zip(packets, times)), given)
+    wanted = header() + record(through_gateway(GOOD[0]), times[0]) + record(through_gateway(GOOD[1]), times[2])
+    has("the page's capture", run(GATEWAY, given), 0, wanted, numbers(3, 0, 3, 2))
+
+
+if __name__ == "__main__":
+    PROGRAM, GATEWAY_FILE, THREE = sys.argv[1:4]
+    with open(GATEWAY_FILE, encoding="ascii") as file:
+        GATEWAY = file.read()
+    for part in (three, kinds, sizes, elements, headers, records, devices, arguments, failures):
+        part()
+    if sys.argv[4:] != ["quick"]:
+        history()
+    print(f"{checked} captures came through as they should")
