@@ -62,15 +62,12 @@ fn goes_through(alloc: Global, times: usize) -> Result<bool, AllocError> {
     Ok(true)
 }
 
-/// Puts so many packets. How many found a place.
-fn put_all(alloc: Global, feed: &mut Feed) -> Result<usize, AllocError> {
-    let mut put = 0;
+/// Puts the packets that a poll will take.
+fn put_all(alloc: Global, feed: &mut Feed) -> Result<(), AllocError> {
     for _ in 0..PACKETS {
-        if feed.put(packet(alloc)?).is_ok() {
-            put += 1;
-        }
+        let _put = feed.put(packet(alloc)?);
     }
-    Ok(put)
+    Ok(())
 }
 
 /// How many packets one poll lets in.
@@ -107,7 +104,26 @@ fn arrived<T: Handlers, R: Wait>(
     Ok(matches!(desk.call(rt, seat, call), Ok(Reply::Entered(1))))
 }
 
-/// So many packets arrive, as often as a poll would take some. How many came in.
+/// As many packets arrive as a poll would take. How many came in.
+fn arrive_some<T: Handlers, R: Wait>(
+    rt: &R,
+    alloc: Global,
+    desk: &Desk<T>,
+    seat: &mut Seat<T>,
+) -> Result<u64, AllocError>
+    requires { seat.old.desk ≡ desk.now }
+    ensures { seat.new.desk ≡ desk.now }
+{
+    let mut count: u64 = 0;
+    for _ in 0..PACKETS {
+        if arrived(rt, alloc, desk, seat)? {
+            count = count.saturating_add(1);
+        }
+    }
+    Ok(count)
+}
+
+/// The same so many times. How many came in.
 fn arrive_all<T: Handlers, R: Wait>(
     rt: &R,
     alloc: Global,
@@ -120,11 +136,7 @@ fn arrive_all<T: Handlers, R: Wait>(
 {
     let mut count: u64 = 0;
     for _ in 0..times {
-        for _ in 0..PACKETS {
-            if arrived(rt, alloc, desk, seat)? {
-                count = count.saturating_add(1);
-            }
-        }
+        count = count.saturating_add(arrive_some(rt, alloc, desk, seat)?);
     }
     Ok(count)
 }
@@ -143,7 +155,7 @@ fn poll_all<T: Handlers, R: Wait>(
 {
     let mut count: u64 = 0;
     for _ in 0..times {
-        let _put = put_all(alloc, feed)?;
+        put_all(alloc, feed)?;
         count = count.saturating_add(polled(rt, desk, seat));
     }
     Ok(count)
