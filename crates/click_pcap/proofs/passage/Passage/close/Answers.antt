@@ -19,6 +19,6 @@ returns-in-Ok-clause-ok g c =
     let w : Way = record { opening = p.desk.terms.opening; source = p.source; sink = p.sink; put = p.feed.put; calls = p.seat.calls } in
     let all : OnOk c.finished.result (Closed w) = on_ok c.finished.result
     (λ (t : p.feed.put ≡ polled book.entries c.as_slice.result.now).
-      closed-of w p.desk p.seat book refl c.self.invariant.1 refl c.in-Ok.ensures.ok (t ∙ ap (λ (d : List ℕ). polled book.entries d) c.as_slice.ensures))
+    closed-of w p.desk p.seat book refl c.self.invariant.1 refl c.in-Ok.ensures.ok (t ∙ ap (λ (d : List ℕ). polled book.entries d) c.as_slice.ensures))
     c.finished.ensures.ok in
     subst (λ (v : Way). OnOk c.finished.result (Closed v)) c.self.view_is all
