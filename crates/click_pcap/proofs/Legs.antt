@@ -14,7 +14,7 @@ use Rattle.click_control.specs.Peers.{Input, Output, HasWritten}
 use Rattle.click_pcap.specs.declared.stop.Stop.{Stop}
 use Rattle.click_pcap.specs.declared.stop.Stop.TheVariants as stop
 use Rattle.click_pcap.specs.Reading.{Took, TookAll}
-use Rattle.click_pcap.specs.Ways.{Way, Enters, given, went, called, sent_packet, transmit, AllTransmit}
+use Rattle.click_pcap.specs.Ways.{Way, Enters, given, went, called, sent_packet, transmit, AllTransmit, GaveNone}
 use Rattle.click_pcap.specs.Carrying.{at_time, told, widened, entering, Leg, Takes, IsLeg, AreLegs, froms, feds, mades, outs, Carried, Wrote, Passes, Since, Ends}
 use Rattle.click_pcap.proofs.Pieces.{Took-then}
 use Rattle.click_pcap.proofs.Outputs.{HasWritten-then}
@@ -71,9 +71,9 @@ went-called : (w v u : Way) (ps : List Packet) (xs ys : List (Call × Reply)) �
 went-called w v u ps xs ys p q =
     q ∙ ap (λ (x : Way). called x ys) p ∙ ap (λ (l : List (Call × Reply)). record w { put = w.put ++ ps; calls = l }) (append_assoc w.calls xs ys)
 
-on_ok : {T : Type 0} {P : Type 0} (r : Result T Stop) → P → OnOk r P
-on_ok (Ok v) p = p
-on_ok (Err e) p = tt
+pub on_ok : {T P Q : Type 0} (r : Result T Stop) → (P → Q) → OnOk r P → OnOk r Q
+on_ok (Ok v) f p = f p
+on_ok (Err e) f p = tt
 
 -- the calls with which a packet enters give none
 enters-none : (h : Header) (from : Record) (source : List ℕ) (first : List (Call × Reply)) (n : ℕ) → Enters source first n → told h.order from.time first ≡ []
@@ -82,16 +82,27 @@ enters-none h from source first n enters = ap (λ (l : List (Call × Reply)). to
 -- a packet entered, and then the sink was asked
 pub passed : (T : Type 0) (h : Header) (from : Record) (old mid new : Way) (fed : List Packet) (first rest : List (Call × Reply)) (n : ℕ) (held holds : Output) (r : Result T Stop)
     → length from.bytes ≤ 1600 → fed ≡ entering from ∷ [] → Enters old.source first n → mid ≡ went old fed first → AllTransmit mid.sink rest → new ≡ called mid rest
-    → Wrote r held holds (told h.order from.time rest) → Passes h from old new held holds r
-passed T h from old mid new fed first rest n held holds r fits feeds enters way all more wrote =
+    → OnOk r (GaveNone mid.sink rest) → Wrote r held holds (told h.order from.time rest) → Passes h from old new held holds r
+passed T h from old mid new fed first rest n held holds r fits feeds enters way all more last wrote =
     let sends : AllTransmit old.sink rest = subst (λ (s : List ℕ). AllTransmit s rest) (ap (λ (w : Way). w.sink) way) all in
-    let takes : Takes old.source old.sink from fed (first ++ rest) = record { fits = fits; feeds = feeds; entered = n; first = first; rest = rest; enters = enters; sends = sends; are = refl } in
+    let takes : GaveNone mid.sink rest → Takes old.source old.sink from fed (first ++ rest) = λ gave.
+    record {
+      fits = fits;
+      feeds = feeds;
+      entered = n;
+      first = first;
+      rest = rest;
+      enters = enters;
+      sends = sends;
+      until = subst (λ (s : List ℕ). GaveNone s rest) (ap (λ (w : Way). w.sink) way) gave;
+      are = refl;
+    } in
     let same : told h.order from.time (first ++ rest) ≡ told h.order from.time rest =
     told-append h.order from.time first rest ∙ ap (λ (l : List ℕ). l ++ told h.order from.time rest) (enters-none h from old.source first n enters) in (
       fed,
       first ++ rest,
       went-called old mid new fed first rest way more,
-      on_ok r (inr takes),
+      on_ok r (λ gave. inr (takes gave)) last,
       subst (λ (l : List ℕ). Wrote r held holds l) (sym same) wrote,
     )
 

@@ -2,3 +2,6 @@ pub mod Peers
 pub mod Pieces
 pub mod Legs
 pub mod Outputs
+pub mod Desks
+pub mod Options
+pub mod Devices

@@ -16,7 +16,7 @@ use Rattle.click_pcap.specs.declared.stop.Stop.{Stop}
 use Rattle.click_pcap.specs.declared.stop.Stop.TheVariants as stop
 use Rattle.click_pcap.specs.Reading.{Took, TookAll, ReadFails, ReadsHeader, IsCut}
 use Rattle.click_pcap.specs.Writing.{WroteFront}
-use Rattle.click_pcap.specs.Ways.{Way, Enters, AllTransmit, given, went, called}
+use Rattle.click_pcap.specs.Ways.{Way, Enters, AllTransmit, GaveNone, given, went, called}
 
 -- the header that is written: its snap length has room for each packet that a router may send
 abbrev pub wide_snap : ℕ → ℕ
@@ -40,7 +40,7 @@ pub record Leg : Type 0 where
   pub fed : List Packet
   pub made : List (Call × Reply)
 
--- A record of more than 1,600 bytes is left out. The packet of another is fed, and polled, and a round is made; the calls after that are transmits.
+-- A record of more than 1,600 bytes is left out. The packet of another is fed, and polled, and a round is made; the calls after that are transmits, the last of which gave none.
 pub record Takes (source sink : List ℕ) (from : Record) (fed : List Packet) (made : List (Call × Reply)) : Type 0 where
   pub fits : length from.bytes ≤ 1600
   pub feeds : fed ≡ entering from ∷ []
@@ -49,6 +49,7 @@ pub record Takes (source sink : List ℕ) (from : Record) (fed : List Packet) (m
   pub rest : List (Call × Reply)
   pub enters : Enters source first entered
   pub sends : AllTransmit sink rest
+  pub until : GaveNone sink rest
   pub are : made ≡ first ++ rest
 
 abbrev pub IsLeg : List ℕ → List ℕ → Record → List Packet → List (Call × Reply) → Type 0
@@ -102,7 +103,7 @@ told o time made = records_bytes o (at_time time (given made))
 -- Transmits were made until the sink gave none, and what they gave was written.
 abbrev pub SendsAll : {T : Type 0} → Header → Time → Way → Way → Output → Output → Result T Stop → Type 0
 SendsAll h time old new held holds result =
-    (made : List (Call × Reply)) × AllTransmit old.sink made × (new ≡ called old made) × Wrote result held holds (told h.order time made)
+    (made : List (Call × Reply)) × AllTransmit old.sink made × (new ≡ called old made) × OnOk result (GaveNone old.sink made) × Wrote result held holds (told h.order time made)
 
 -- What was done for one record; it broke off where the result says so.
 abbrev pub Passes : {T : Type 0} → Header → Record → Way → Way → Output → Output → Result T Stop → Type 0

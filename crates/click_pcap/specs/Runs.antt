@@ -7,7 +7,7 @@ use Rattle.click_router.specs.declared.call.Call.{Call}
 use Rattle.click_router.specs.declared.call.Reply.{Reply}
 use Rattle.click_router.specs.declared.call.Reply.TheVariants as reply
 use Rattle.click_router.specs.declared.fault.FaultKind.TheVariants as kind
-use Rattle.click_desk.specs.History.{Legal, entries}
+use Rattle.click_desk.specs.History.{Legal, entry}
 use Rattle.click_desk.specs.Polls.{polled}
 use Rattle.click_desk.specs.declared.entry.Entry.{Entry}
 use Rattle.click_desk.specs.declared.open.OpenFault.{OpenFault}
@@ -46,10 +46,25 @@ AsksEnds old new (Err stop.NoSink) =
     (taken : List Packet) × (a : Reply) × (new ≡ called old ((polling old.source taken, a) ∷ (transmit old.sink, reply.NoDevice) ∷ [])) × (a ≢ reply.NoDevice)
 AsksEnds old new (Err s) = CanBreak s × ((made : List (Call × Reply)) × (new ≡ called old made))
 
--- The calls of a run are all those of a history of one thread that begins with what the text opens, and its polls took from the feed just what was put there: no packet was lost.
+-- Whether a router has the source: it was polled.
+abbrev pub AsksSource : {T : Type 0} → Way → Way → Result T Stop → Type 0
+AsksSource old new (Ok _) = (taken : List Packet) × (a : Reply) × (new ≡ called old ((polling old.source taken, a) ∷ [])) × (a ≢ reply.NoDevice)
+AsksSource old new (Err stop.NoSource) = (taken : List Packet) × (new ≡ called old ((polling old.source taken, reply.NoDevice) ∷ []))
+AsksSource old new (Err s) = CanBreak s × (new ≡ old)
+
+-- Whether a router has the sink: it was asked for a packet.
+abbrev pub AsksSink : {T : Type 0} → Way → Way → Result T Stop → Type 0
+AsksSink old new (Ok _) = (b : Reply) × (new ≡ called old ((transmit old.sink, b) ∷ [])) × (b ≢ reply.NoDevice)
+AsksSink old new (Err stop.NoSink) = new ≡ called old ((transmit old.sink, reply.NoDevice) ∷ [])
+AsksSink old new (Err s) = CanBreak s × (new ≡ old)
+
+-- the entries of these calls in a history, where one thread makes all of them
+abbrev pub alone : List (Call × Reply) → List Entry
+alone [] = []
+alone (c ∷ cs) = entry 0 c.0 c.1 ∷ alone cs
+
+-- The calls of a run are the history of one thread that begins with what the text opens, and its polls took from the feed just what was put there: no packet was lost.
 pub record Closed (w : Way) : Type 0 where
-  pub history : List Entry
   pub router : RouterState
-  pub legal : Legal w.opening history router
-  pub own : entries history 0 ≡ w.calls
-  pub taken : w.put ≡ polled history w.source
+  pub legal : Legal w.opening (alone w.calls) router
+  pub taken : w.put ≡ polled (alone w.calls) w.source

@@ -35,6 +35,12 @@ given (c ∷ cs) = option_to_list (sent_packet c.1) ++ given cs
 abbrev pub polling : List ℕ → List Packet → Call
 polling device taken = call.Poll device taken
 
+abbrev pub round : Call
+round = call.Round
+
+abbrev pub worked_reply : ℕ → Reply
+worked_reply worked = reply.Worked worked
+
 abbrev pub transmit : List ℕ → Call
 transmit device = call.Transmit device
 
@@ -49,3 +55,10 @@ pub record Enters (source : List ℕ) (made : List (Call × Reply)) (entered : �
 abbrev pub AllTransmit : List ℕ → List (Call × Reply) → Type 0
 AllTransmit sink [] = Unit {0}
 AllTransmit sink (c ∷ cs) = (c.0 ≡ call.Transmit sink) × AllTransmit sink cs
+
+-- the last of the calls is a transmit at the sink that gave none
+pub record GaveNone (sink : List ℕ) (made : List (Call × Reply)) : Type 0 where
+  pub before : List (Call × Reply)
+  pub reply : Reply
+  pub are : made ≡ before ++ (call.Transmit sink, reply) ∷ []
+  pub none : sent_packet reply ≡ None

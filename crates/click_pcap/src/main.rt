@@ -110,38 +110,57 @@ fn run<T: Handlers + Drop, R: Wait>(wait: &R, carries: &Carries<'_>, table: T) -
     }
 }
 
-/// Carries the packets, closes the router, and tells why the run broke off and the numbers.
+/// Carries the packets where the router has both devices.
 fn through<T: Handlers + Drop, R: Wait>(
     wait: &R,
     rt: &HostRuntime,
     mut passage: Passage<T>,
 ) -> Result<(), Stop> {
-    let alloc = rt.alloc();
-    if let Err(stop) = passage.has_ends(wait, alloc) {
-        tell_stop(rt, stop);
-        return Err(stop);
+    match passage.has_ends(wait, rt.alloc()) {
+        Ok(()) => carried(wait, rt, passage),
+        Err(stop) => {
+            tell_stop(rt, stop);
+            Err(stop)
+        }
     }
+}
+
+/// Carries the packets, closes the router, and tells why the run broke off and the numbers.
+fn carried<T: Handlers + Drop, R: Wait>(
+    wait: &R,
+    rt: &HostRuntime,
+    mut passage: Passage<T>,
+) -> Result<(), Stop> {
     let mut tally = Tally::default();
+    let came = carried_from(wait, rt, &mut passage, &mut tally);
+    // What broke the run off is told first, then a packet that was left in the feed.
+    let ended = came.and(passage.close(wait, rt.alloc()));
+    tell(rt, ended, &tally);
+    ended
+}
+
+/// Carries the packets on standard input to standard output.
+fn carried_from<T: Handlers + Drop, R: Wait>(
+    wait: &R,
+    rt: &HostRuntime,
+    passage: &mut Passage<T>,
+    tally: &mut Tally,
+) -> Result<(), Stop> {
+    let alloc = rt.alloc();
     let Ok(input) = BufReader::new(alloc, rt.stdin()) else {
         return Err(Stop::NoMemory);
     };
     let mut reader = Reading::new(input);
     let mut writer = Writing::new(rt.stdout());
-    let carried = carry(
-        wait,
-        alloc,
-        &mut passage,
-        &mut reader,
-        &mut writer,
-        &mut tally,
-    );
-    // What broke the run off is told first, then a packet that was left in the feed.
-    let result = carried.and(passage.close(wait, alloc));
-    if let Err(stop) = result {
+    carry(wait, alloc, passage, &mut reader, &mut writer, tally)
+}
+
+/// Tells why a run broke off, if it did, and the numbers.
+fn tell(rt: &HostRuntime, ended: Result<(), Stop>, tally: &Tally) {
+    if let Err(stop) = ended {
         tell_stop(rt, stop);
     }
-    tell_tally(rt, &tally);
-    result
+    tell_tally(rt, tally);
 }
 
 /// Tells why a run broke off.

@@ -1,18 +1,22 @@
 //! The router's side of a run: a desk with one seat, and the feed of the source.
 
-ghost use Rattle.std.specs.Prelude.{◌≡◌, [], ◌∷◌, List, IfOk, IfErr, OnOk};
+ghost use Rattle.std.specs.Prelude.{◌≡◌, ℕ, ◌≤◌, [], ◌∷◌, List, length, map, IfOk, IfErr, IfSome, OnOk};
+ghost use Rattle.click_rings.specs.Feeds.{name_of};
+ghost use Rattle.click_desk.specs.Closing.{Closes};
+ghost use Rattle.click_desk.specs.Polls.{polled};
+ghost use Rattle.click_desk.specs.Sittings.{seats_below};
 ghost use Rattle.click_packet.specs.Packet.{Packet as APacket};
 ghost use Rattle.click_router.specs.declared.call.Call.{Call as ACall};
 ghost use Rattle.click_router.specs.declared.call.Reply.{Reply as AReply};
 ghost use Rattle.click_pcap.specs.Stops.{desk_stop};
-ghost use Rattle.click_pcap.specs.Ways.{went, called, sent_packet, transmit, Enters};
+ghost use Rattle.click_pcap.specs.Ways.{went, called, sent_packet, polling, round, worked_reply, transmit, Enters};
 ghost use Rattle.click_pcap.specs.Carrying.{CanBreak};
-ghost use Rattle.click_pcap.specs.Runs.{IsTrueFault, AsksEnds, Closed, IsLate, no_passage};
+ghost use Rattle.click_pcap.specs.Runs.{IsTrueFault, AsksEnds, AsksSource, AsksSink, Closed, IsLate, no_passage};
 
 use crate::stop::Stop;
-use click_desk::{Desk, DeskFault, OpenFault, Seat};
+use click_desk::{Book, Desk, DeskFault, OpenFault, Seat};
 use click_packet::{Packet, StoredPacket};
-use click_rings::{Feed, opening};
+use click_rings::{Feed, FeedEnd, Inlet, opening};
 use click_router::{Call, ConfigFault, Handlers, Reply};
 use click_text::sequence::Sequence;
 use std::alloc::{AllocError, Global};
@@ -71,6 +75,81 @@ fn stop_of(fault: DeskFault) -> Stop
     }
 }
 
+/// A feed of the device, and its inlet alone.
+fn fed(alloc: Global, device: &[u8]) -> Option<(Feed, Vec<Inlet>)>
+    ensures { IfSome result (λ r. (r.1.items ≡ (record { device = device.now; ring = r.0.ring }) ∷ []) × (r.0.put ≡ [])) }
+{
+    let mut inlets = Vec::with_capacity(alloc, 1).ok()?;
+    let Ok((feed, inlet)) = opening::feed(alloc, device, PLACES) else {
+        return None;
+    };
+    inlets.push_reserved(inlet);
+    Some((feed, inlets))
+}
+
+/// The names of two devices.
+fn names(
+    alloc: Global,
+    source: &[u8],
+    sink: &[u8],
+) -> Result<(Sequence<u8>, Sequence<u8>), AllocError>
+    ensures { IfOk result (λ r. (r.0 ≡ source.now) × (r.1 ≡ sink.now)) }
+{
+    Ok((kept(alloc, source)?, kept(alloc, sink)?))
+}
+
+/// Opens a desk with one seat and one inlet.
+fn desk_with<T: Drop, R: Wait>(
+    rt: &R,
+    alloc: Global,
+    table: T,
+    text: &[u8],
+    inlets: Vec<Inlet>,
+) -> Result<(Desk<T>, Vec<Seat<T>>), NoPassage>
+    requires { length inlets.items ≡ 1 }
+    ensures desk { IfOk result (λ r. r.0.terms ≡ record { opening = text.now; room = 1048576; seats = 1 }) }
+    ensures seats { IfOk result (λ r. r.1.items ≡ seats_below r.0 inlets.items 1) }
+    ensures config { IfErr result (IsTrueFault text.now) }
+{
+    match Desk::open(rt, alloc, table, text, ROOM, 1, inlets) {
+        Ok(made) => Ok(made),
+        Err(refused) => Err(fault_of(refused.fault)),
+    }
+}
+
+/// The seat of a list of one.
+fn only_seat<T>(mut seats: Vec<Seat<T>>) -> Seat<T>
+    requires { length seats.items ≡ 1 }
+    ensures { seats.items ≡ result ∷ [] }
+{
+    match seats.pop() {
+        Some(seat) => seat,
+        None => unreachable!(),
+    }
+}
+
+/// The way through a new desk.
+fn seated<T>(
+    made: (Desk<T>, Vec<Seat<T>>),
+    feed: Feed,
+    source: Sequence<u8>,
+    sink: Sequence<u8>,
+) -> Passage<T>
+    requires terms { made.0.terms.seats ≡ 1 }
+    requires seats { made.1.items ≡ seats_below made.0 ((record { device = source; ring = feed.ring }) ∷ []) 1 }
+    ensures { result ≡ record { opening = made.0.terms.opening; source = source; sink = sink; put = feed.put; calls = [] } }
+{
+    let (desk, seats) = made;
+    let seat = only_seat(seats);
+    Passage {
+        desk,
+        seat,
+        feed,
+        source,
+        sink,
+    }
+}
+
 impl<T: Handlers + Drop> Passage<T> {
     /// Opens the router of the text.
     pub fn open<R: Wait>(
@@ -84,47 +163,43 @@ impl<T: Handlers + Drop> Passage<T> {
         ensures ok { IfOk result (λ passage. passage ≡ record { opening = text.now; source = source.now; sink = sink.now; put = []; calls = [] }) }
         ensures config { IfErr result (IsTrueFault text.now) }
     {
-        let Ok((feed, inlet)) = opening::feed(alloc, source, PLACES) else {
+        let Some((feed, inlets)) = fed(alloc, source) else {
             return Err(NoPassage::NoMemory);
         };
-        let mut inlets = Vec::new(alloc);
-        if inlets.push(inlet).is_err() {
+        let Ok((source, sink)) = names(alloc, source, sink) else {
             return Err(NoPassage::NoMemory);
+        };
+        match desk_with(rt, alloc, table, text, inlets) {
+            Ok(made) => Ok(seated(made, feed, source, sink)),
+            Err(none) => Err(none),
         }
-        let Ok(source) = kept(alloc, source) else {
-            return Err(NoPassage::NoMemory);
-        };
-        let Ok(sink) = kept(alloc, sink) else {
-            return Err(NoPassage::NoMemory);
-        };
-        let (desk, mut seats) = match Desk::open(rt, alloc, table, text, ROOM, 1, inlets) {
-            Ok(opened) => opened,
-            Err(refused) => return Err(fault_of(refused.fault)),
-        };
-        let Some(seat) = seats.pop() else {
-            unreachable!()
-        };
-        Ok(Passage {
-            desk,
-            seat,
-            feed,
-            source,
-            sink,
-        })
     }
 
     /// Whether the router has the source and the sink. Before a packet entered a poll of none and a transmit change nothing.
     pub fn has_ends<R: Wait>(&mut self, rt: &R, alloc: Global) -> Result<(), Stop>
         ensures { AsksEnds self.old self.new result }
     {
-        match self
-            .desk
-            .poll(rt, &mut self.seat, self.source.as_slice(), 1)
-        {
-            Ok(Reply::NoDevice) => return Err(Stop::NoSource),
-            Ok(_) => {}
-            Err(fault) => return Err(stop_of(fault)),
+        match self.has_source(rt) {
+            Ok(()) => self.has_sink(rt, alloc),
+            Err(stop) => Err(stop),
         }
+    }
+
+    /// Whether the router has the source.
+    fn has_source<R: Wait>(&mut self, rt: &R) -> Result<(), Stop>
+        ensures { AsksSource self.old self.new result }
+    {
+        match self.poll(rt) {
+            Ok(Reply::NoDevice) => Err(Stop::NoSource),
+            Ok(_) => Ok(()),
+            Err(stop) => Err(stop),
+        }
+    }
+
+    /// Whether the router has the sink.
+    fn has_sink<R: Wait>(&mut self, rt: &R, alloc: Global) -> Result<(), Stop>
+        ensures { AsksSink self.old self.new result }
+    {
         match self.transmit(rt, alloc) {
             Ok(Reply::NoDevice) => Err(Stop::NoSink),
             Ok(_) => Ok(()),
@@ -137,23 +212,62 @@ impl<T: Handlers + Drop> Passage<T> {
         ensures ok { IfOk result (λ entered. (made : List (ACall × AReply)) × Enters self.old.source made entered × (self.new ≡ went self.old (packet.now ∷ []) made)) }
         ensures err { IfErr result (λ stop. CanBreak stop × ((fed : List APacket) × (made : List (ACall × AReply)) × (self.new ≡ went self.old fed made))) }
     {
+        match self.put(alloc, packet) {
+            Ok(()) => self.enter_put(rt),
+            Err(stop) => Err(stop),
+        }
+    }
+
+    /// A packet is put in the feed.
+    fn put(&mut self, alloc: Global, packet: &Packet) -> Result<(), Stop>
+        ensures ok { OnOk result (self.new ≡ went self.old (packet.now ∷ []) []) }
+        ensures err { IfErr result (λ stop. CanBreak stop × (self.new ≡ self.old)) }
+    {
         let Ok(stored) = StoredPacket::of(alloc, packet) else {
             return Err(Stop::NoMemory);
         };
         match self.feed.put(stored) {
-            Ok(()) => {}
-            Err(_) => return Err(Stop::FeedStuck),
+            Ok(()) => Ok(()),
+            Err(_) => Err(Stop::FeedStuck),
         }
-        let entered = match self
+    }
+
+    /// A packet that was put enters, and each task runs once.
+    fn enter_put<R: Wait>(&mut self, rt: &R) -> Result<u64, Stop>
+        ensures ok { IfOk result (λ entered. (made : List (ACall × AReply)) × Enters self.old.source made entered × (self.new ≡ called self.old made)) }
+        ensures err { IfErr result (λ stop. CanBreak stop × ((made : List (ACall × AReply)) × (self.new ≡ called self.old made))) }
+    {
+        match self.poll(rt) {
+            Ok(Reply::Entered(entered)) => match self.round(rt) {
+                Ok(()) => Ok(entered),
+                Err(stop) => Err(stop),
+            },
+            Ok(_) => Err(Stop::FeedStuck),
+            Err(stop) => Err(stop),
+        }
+    }
+
+    /// The source is polled for one packet.
+    fn poll<R: Wait>(&mut self, rt: &R) -> Result<Reply, Stop>
+        ensures ok { IfOk result (λ reply. (taken : List APacket) × (length taken ≤ 1) × (self.new ≡ called self.old ((polling self.old.source taken, reply) ∷ []))) }
+        ensures err { IfErr result (λ stop. CanBreak stop × (self.new ≡ self.old)) }
+    {
+        match self
             .desk
             .poll(rt, &mut self.seat, self.source.as_slice(), 1)
         {
-            Ok(Reply::Entered(count)) => count,
-            Ok(_) => return Err(Stop::FeedStuck),
-            Err(fault) => return Err(stop_of(fault)),
-        };
+            Ok(reply) => Ok(reply),
+            Err(fault) => Err(stop_of(fault)),
+        }
+    }
+
+    /// Each task runs once.
+    fn round<R: Wait>(&mut self, rt: &R) -> Result<(), Stop>
+        ensures ok { OnOk result ((worked : ℕ) × (self.new ≡ called self.old ((round, worked_reply worked) ∷ []))) }
+        ensures err { IfErr result (λ stop. CanBreak stop × ((made : List (ACall × AReply)) × (self.new ≡ called self.old made))) }
+    {
         match self.desk.call(rt, &mut self.seat, Call::Round) {
-            Ok(Reply::Worked(_)) => Ok(entered),
+            Ok(Reply::Worked(_)) => Ok(()),
             Ok(_) => Err(Stop::FeedStuck),
             Err(fault) => Err(stop_of(fault)),
         }
@@ -165,8 +279,7 @@ impl<T: Handlers + Drop> Passage<T> {
         ensures err { IfErr result (λ stop. CanBreak stop × (self.new ≡ self.old)) }
     {
         match self.transmit(rt, alloc) {
-            Ok(Reply::Sent(packet)) => Ok(packet),
-            Ok(_) => Ok(None),
+            Ok(reply) => Ok(packet_of(reply)),
             Err(stop) => Err(stop),
         }
     }
@@ -200,21 +313,82 @@ impl<T: Handlers + Drop> Passage<T> {
             source,
             sink: _,
         } = self;
-        let mut seats = Vec::new(alloc);
-        if seats.push(seat).is_err() {
-            return Err(Stop::NoMemory);
+        match closed(rt, alloc, desk, seat) {
+            Ok(book) => finished(alloc, book, source.as_slice(), feed),
+            Err(stop) => Err(stop),
         }
-        let Ok(mut book) = desk.close(rt, seats) else {
-            unreachable!()
-        };
-        let Some(end) = feed.finish() else {
-            return Err(Stop::FeedStuck);
-        };
-        match book.settle(alloc, source.as_slice(), end) {
-            Ok(left) if left.is_empty() => Ok(()),
-            Ok(_) => Err(Stop::FeedStuck),
-            Err(_) => Err(Stop::NoMemory),
-        }
+    }
+}
+
+/// The packet that a reply gives, if it gives one.
+fn packet_of(reply: Reply) -> Option<Packet>
+    ensures { result ≡ sent_packet reply }
+{
+    match reply {
+        Reply::Sent(packet) => packet,
+        _other => None,
+    }
+}
+
+/// Closes a desk with its only seat.
+fn closed<T: Drop, R: Wait>(
+    rt: &R,
+    alloc: Global,
+    desk: Desk<T>,
+    seat: Seat<T>,
+) -> Result<Book<T>, Stop>
+    requires { (seat.desk ≡ desk) × (seat.number ≡ 0) × (desk.terms.seats ≡ 1) }
+    ensures ok { IfOk result (λ book. Closes desk (seat ∷ []) book) }
+    ensures err { IfErr result CanBreak }
+{
+    let Ok(mut seats) = Vec::with_capacity(alloc, 1) else {
+        return Err(Stop::NoMemory);
+    };
+    seats.push_reserved(seat);
+    match desk.close(rt, seats) {
+        Ok(book) => Ok(book),
+        Err(_) => unreachable!(),
+    }
+}
+
+/// Ends the only feed of a book. Each packet that was put was polled, or the answer is `FeedStuck`.
+fn finished<T: Drop>(alloc: Global, book: Book<T>, device: &[u8], feed: Feed) -> Result<(), Stop>
+    requires { map name_of book.taps ≡ (record { device = device.now; ring = feed.ring }) ∷ [] }
+    ensures ok { OnOk result (feed.put ≡ polled book.entries device.now) }
+    ensures err { IfErr result CanBreak }
+{
+    match feed.finish() {
+        Some(end) => settled(alloc, book, device, end),
+        None => Err(Stop::FeedStuck),
+    }
+}
+
+/// Settles the only feed of a book.
+fn settled<T: Drop>(
+    alloc: Global,
+    mut book: Book<T>,
+    device: &[u8],
+    end: FeedEnd,
+) -> Result<(), Stop>
+    requires { map name_of book.taps ≡ (record { device = device.now; ring = end.ring }) ∷ [] }
+    ensures ok { OnOk result (end.put ≡ polled book.entries device.now) }
+    ensures err { IfErr result CanBreak }
+{
+    match book.settle(alloc, device, end) {
+        Ok(left) => none_left(&left),
+        Err(_refused) => Err(Stop::NoMemory),
+    }
+}
+
+/// Tells a packet that was left in the feed.
+fn none_left(left: &Vec<StoredPacket>) -> Result<(), Stop>
+    ensures ok { OnOk result (left.now.items ≡ []) }
+    ensures err { IfErr result CanBreak }
+{
+    if left.is_empty() {
+        Ok(())
+    } else {
+        Err(Stop::FeedStuck)
     }
 }
 

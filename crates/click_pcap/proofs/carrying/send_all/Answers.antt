@@ -1,4 +1,4 @@
-use Rattle.std.proofs.Common.{◌≡◌, ℕ, List, [], ◌∷◌, ◌++◌, false, Err, sym, ap, subst, ◌∙◌, append-nil}
+use Rattle.std.proofs.Common.{◌≡◌, ℕ, List, [], ◌∷◌, ◌++◌, false, Err, refl, sym, ap, subst, ◌∙◌, append-nil}
 use Rattle.click_control.specs.Peers.{HasWritten}
 use Rattle.click_capture.specs.Captures.{whole, record_bytes}
 use Rattle.click_pcap.specs.Ways.{transmit}
@@ -18,8 +18,13 @@ returns-in-Ok-None g c =
     let sent = rw c.in-Ok-None.field-0-is at c.in-Ok-None.ensures.ok in
     let next = next-call c.args.passage.now c.loop.passage c.sent.new.self so_far.0 sent.0 so_far.1 so_far.2 sent.2 in
     let same : told o t (so_far.0 ++ (transmit sink, sent.0) ∷ []) ≡ told o t so_far.0 =
-    told-append o t so_far.0 ((transmit sink, sent.0) ∷ []) ∙ ap (λ (l : List ℕ). told o t so_far.0 ++ l) (told-none o t (transmit sink) sent.0 sent.1) ∙ append-nil (told o t so_far.0) in
-    (so_far.0 ++ (transmit sink, sent.0) ∷ [], next.0, next.1, subst (λ (l : List ℕ). HasWritten (output c.args.writer.now) (output c.loop.writer) l false) (sym same) so_far.3)
+    told-append o t so_far.0 ((transmit sink, sent.0) ∷ []) ∙ ap (λ (l : List ℕ). told o t so_far.0 ++ l) (told-none o t (transmit sink) sent.0 sent.1) ∙ append-nil (told o t so_far.0) in (
+      so_far.0 ++ (transmit sink, sent.0) ∷ [],
+      next.0,
+      next.1,
+      record { before = so_far.0; reply = sent.0; are = refl; none = sent.1 },
+      subst (λ (l : List ℕ). HasWritten (output c.args.writer.now) (output c.loop.writer) l false) (sym same) so_far.3,
+    )
 
 pub returns-in_default : goal.returns-in_default
 returns-in_default g c =
@@ -36,6 +41,7 @@ returns-in_default g c =
       so_far.0 ++ (transmit sink, sent.0) ∷ [],
       next.0,
       next.1,
+      tt,
       (tt, subst (λ (l : List ℕ). WroteFront (output c.args.writer.now) (output c.loop.writer) l false) (sym more) (front_of _ _ (told o t so_far.0) (record_bytes o (whole t p.bytes)) so_far.3)),
     )
 
@@ -58,6 +64,7 @@ returns-in-Err-written g c =
       so_far.0 ++ (transmit sink, sent.0) ∷ [],
       next.0,
       next.1,
+      tt,
       subst (λ (l : List ℕ). Wrote {T = Unit {0}} (Err c.in-Err-written.stop) (output c.args.writer.now) (output c.written.new.writer) l) (sym more) all,
     )
 

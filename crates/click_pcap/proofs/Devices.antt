@@ -1,0 +1,46 @@
+-- Whether a router has its source and its sink.
+use Rattle.std.proofs.Common.{◌≡◌, List, [], ◌∷◌, ◌++◌, Result, Ok, Err, ap, ◌∙◌, append_assoc, append-nil, sym}
+use Rattle.click_packet.specs.Packet.{Packet}
+use Rattle.click_router.specs.declared.call.Call.{Call}
+use Rattle.click_router.specs.declared.call.Reply.{Reply}
+use Rattle.click_router.specs.declared.call.Reply.TheVariants as reply
+use Rattle.click_pcap.specs.declared.stop.Stop.{Stop}
+use Rattle.click_pcap.specs.declared.stop.Stop.TheVariants as stop
+use Rattle.click_pcap.specs.Ways.{Way, called, polling}
+use Rattle.click_pcap.specs.Runs.{AsksEnds, AsksSource, AsksSink}
+
+longer : (w : Way) (c d : Call × Reply) → called (called w (c ∷ [])) (d ∷ []) ≡ called w (c ∷ d ∷ [])
+longer w c d = ap (λ (l : List (Call × Reply)). record w { calls = l }) (append_assoc w.calls (c ∷ []) (d ∷ []))
+
+-- the source was polled, and then the sink was asked
+pub ends-from : (T : Type 0) (old new : Way) (taken : List Packet) (a : Reply) (r : Result T Stop) → (a ≡ reply.NoDevice → ⊥)
+    → AsksSink (called old ((polling old.source taken, a) ∷ [])) new r → AsksEnds old new r
+ends-from T old new taken a (Ok v) some h = (taken, a, h.0, h.1 ∙ longer old _ _, some, h.2)
+ends-from T old new taken a (Err stop.NoSource) some h = absurd h.0
+ends-from T old new taken a (Err stop.NoSink) some h = (taken, a, h ∙ longer old _ _, some)
+ends-from T old new taken a (Err (stop.ShortHeader at)) some h = absurd h.0
+ends-from T old new taken a (Err (stop.Header f)) some h = absurd h.0
+ends-from T old new taken a (Err (stop.Cut n at)) some h = absurd h.0
+ends-from T old new taken a (Err (stop.TooLong n at f)) some h = absurd h.0
+ends-from T old new taken a (Err stop.HistoryFull) some h = (tt, ((polling old.source taken, a) ∷ [], h.1))
+ends-from T old new taken a (Err stop.FeedStuck) some h = (tt, ((polling old.source taken, a) ∷ [], h.1))
+ends-from T old new taken a (Err stop.NoMemory) some h = (tt, ((polling old.source taken, a) ∷ [], h.1))
+ends-from T old new taken a (Err stop.ReadFailed) some h = absurd h.0
+ends-from T old new taken a (Err stop.WriteFailed) some h = absurd h.0
+
+unasked : (w : Way) → w ≡ called w []
+unasked w = ap (λ (l : List (Call × Reply)). record w { calls = l }) (sym (append-nil w.calls))
+
+-- the source is missing, or the poll broke off
+pub ends-without : (S T : Type 0) (old new : Way) (s : Stop) → AsksSource {T = S} old new (Err s) → AsksEnds {T = T} old new (Err s)
+ends-without S T old new stop.NoSource h = h
+ends-without S T old new stop.NoSink h = absurd h.0
+ends-without S T old new (stop.ShortHeader at) h = absurd h.0
+ends-without S T old new (stop.Header f) h = absurd h.0
+ends-without S T old new (stop.Cut n at) h = absurd h.0
+ends-without S T old new (stop.TooLong n at f) h = absurd h.0
+ends-without S T old new stop.HistoryFull h = (tt, ([], h.1 ∙ unasked old))
+ends-without S T old new stop.FeedStuck h = (tt, ([], h.1 ∙ unasked old))
+ends-without S T old new stop.NoMemory h = (tt, ([], h.1 ∙ unasked old))
+ends-without S T old new stop.ReadFailed h = absurd h.0
+ends-without S T old new stop.WriteFailed h = absurd h.0
