@@ -199,7 +199,11 @@ pub(crate) fn close_and_settle<T: Drop, R: Wait>(
     requires some { 0 < vec_len seats }
     ensures { IfSome result (λ r. r.0.taps ≡ []) }
 {
-    let mut book = desk.close(rt, seats).ok()?;
-    let left = settle_all(alloc, &mut book, drivers)?;
-    Some((book, left))
+    match desk.close(rt, seats) {
+        Ok(mut book) => {
+            let left = settle_all(alloc, &mut book, drivers)?;
+            Some((book, left))
+        }
+        Err(_) => None,
+    }
 }
