@@ -1,5 +1,5 @@
 -- Lists of feeds, of which the first is settled.
-use Rattle.std.proofs.Common.{◌≡◌, ◌<◌, ℕ, zero, suc, true, List, [], ◌∷◌, length, get_or, map, refl, sym, ap, ◌∙◌, subst, arith}
+use Rattle.std.proofs.Common.{◌≡◌, ◌<◌, ℕ, suc, true, List, [], ◌∷◌, length, get_or, map, refl, sym, ap, ◌∙◌, arith}
 use Rattle.std.specs.List.{All, remove}
 use Rattle.click_rings.specs.Feeds.{FeedName, Drawing, name_of, are_apart}
 use Rattle.click_desk.specs.Polls.{without}
