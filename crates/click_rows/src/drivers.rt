@@ -1,8 +1,8 @@
 //! Drivers of devices in tests, and the settling of their feeds.
 
-ghost use Rattle.std.specs.Prelude.{◌≡◌, ◌<◌, [], map, IfSome, OnSome, vec_len};
+ghost use Rattle.std.specs.Prelude.{◌≡◌, ◌<◌, ◌+◌, [], true, map, IfSome, OnSome, vec_len};
 ghost use Rattle.std.specs.List.{All};
-ghost use Rattle.click_rings.specs.Feeds.{name_of};
+ghost use Rattle.click_rings.specs.Feeds.{name_of, are_apart};
 
 use click_desk::{Book, Desk, Seat};
 use click_packet::{Packet, StoredPacket};
@@ -154,8 +154,11 @@ fn settle_first<T>(
     drivers: &mut Vec<Driver>,
 ) -> Option<Vec<StoredPacket>>
     requires names { map name_of book.old.taps ≡ drivers.old.items }
+    requires apart { are_apart drivers.old.items ≡ true }
     requires some { 0 < vec_len drivers.old }
-    ensures { OnSome result (map name_of book.new.taps ≡ drivers.new.items) }
+    ensures names { OnSome result (map name_of book.new.taps ≡ drivers.new.items) }
+    ensures apart { are_apart drivers.new.items ≡ true }
+    ensures len { vec_len drivers.old ≡ vec_len drivers.new + 1 }
 {
     let Driver { device, feed, .. } = drivers.remove(0);
     let end = feed.finish()?;
@@ -171,11 +174,12 @@ fn settle_all<T>(
     book: &mut Book<T>,
     mut drivers: Vec<Driver>,
 ) -> Option<Vec<Vec<StoredPacket>>>
-    requires { map name_of book.old.taps ≡ drivers.items }
+    requires names { map name_of book.old.taps ≡ drivers.items }
+    requires apart { are_apart drivers.items ≡ true }
     ensures { OnSome result (book.new.taps ≡ []) }
 {
     let mut all = Vec::new(alloc);
-    for _ in 0..drivers.len() {
+    while !drivers.is_empty() {
         let left = settle_first(alloc, book, &mut drivers)?;
         all.push(left).ok()?;
     }
@@ -191,10 +195,15 @@ pub(crate) fn close_and_settle<T: Drop, R: Wait>(
     drivers: Vec<Driver>,
 ) -> Option<(Book<T>, Vec<Vec<StoredPacket>>)>
     requires seats { All (λ s. (s.desk ≡ desk) × (s.feeds ≡ drivers.items)) seats.items }
+    requires apart { are_apart drivers.items ≡ true }
     requires some { 0 < vec_len seats }
     ensures { IfSome result (λ r. r.0.taps ≡ []) }
 {
-    let mut book = desk.close(rt, seats).ok()?;
-    let left = settle_all(alloc, &mut book, drivers)?;
-    Some((book, left))
+    match desk.close(rt, seats) {
+        Ok(mut book) => {
+            let left = settle_all(alloc, &mut book, drivers)?;
+            Some((book, left))
+        }
+        Err(_) => None,
+    }
 }

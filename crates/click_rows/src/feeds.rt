@@ -1,8 +1,9 @@
 //! Feeds: what drivers put is what was polled and what is left, each once and in order.
 
-ghost use Rattle.std.specs.Prelude.{◌≡◌, ◌≤◌, [], false, IfOk, IfSome};
+ghost use Rattle.std.specs.Prelude.{◌≡◌, ◌≤◌, [], true, false, IfOk, IfSome};
 ghost use Rattle.std.specs.List.{All};
 ghost use Rattle.std.specs.Thread.{IsSync};
+ghost use Rattle.click_rings.specs.Feeds.{are_apart};
 ghost use Rattle.click_router.specs.Polls.{is_poll};
 
 use crate::drivers::{Driver, close_and_settle, count_on, drivers_of, hands_back, puts};
@@ -42,7 +43,8 @@ fn open<T: Drop, R: Wait>(
     letters: &[u8],
     places: usize,
 ) -> Option<(Desk<T>, Seat<T>, Vec<Driver>)>
-    ensures { IfSome result (λ r. (r.1.desk ≡ r.0) × (r.1.feeds ≡ r.2.items)) }
+    ensures seat { IfSome result (λ r. (r.1.desk ≡ r.0) × (r.1.feeds ≡ r.2.items)) }
+    ensures apart { IfSome result (λ r. are_apart r.2.items ≡ true) }
 {
     let (drivers, inlets) = drivers_of(alloc, letters, places)?;
     let (desk, seats) = Desk::open(rt, alloc, table, text, 1_000_000, 1, inlets).ok()?;
@@ -56,7 +58,8 @@ fn only_seat<T: Drop>(
     drivers: &Vec<Driver>,
     mut seats: Vec<Seat<T>>,
 ) -> Option<Seat<T>>
-    requires { All (λ s. s.desk ≡ desk.now) seats.items × All (λ s. s.feeds ≡ drivers.now.items) seats.items }
+    requires desk { All (λ s. s.desk ≡ desk.now) seats.items }
+    requires feeds { All (λ s. s.feeds ≡ drivers.now.items) seats.items }
     ensures { IfSome result (λ s. (s.desk ≡ desk.now) × (s.feeds ≡ drivers.now.items)) }
 {
     seats.pop()
@@ -70,7 +73,8 @@ fn close<T: Drop, R: Wait>(
     seat: Seat<T>,
     drivers: Vec<Driver>,
 ) -> Option<(Book<T>, Vec<Vec<StoredPacket>>)>
-    requires { (seat.desk ≡ desk) × (seat.feeds ≡ drivers.items) }
+    requires seat { (seat.desk ≡ desk) × (seat.feeds ≡ drivers.items) }
+    requires apart { are_apart drivers.items ≡ true }
     ensures { IfSome result (λ r. r.0.taps ≡ []) }
 {
     let mut seats = Vec::with_capacity(alloc, 1).ok()?;
@@ -271,14 +275,17 @@ fn drive_all<R: Threads + Sync>(
 ) -> Option<Vec<Driver>>
     ensures { IfSome result (λ d. d.items ≡ drivers.items) }
 {
-    thread::map_vec(
+    let driven = thread::map_vec(
         rt,
         drivers,
         &|driver: Driver| -> Driver
             ensures { result ≡ driver }
         { driver.drive(alloc, PACKETS, tries) },
-    )
-    .ok()
+    );
+    match driven {
+        Ok(drivers) => Some(drivers),
+        Err(_) => None,
+    }
 }
 
 /// Polls each of these devices.
@@ -358,6 +365,23 @@ fn are_all<T>(book: &Book<T>, letters: &[u8], put: &[u16], left: &[Vec<StoredPac
         })
 }
 
+/// Whether the desk is closed with its only seat, and of each device all that its driver put was polled or is left.
+fn closes_with_all<T: Drop, R: Wait>(
+    rt: &R,
+    alloc: Global,
+    desk: Desk<T>,
+    seat: Seat<T>,
+    drivers: Vec<Driver>,
+    letters: &[u8],
+) -> Option<bool>
+    requires seat { (seat.desk ≡ desk) × (seat.feeds ≡ drivers.items) }
+    requires apart { are_apart drivers.items ≡ true }
+{
+    let put = counts(alloc, &drivers)?;
+    let (book, left) = close(rt, alloc, desk, seat, drivers)?;
+    Some(are_all(&book, letters, put.as_slice(), left.as_slice()))
+}
+
 /// Drivers of the devices of these letters put packets while a seat polls them.
 fn driven<T: Handlers + Send + Drop, R: Threads + Wait + Sync>(
     rt: &R,
@@ -369,10 +393,7 @@ fn driven<T: Handlers + Send + Drop, R: Threads + Wait + Sync>(
 ) -> Option<bool> {
     let (desk, seat, drivers) = open(rt, alloc, table, SIXTEEN, letters, 8)?;
     let (drivers, seat) = drive_and_poll(rt, alloc, &desk, seat, drivers, letters, polls, tries);
-    let drivers = drivers?;
-    let put = counts(alloc, &drivers)?;
-    let (book, left) = close(rt, alloc, desk, seat, drivers)?;
-    Some(are_all(&book, letters, put.as_slice(), left.as_slice()))
+    closes_with_all(rt, alloc, desk, seat, drivers?, letters)
 }
 
 /// Which of these runs.
