@@ -1,29 +1,43 @@
 //! What an element of a new configuration takes over from the one before.
 
-ghost use Rattle.std.specs.Prelude.{◌≡◌, length};
+ghost use Rattle.std.specs.Prelude.{◌≡◌, length, true};
 ghost use Rattle.click_classes.specs.TakeOver.{filled, left_over, taken_over};
 
 use crate::packet_list::PacketList;
 use crate::state::State;
 
-/// A queue takes the first packets of an old one. Those that it has no room for are its drops.
-fn take_packets(list: &mut PacketList, drops: &mut u64, highest: &mut usize, old: &PacketList)
-    ensures list { list.new ≡ filled list.old old.now }
-    ensures drops { drops.new ≡ left_over list.old old.now }
-    ensures highest { highest.new ≡ length (filled list.old old.now).packets }
+/// A queue takes the first packets of an old one, which keeps its own where that is asked. Those that it has no room for are its drops.
+fn take_packets(
+    list: &mut PacketList,
+    drops: &mut u64,
+    highest: &mut usize,
+    old: &mut PacketList,
+    keeps: bool,
+)
+    ensures list { list.new ≡ filled list.old old.old }
+    ensures drops { drops.new ≡ left_over list.old old.old }
+    ensures highest { highest.new ≡ length (filled list.old old.old).packets }
+    ensures kept { keeps ≡ true → old.new ≡ old.old }
 {
-    list.fill(old);
+    let had = old.len();
+    if keeps {
+        list.fill(old);
+    } else {
+        list.take_from(old);
+    }
     *highest = list.len();
-    *drops = (old.len() - *highest) as u64;
+    *drops = (had - *highest) as u64;
 }
 
 impl State {
-    ghost use Rattle.std.specs.Prelude.{◌≡◌};
+    ghost use Rattle.std.specs.Prelude.{◌≡◌, true};
     ghost use Rattle.click_classes.specs.TakeOver.{taken_over};
 
     /// Takes over what the element's like-named predecessor holds, if that is of its class: a Queue and a FrontDropQueue take packets, all others nothing. It takes no memory.
-    pub fn take_over(&mut self, old: &State)
-        ensures { self.new ≡ taken_over self.old old.now }
+    /// The predecessor keeps its packets where that is asked; else a queue with the same room takes them as they lie.
+    pub fn take_over(&mut self, old: &mut State, keeps: bool)
+        ensures taken { self.new ≡ taken_over self.old old.old }
+        ensures kept { keeps ≡ true → old.new ≡ old.old }
     {
         match self {
             State::Queue {
@@ -32,7 +46,7 @@ impl State {
                 highest,
             } => {
                 if let State::Queue { list: stored, .. } = old {
-                    take_packets(list, drops, highest, stored);
+                    take_packets(list, drops, highest, stored, keeps);
                 }
             }
             State::FrontDropQueue {
@@ -41,7 +55,7 @@ impl State {
                 highest,
             } => {
                 if let State::FrontDropQueue { list: stored, .. } = old {
-                    take_packets(list, drops, highest, stored);
+                    take_packets(list, drops, highest, stored, keeps);
                 }
             }
             _ => {}

@@ -75,8 +75,8 @@ impl Plant {
     ghost use Rattle.click_engine.specs.Plant.{Plant as Seen, IsStarted};
     ghost use Rattle.click_engine.specs.Rounds.{arrive, transmit, transmitted, source_of, sink_of, round, task, bursts, sourced, state_at, unqueued, discarded, Worked};
     ghost use Rattle.click_engine.specs.declared.world.Element.{Element};
-    ghost use Rattle.click_engine.specs.TakeOver.{place_of, named, taken};
-    ghost use Rattle.click_engine.specs.kept.Taking.{taken_at};
+    ghost use Rattle.click_engine.specs.TakeOver.{place_of, taken};
+    ghost use Rattle.click_engine.specs.kept.Taking.{taken_at, IsKeptBefore};
     ghost use Rattle.click_engine.specs.World.{blank};
 
     /// The plant of a net whose elements begin with these states, one for each, in flat order. It takes all the memory that a run will need.
@@ -293,34 +293,31 @@ impl Plant {
         answer
     }
 
-    /// The element with that flat name.
-    fn named(&self, name: &[u8]) -> Option<&Element>
-        ensures { option_map (λ element. element.now) result ≡ named self.now name.now }
-    {
-        self.work.elements.get(self.place(name)?)
-    }
-
     /// Takes over from the plant of the configuration before: each Queue and FrontDropQueue takes the packets of the element there that has its flat name and
     /// its class, the first that it has room for, and the number of overruns goes on. It takes no memory.
     pub fn take_over(&mut self, old: &mut Plant)
         ensures { self.new ≡ taken self.old old.old }
     {
-        for at in 0..self.wires.net().shapes().len() {
-            self.take_over_at(at, &*old);
+        for at in (0..self.wires.net().shapes().len()).rev() {
+            self.take_over_at(at, old);
         }
         self.work.overruns = old.work.overruns;
     }
 
-    /// The element at a place takes over from the one of its name.
-    fn take_over_at(&mut self, at: usize, old: &Plant)
+    /// The element at a place takes over from the one of its name. That one is needed again only where an element before this place has the name too.
+    fn take_over_at(&mut self, at: usize, old: &mut Plant)
         requires { at < length self.old.net.names }
-        ensures { self.new ≡ taken_at self.old old.now at }
+        ensures taken { self.new ≡ taken_at self.old old.old at }
+        ensures kept { IsKeptBefore self.old.net.names at old.old old.new }
     {
-        let Some(before) = old.named(self.wires.net().name(at)) else {
+        let name = self.wires.net().name(at);
+        let Some(place) = old.place(name) else {
             return;
         };
-        if at < self.work.elements.len() {
-            self.work.elements[at].state.take_over(&before.state);
+        let keeps = self.place(name) != Some(at);
+        if at < self.work.elements.len() && place < old.work.elements.len() {
+            let state = &mut self.work.elements[at].state;
+            state.take_over(&mut old.work.elements[place].state, keeps);
         }
     }
 }

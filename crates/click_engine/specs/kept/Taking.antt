@@ -1,5 +1,5 @@
 -- Elements take over one after the other.
-use Rattle.std.specs.Prelude.{ℕ, List, [], slice_set, slice_index_or}
+use Rattle.std.specs.Prelude.{◌≡◌, ℕ, ◌<◌, List, [], slice_set, slice_index_or}
 use Rattle.click_engine.specs.Plant.{Plant}
 use Rattle.click_engine.specs.TakeOver.{named, after_it}
 use Rattle.click_engine.specs.World.{blank}
@@ -7,3 +7,8 @@ use Rattle.click_engine.specs.World.{blank}
 -- the element at a place takes over from the one that had its name
 abbrev pub taken_at : Plant → Plant → ℕ → Plant
 taken_at v old at = record v { elements = slice_set v.elements at (after_it (slice_index_or v.elements at blank) (named old (slice_index_or v.net.names at []))) }
+
+-- the elements before a place still find what they had to take over
+pub record IsKeptBefore (names : List (List ℕ)) (at : ℕ) (old new : Plant) : Type 0 where
+  pub overruns : new.overruns ≡ old.overruns
+  pub finds : (j : ℕ) → j < at → named new (slice_index_or names j []) ≡ named old (slice_index_or names j [])

@@ -1,7 +1,11 @@
-use Rattle.std.proofs.Common.{◌≡◌, take}
-use Rattle.click_engine.specs.TakeOver.{each_taken}
+use Rattle.std.proofs.Common.{◌≡◌}
+use Rattle.click_engine.specs.kept.Taking.{IsKeptBefore}
+use Rattle.click_engine.proofs.Taking.{taken_from}
 use Rattle.click_engine.proofs.plant.Plant.take_over.Given as goal
 
--- the elements at the places so far have taken over
+-- the elements from the place on have taken over, and those before it find what they had to take over
 abbrev pub invariant-loop-at : goal.invariant-loop-at
-invariant-loop-at l = l.self ≡ record l.initial.self { elements = each_taken l.old (take l.at l.initial.self.net.names) l.initial.self.elements }
+invariant-loop-at l = record {
+  taken : l.self ≡ record l.initial.self { elements = taken_from l.initial.old l.initial.self.net.names l.initial.self.elements l.at };
+  kept : IsKeptBefore l.initial.self.net.names l.at l.initial.old l.old;
+}

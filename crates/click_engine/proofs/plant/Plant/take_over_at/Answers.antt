@@ -1,20 +1,61 @@
-use Rattle.std.proofs.Common.{◌≡◌, ◌<◌, ◌∙◌, Some, [], ap, sym, length, set, get_or, arith}
-use Rattle.std.specs.Prelude.{slice_index_or}
-use Rattle.std.proofs.lemmas.List.{get_or_default}
+use Rattle.std.proofs.Common.{◌≡◌, ◌<◌, ◌≤◌, ◌∙◌, Some, None, [], ap, sym, refl, length, set, get_or, slice_get, slice_set, arith, position}
+use Rattle.std.specs.Str.{bytes_eq}
+use Rattle.std.proofs.lemmas.List.{get_or_default, set-get_or}
+use Rattle.std.specs.Prelude.{slice_index_or, option_and_then}
+use Rattle.std.proofs.lemmas.Option.{slice_get_read, slice_get_past}
 use Rattle.click_engine.specs.Plant.{Plant}
-use Rattle.click_engine.specs.TakeOver.{named, after_it}
+use Rattle.click_engine.specs.TakeOver.{named, place_of, after_it}
 use Rattle.click_engine.specs.World.{blank}
 use Rattle.click_engine.specs.declared.world.Element.{Element}
+use Rattle.click_engine.proofs.Taking.{finds_before, set-past}
+use Rattle.click_engine.proofs.plant.Plant.take_over_at.Goals.{else-at-len-via-then-at-len+else-place-len, else-at-len-via-else-at-len}
 use Rattle.click_engine.proofs.plant.Plant.take_over_at.Goals as goal
 
-pub returns-then-at-len : goal.returns-then-at-len
-returns-then-at-len c =
-    let v = c.self.view_is in let at = c.args.at in let old = c.args.old.now in
+pub returns-then-place-len-clause-taken : goal.returns-then-place-len-clause-taken
+returns-then-place-len-clause-taken c =
+    let v = c.self.view_is in let at = c.args.at in let old = c.args.old.now in let place = c.in-Some.place in
     let es = c.self.inside.work.elements.items in let r = c.index_mut.result.now in
-    let place : at < length es = omega (arith, c.if-at-len.true, c.len.ensures, c.self.inside.work.elements.ok.0) in
-    let lent : r ≡ get_or es at blank = c.index_mut.ensures.value ∙ get_or_default es at _ blank place in
-    let name : c.name.result.now ≡ slice_index_or c.self.inside.wires.names at [] = c.name.ensures.value ∙ ap (λ ns. slice_index_or ns at []) (ap (λ n. n.names) c.net.ensures) in
-    let here : record r { state = c.take_over.new.self } ≡ after_it (get_or es at blank) (named old (slice_index_or c.self.inside.wires.names at [])) =
-    ap (λ s. record r { state = s }) c.take_over.ensures ∙ ap (after_it r) (c.in-Some.ensures ∙ ap (named old) name)
-    ∙ ap (λ (e : Element). after_it e (named old (slice_index_or c.self.inside.wires.names at []))) lent in
-    rw here (ap (λ (q : Plant). record q { elements = set q.elements at (after_it (get_or q.elements at blank) (named old (slice_index_or q.net.names at []))) }) v)
+    let os = c.old.inside.work.elements.items in let b = c.index_mut-then-place-len.result.now in
+    let here : at < length es = omega (arith, c.if-at-len.true, c.len.ensures, c.self.inside.work.elements.ok.0) in
+    let there : place < length os = omega (arith, c.if-place-len.true, c.len-then-at-len.ensures, c.old.inside.work.elements.ok.0) in
+    let lent : r ≡ get_or es at blank = c.index_mut.ensures.value ∙ get_or_default es at _ blank here in
+    let name : c.name-name.result.now ≡ slice_index_or c.self.inside.wires.names at [] = c.name-name.ensures.value ∙ ap (λ ns. slice_index_or ns at []) (ap (λ n. n.names) c.net.ensures) in
+    let found : Some b ≡ named old (slice_index_or c.self.inside.wires.names at []) =
+    sym (slice_get_read os (length os) place b refl there c.index_mut-then-place-len.ensures.value) ∙ ap (λ (p : Plant). slice_get p.elements place) c.old.view_is
+    ∙ ap (λ o. option_and_then (slice_get old.elements) o) c.in-Some.ensures ∙ ap (named old) name in
+    let after : record r { state = c.take_over.new.self } ≡ after_it (get_or es at blank) (named old (slice_index_or c.self.inside.wires.names at [])) =
+    ap (λ s. record r { state = s }) c.take_over.ensures.taken ∙ ap (after_it r) found ∙ ap (λ (e : Element). after_it e (named old (slice_index_or c.self.inside.wires.names at []))) lent in
+    rw after (ap (λ (q : Plant). record q { elements = set q.elements at (after_it (get_or q.elements at blank) (named old (slice_index_or q.net.names at []))) }) v)
+
+pub returns-then-place-len-clause-kept : goal.returns-then-place-len-clause-kept
+returns-then-place-len-clause-kept c =
+    let at = c.args.at in let place = c.in-Some.place in let names = c.args.self.now.net.names in let name = c.name-name.result.now in
+    let os = c.old.inside.work.elements.items in let b = c.index_mut-then-place-len.result.now in
+    let e : Element = record b { state = c.take_over.new.old } in
+    let found : Some place ≡ position (bytes_eq name) c.old.inside.wires.names = c.in-Some.ensures ∙ ap (λ (p : Plant). place_of p name) (sym c.old.view_is) in
+    record {
+      overruns = ap (λ (p : Plant). p.overruns) c.old.view_is;
+      finds = λ j before.
+          finds_before names at c.old.inside.wires.names os place b e name c.place-2.result c.place-2.ensures found c.index_mut-then-place-len.ensures.value
+          (λ k. ap (λ s. record b { state = s }) (c.take_over.ensures.kept (c.ne-keeps.ensures ∙ k))) j before
+          ∙ ap (λ (p : Plant). named p (slice_index_or names j [])) c.old.view_is;
+    }
+
+pub returns-else-at-len-clause-taken : goal.returns-else-at-len-clause-taken
+returns-else-at-len-clause-taken c =
+    let v = c.args.self.now in let at = c.args.at in let old = c.args.old.now in let place = c.in-Some.place in
+    let es = c.self.inside.work.elements.items in let os = c.old.inside.work.elements.items in
+    let n = slice_index_or v.net.names at [] in
+    let name : c.name-name.result.now ≡ n =
+    c.name-name.ensures.value ∙ ap (λ ns. slice_index_or ns at []) (ap (λ n. n.names) c.net.ensures ∙ ap (λ (p : Plant). p.net.names) c.self.view_is) in
+    let count : length es ≡ length v.elements = ap (λ (p : Plant). length p.elements) c.self.view_is in
+    elim c.else-at-len.branch [
+      | else-at-len-via-then-at-len+else-place-len w ↦
+          let past : length os ≤ place = omega (arith, w.if-place-len.false, w.len-then-at-len.ensures, c.old.inside.work.elements.ok.0) in
+          let none : named old n ≡ None =
+          ap (named old) (sym name) ∙ ap (λ o. option_and_then (slice_get old.elements) o) (sym c.in-Some.ensures) ∙ ap (λ (p : Plant). slice_get p.elements place) (sym c.old.view_is) ∙ slice_get_past os place past in
+          sym (ap (λ l. record v { elements = l }) (ap (λ o. slice_set v.elements at (after_it (slice_index_or v.elements at blank) o)) none ∙ set-get_or v.elements at blank))
+      | else-at-len-via-else-at-len w ↦
+          let past : length v.elements ≤ at = omega (arith, count, w.if-at-len.false, c.len.ensures, c.self.inside.work.elements.ok.0) in
+          sym (ap (λ l. record v { elements = l }) (set-past v.elements at (after_it (slice_index_or v.elements at blank) (named old n)) past))
+    ]
