@@ -1,5 +1,4 @@
 -- A reply as a history keeps it.
-use Rattle.std.specs.Prelude.{Option}
 use Rattle.click_router.specs.declared.call.Reply.{Reply}
 use Rattle.click_router.specs.declared.call.Reply.TheVariants as reply
 use Rattle.click_desk.specs.declared.recorded.Kept.{Kept}

@@ -15,7 +15,7 @@ use crate::recorded::Recorded;
 use crate::terms::Terms;
 use click_packet::PacketRoom;
 use click_rings::Tap;
-use click_router::{Call, Handlers, Reply, Router};
+use click_router::{Call, Handlers, Router};
 use std::alloc::{AllocError, Global};
 use std::marker::Model;
 use thiserror::Error;
@@ -88,32 +88,43 @@ impl<T> Booked<T> {
     }
 }
 
-/// Room for a packet in the history and in a seat's list.
-pub(crate) type Rooms = (Option<PacketRoom>, Option<PacketRoom>);
+/// Room for a packet in the reply, in the history and in a seat's list.
+pub(crate) struct Rooms {
+    told: Option<PacketRoom>,
+    entered: Option<PacketRoom>,
+    listed: Option<PacketRoom>,
+}
 
 /// Room for the packet that the call may send.
 fn rooms_for(alloc: Global, call: &Call) -> Result<Rooms, AllocError>
-    ensures { IfOk result (λ rooms. is_transmit call.now ≡ true → (is_some rooms.0 ≡ true) × (is_some rooms.1 ≡ true)) }
+    ensures { IfOk result (λ rooms. is_transmit call.now ≡ true → (is_some rooms.told ≡ true) × (is_some rooms.entered ≡ true) × (is_some rooms.listed ≡ true)) }
 {
     match call {
-        Call::Transmit { .. } => Ok((Some(PacketRoom::new(alloc)?), Some(PacketRoom::new(alloc)?))),
-        _ => Ok((None, None)),
+        Call::Transmit { .. } => Ok(Rooms {
+            told: Some(PacketRoom::new(alloc)?),
+            entered: Some(PacketRoom::new(alloc)?),
+            listed: Some(PacketRoom::new(alloc)?),
+        }),
+        _ => Ok(Rooms {
+            told: None,
+            entered: None,
+            listed: None,
+        }),
     }
 }
 
 /// What is kept of a reply, in the history and in a seat's list.
 pub(crate) fn recorded_twice(
     alloc: Global,
-    reply: &Reply,
-    rooms: Rooms,
+    reply: &Recorded,
+    entered: Option<PacketRoom>,
+    listed: Option<PacketRoom>,
 ) -> Result<(Recorded, Recorded), AllocError>
-    requires { sends_packet reply.now ≡ true → (is_some rooms.0 ≡ true) × (is_some rooms.1 ≡ true) }
+    requires { sends_packet reply.now ≡ true → (is_some entered ≡ true) × (is_some listed ≡ true) }
     ensures kept { IfOk result (λ both. (both.0 ≡ reply.now) × (both.1 ≡ reply.now)) }
     ensures light { IfErr result (λ _. holds_memory reply.now ≡ true) }
 {
-    let entered = Recorded::of(alloc, reply, rooms.0)?;
-    let told = Recorded::of(alloc, reply, rooms.1)?;
-    Ok((entered, told))
+    Ok((reply.copy(alloc, entered)?, reply.copy(alloc, listed)?))
 }
 
 impl<T: Handlers> Booked<T> {
@@ -124,7 +135,7 @@ impl<T: Handlers> Booked<T> {
         number: usize,
         calls: &mut Vec<(Call, Recorded)>,
         call: Call,
-    ) -> Result<Reply, DeskFault>
+    ) -> Result<Recorded, DeskFault>
         requires { is_poll call ≡ false }
         ensures terms { self.new.terms ≡ self.old.terms }
         ensures legal { Legal self.new.terms.opening self.new.entries self.new.state }
@@ -145,11 +156,17 @@ impl<T: Handlers> Booked<T> {
         let Ok(rooms) = rooms_for(alloc, &call) else {
             return Err(DeskFault::NoMemory);
         };
-        let Ok(reply) = self.router.step(alloc, &call) else {
+        let Rooms {
+            told,
+            entered,
+            listed: beside,
+        } = rooms;
+        let stepped = self.router.step(alloc, &call);
+        let Ok(reply) = Recorded::of(stepped, told) else {
             return Err(DeskFault::NoMemory);
         };
         // A reply that holds memory comes of a call that changed nothing.
-        let Ok((entered, told)) = recorded_twice(alloc, &reply, rooms) else {
+        let Ok((entered, told)) = recorded_twice(alloc, &reply, entered, beside) else {
             return Err(DeskFault::NoMemory);
         };
         self.entries.push_reserved(Entry {

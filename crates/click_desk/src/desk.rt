@@ -8,6 +8,7 @@ ghost use Rattle.click_desk.specs.Polls.{Polls};
 ghost use Rattle.click_desk.specs.Sittings.{Calls, IsRefused};
 
 use crate::booked::{Booked, DeskFault};
+use crate::recorded::Recorded;
 use crate::rule::{DeskPass, Give, Queue, Take};
 use crate::seat::Seat;
 use crate::terms::Terms;
@@ -67,6 +68,16 @@ pub(crate) fn give<T, R: Wait>(rt: &R, queue: &Queue<T>, pass: &mut DeskPass<T>,
     }
 }
 
+/// The reply of what was entered. It is made last of all, since one has a packet's room and costs to move.
+fn reply_of(entered: Result<Recorded, DeskFault>) -> Result<Reply, DeskFault>
+    ensures { result ≡ entered }
+{
+    match entered {
+        Ok(reply) => Ok(reply.into_reply()),
+        Err(fault) => Err(fault),
+    }
+}
+
 impl<T: Handlers> Desk<T> {
     /// One call of a seat that belongs to this desk. A poll is made by `poll`.
     pub fn call<R: Wait>(&self, rt: &R, seat: &mut Seat<T>, call: Call) -> Result<Reply, DeskFault>
@@ -79,7 +90,7 @@ impl<T: Handlers> Desk<T> {
         let mut booked = take(rt, &self.queue, &mut seat.pass);
         let result = booked.enter(self.alloc, seat.number, &mut seat.calls, call);
         give(rt, &self.queue, &mut seat.pass, booked);
-        result
+        reply_of(result)
     }
 
     /// Up to `most` packets of a device's feed, 1 to 32, enter in one call. Nothing is drawn where the configuration has no such device, or the desk no feed of it.
@@ -99,6 +110,6 @@ impl<T: Handlers> Desk<T> {
         let mut booked = take(rt, &self.queue, &mut seat.pass);
         let result = booked.enter_poll(self.alloc, seat.number, &mut seat.calls, device, most);
         give(rt, &self.queue, &mut seat.pass, booked);
-        result
+        reply_of(result)
     }
 }

@@ -12,7 +12,7 @@ use crate::entry::Entry;
 use crate::recorded::Recorded;
 use click_packet::{PacketRoom, StoredPacket};
 use click_rings::{Tap, draw_from, seen_in};
-use click_router::{Call, Handlers, Reply};
+use click_router::{Call, Handlers};
 use click_text::sequence::Sequence;
 use std::alloc::{AllocError, Global};
 
@@ -123,7 +123,7 @@ impl<T: Handlers> Booked<T> {
         calls: &mut Vec<(Call, Recorded)>,
         device: &[u8],
         most: usize,
-    ) -> Result<Reply, DeskFault>
+    ) -> Result<Recorded, DeskFault>
         ensures terms { self.new.terms ≡ self.old.terms }
         ensures legal { Legal self.new.terms.opening self.new.entries self.new.state }
         ensures polled { IsPolled self.new.entries self.new.taps }
@@ -144,10 +144,11 @@ impl<T: Handlers> Booked<T> {
         };
         let (call, listed) = room.draw(self.taps.as_mut_slice(), device, count);
         // From here on nothing fails: a poll and its reply take no memory.
-        let Ok(reply) = self.router.step(alloc, &call) else {
+        let stepped = self.router.step(alloc, &call);
+        let Ok(reply) = Recorded::of(stepped, None) else {
             unreachable!()
         };
-        let Ok((entered, told)) = recorded_twice(alloc, &reply, (None, None)) else {
+        let Ok((entered, told)) = recorded_twice(alloc, &reply, None, None) else {
             unreachable!()
         };
         self.entries.push_reserved(Entry {

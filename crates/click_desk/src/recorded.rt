@@ -4,8 +4,8 @@ ghost use Rattle.std.specs.Prelude.{◌≡◌, true, IfOk, IfErr, is_some};
 ghost use Rattle.click_router.specs.One.{holds_memory, sends_packet};
 ghost use Rattle.click_desk.specs.Recorded.{reply_of};
 
-use click_packet::{PacketRoom, StoredPacket};
-use click_router::{Refusal, Reply};
+use click_packet::{Packet, PacketRoom, StoredPacket};
+use click_router::{Refusal, Reply, StepFault};
 use click_text::sequence::Sequence;
 use std::alloc::{AllocError, Global};
 use std::marker::Model;
@@ -38,32 +38,79 @@ impl Model for Recorded {
 }
 
 impl Recorded {
-    /// What is kept of a reply. Where it is a packet that was sent, there must be room for it already, and nothing is taken.
-    pub fn of(
-        alloc: Global,
-        reply: &Reply,
+    /// What is kept of what a call came to. Where a packet was sent, there must be room for it already. It takes no memory.
+    pub(crate) fn of(
+        stepped: Result<Reply, StepFault>,
         room: Option<PacketRoom>,
-    ) -> Result<Recorded, AllocError>
-        requires { sends_packet reply.now ≡ true → is_some room ≡ true }
-        ensures kept { IfOk result (λ recorded. recorded ≡ reply.now) }
-        ensures light { IfErr result (λ _. holds_memory reply.now ≡ true) }
+    ) -> Result<Recorded, StepFault>
+        requires { IfOk stepped (λ reply. sends_packet reply ≡ true → is_some room ≡ true) }
+        ensures { result ≡ stepped }
     {
-        let kept = match reply {
-            Reply::Value(value) => {
-                Kept::Value(Sequence::of(Vec::from_slice(alloc, value.as_slice())?))
-            }
-            Reply::Done => Kept::Done,
-            Reply::Refused(why) => Kept::Refused(why.copy(alloc)?),
-            Reply::Entered(count) => Kept::Entered(*count),
-            Reply::Worked(count) => Kept::Worked(*count),
-            Reply::Sent(None) => Kept::Sent(None),
-            Reply::Sent(Some(packet)) => match room {
-                Some(room) => Kept::Sent(Some(room.keep(packet))),
+        // Each reply is taken apart where it stands, since one as a whole has a packet's room.
+        let kept = match stepped {
+            Ok(Reply::Value(value)) => Kept::Value(value),
+            Ok(Reply::Done) => Kept::Done,
+            Ok(Reply::Refused(why)) => Kept::Refused(why),
+            Ok(Reply::Entered(count)) => Kept::Entered(count),
+            Ok(Reply::Worked(count)) => Kept::Worked(count),
+            Ok(Reply::Sent(None)) => Kept::Sent(None),
+            Ok(Reply::Sent(Some(packet))) => match room {
+                Some(room) => Kept::Sent(Some(room.keep(&packet))),
                 None => unreachable!(),
             },
-            Reply::NoDevice => Kept::NoDevice,
+            Ok(Reply::NoDevice) => Kept::NoDevice,
+            Err(fault) => return Err(fault),
         };
         Ok(Recorded { kept })
+    }
+
+    /// An equal one. Where a packet was sent, there must be room for it already; only a value and a refusal take memory.
+    pub(crate) fn copy(
+        &self,
+        alloc: Global,
+        room: Option<PacketRoom>,
+    ) -> Result<Recorded, AllocError>
+        requires { sends_packet self.now ≡ true → is_some room ≡ true }
+        ensures copy { IfOk result (λ copy. copy ≡ self.now) }
+        ensures light { IfErr result (λ _. holds_memory self.now ≡ true) }
+    {
+        let kept = match &self.kept {
+            Kept::Value(value) => {
+                Kept::Value(Sequence::of(Vec::from_slice(alloc, value.as_slice())?))
+            }
+            Kept::Done => Kept::Done,
+            Kept::Refused(why) => Kept::Refused(why.copy(alloc)?),
+            Kept::Entered(count) => Kept::Entered(*count),
+            Kept::Worked(count) => Kept::Worked(*count),
+            Kept::Sent(None) => Kept::Sent(None),
+            Kept::Sent(Some(packet)) => match room {
+                Some(room) => Kept::Sent(Some(room.copy_of(packet))),
+                None => unreachable!(),
+            },
+            Kept::NoDevice => Kept::NoDevice,
+        };
+        Ok(Recorded { kept })
+    }
+
+    /// The reply.
+    pub(crate) fn into_reply(self) -> Reply
+        ensures { result ≡ self }
+    {
+        let Recorded { kept } = self;
+        match kept {
+            Kept::Value(value) => Reply::Value(value),
+            Kept::Done => Reply::Done,
+            Kept::Refused(why) => Reply::Refused(why),
+            Kept::Entered(count) => Reply::Entered(count),
+            Kept::Worked(count) => Reply::Worked(count),
+            Kept::Sent(None) => Reply::Sent(None),
+            Kept::Sent(Some(stored)) => {
+                let mut packet = Packet::empty();
+                stored.write_to(&mut packet);
+                Reply::Sent(Some(packet))
+            }
+            Kept::NoDevice => Reply::NoDevice,
+        }
     }
 
     /// What is kept of the reply.

@@ -229,7 +229,7 @@ fn write(
     let Some((at, _)) = running.find(element) else {
         return Ok(Reply::Refused(Refusal::NoElement));
     };
-    write_element(table, &mut running.plant, at, alloc, handler, text)
+    write_element(table, &mut *running.plant, at, alloc, handler, text)
 }
 
 impl Handlers for Table {

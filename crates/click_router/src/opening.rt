@@ -24,7 +24,8 @@ use std::marker::Model;
 pub struct Prepared {
     pub(crate) text: Sequence<u8>,
     pub(crate) flat: Flat,
-    pub(crate) plant: Plant,
+    // In a box, so that a router costs little to move: a desk hands it from thread to thread.
+    pub(crate) plant: Box<Plant>,
 }
 
 impl Model for Prepared {
@@ -34,9 +35,9 @@ impl Model for Prepared {
 
     ghost Value = { RouterState };
 
-    ghost view = { λ p. record { text = p.text; flat = p.flat; plant = p.plant } };
+    ghost view = { λ p. record { text = p.text; flat = p.flat; plant = p.plant.value } };
 
-    ghost invariant = { λ p. p.plant.net.names ≡ names_of p.flat.elements };
+    ghost invariant = { λ p. p.plant.value.net.names ≡ names_of p.flat.elements };
 }
 
 impl Prepared {
@@ -285,6 +286,13 @@ fn push(states: &mut Vec<State>, state: State) -> Result<(), AllocError>
     Ok(())
 }
 
+/// The plant in a box.
+fn boxed(alloc: Global, plant: Plant) -> Result<Box<Plant>, AllocError>
+    ensures { IfOk result (λ b. b.value ≡ plant) }
+{
+    Ok(Box::new(alloc, plant)?)
+}
+
 /// The router of a flat form, or its first fault.
 fn prepare_flat(alloc: Global, text: Sequence<u8>, flat: Flat) -> Result<Prepared, ConfigFault>
     requires known { AreKnown flat.elements }
@@ -296,7 +304,7 @@ fn prepare_flat(alloc: Global, text: Sequence<u8>, flat: Flat) -> Result<Prepare
     match resolve(alloc, &flat, states.as_slice()) {
         Err(fault) => Err(of_ports(alloc, flat.elements.as_slice(), fault)?),
         Ok(net) => {
-            let plant = Plant::new(alloc, net, states)?;
+            let plant = boxed(alloc, Plant::new(alloc, net, states)?)?;
             Ok(Prepared { text, flat, plant })
         }
     }

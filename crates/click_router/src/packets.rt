@@ -40,7 +40,7 @@ impl Prepared {
         if !self.plant.has_source(device) {
             return Reply::NoDevice;
         }
-        enter_all(&mut self.plant, device, taken);
+        enter_all(&mut *self.plant, device, taken);
         Reply::Entered(taken.len() as u64)
     }
 

@@ -19,7 +19,7 @@ impl Prepared {
         ensures { self.new ≡ taken prepared self.old }
     {
         let mut next = prepared;
-        next.plant.take_over(&mut self.plant);
+        next.plant.take_over(&mut *self.plant);
         *self = next;
     }
 

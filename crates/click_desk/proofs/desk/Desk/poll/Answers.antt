@@ -25,4 +25,4 @@ returns-clause-ok g c =
     let calls = c.seat.inside.calls.items in
     let calls2 = c.enter_poll-result.new.calls.items in
     let some = as_call c.take-booked.result c.enter_poll-result.new.self c.seat.inside.number calls calls2 c.args.device.now c.args.most c.enter_poll-result.result (record { terms = e.terms; legal = e.legal; ok = e.ok; err = e.err; full = e.full }) in
-    rw (← c.seat.view_is) (polls _ _ c.seat.inside.number calls _ _ _ _ _ calls2 c.args.device.now c.args.most c.enter_poll-result.result c.seat.invariant.1 c.seat.invariant.2.made c.take-booked.ensures.taken some c.give.ensures.given)
+    rw (c.reply_of.ensures, ← c.seat.view_is) (polls _ _ c.seat.inside.number calls _ _ _ _ _ calls2 c.args.device.now c.args.most c.enter_poll-result.result c.seat.invariant.1 c.seat.invariant.2.made c.take-booked.ensures.taken some c.give.ensures.given)
