@@ -1,11 +1,11 @@
 #!/usr/bin/env bash
-# The driver that docs/FEEDS.md shows is the one of the tests: the lines of its block stand in crates/click_rows/src/drivers.rt, one after another.
+# The driver that docs/FEEDS.md shows is the one of the tests: the lines of its block stand in crates/click_desk_rows/src/drivers.rt, one after another.
 #
 #   tools/feed_page.sh [PAGE]
 set -eu
 . "$(dirname "$(readlink -f "$0")")/checking.sh"
 page=${1:-$top/docs/FEEDS.md}
-source=$top/crates/click_rows/src/drivers.rt
+source=$top/crates/click_desk_rows/src/drivers.rt
 
 sed -n 's/^    *//; t keep; b; :keep p' "$page" > "$work/block"
 sed 's/^ *//' "$source" > "$work/source"

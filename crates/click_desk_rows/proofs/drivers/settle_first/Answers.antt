@@ -2,8 +2,8 @@ use Rattle.std.proofs.Common.{◌≡◌, sym, ap, ◌∙◌, map, arith}
 use Rattle.click_rings.specs.Feeds.{FeedName, name_of}
 use Rattle.click_desk.specs.Booklet.{Booklet}
 use Rattle.click_desk.specs.Polls.{without}
-use Rattle.click_rows.proofs.Settled.{first-ring, first-settled}
-use Rattle.click_rows.proofs.drivers.settle_first.Goals as goal
+use Rattle.click_desk_rows.proofs.Settled.{first-ring, first-settled}
+use Rattle.click_desk_rows.proofs.drivers.settle_first.Goals as goal
 
 pub settle-requires : goal.settle-requires
 settle-requires g c = λ k d below same.

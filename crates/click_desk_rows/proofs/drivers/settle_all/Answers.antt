@@ -1,7 +1,7 @@
 use Rattle.std.proofs.Common.{◌≡◌, length, arith}
 use Rattle.std.proofs.lemmas.Bool.Decides.{nat_tests}
-use Rattle.click_rows.proofs.Settled.{nothing-named}
-use Rattle.click_rows.proofs.drivers.settle_all.Goals as goal
+use Rattle.click_desk_rows.proofs.Settled.{nothing-named}
+use Rattle.click_desk_rows.proofs.drivers.settle_all.Goals as goal
 
 pub returns : goal.returns
 returns g c =

@@ -1,6 +1,6 @@
 use Rattle.std.proofs.Common.{◌∙◌, sym, arith}
-use Rattle.click_rows.proofs.Settled.{same-each}
-use Rattle.click_rows.proofs.feeds.drive_all.Goals as goal
+use Rattle.click_desk_rows.proofs.Settled.{same-each}
+use Rattle.click_desk_rows.proofs.feeds.drive_all.Goals as goal
 
 pub returns-in-Ok : goal.returns-in-Ok
 returns-in-Ok g c =

@@ -2,7 +2,7 @@ use Rattle.std.proofs.Common.{◌≡◌, List, sym, subst}
 use Rattle.std.specs.List.{All}
 use Rattle.std.proofs.lemmas.List.Elements.{All-push}
 use Rattle.click_desk.specs.Sittings.{Sitting}
-use Rattle.click_rows.proofs.seats.worked.Goals as goal
+use Rattle.click_desk_rows.proofs.seats.worked.Goals as goal
 
 pub returns-then-good-fine : goal.returns-then-good-fine
 returns-then-good-fine g c = (

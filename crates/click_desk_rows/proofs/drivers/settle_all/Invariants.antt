@@ -1,6 +1,6 @@
 use Rattle.std.proofs.Common.{◌≡◌, true, map, vec_len}
 use Rattle.click_rings.specs.Feeds.{name_of, are_apart}
-use Rattle.click_rows.proofs.drivers.settle_all.Given as goal
+use Rattle.click_desk_rows.proofs.drivers.settle_all.Given as goal
 
 abbrev pub invariant-loop-alloc : goal.invariant-loop-alloc
 invariant-loop-alloc g l = record {

@@ -1,0 +1,15 @@
+//! Tests of the desk: its seats, its feeds, and the sessions and drivers that work at it.
+#![tactic(auto)]
+
+#[cfg(test)]
+mod desk;
+#[cfg(test)]
+mod drivers;
+#[cfg(test)]
+mod feeds;
+#[cfg(test)]
+mod runs;
+#[cfg(test)]
+mod seats;
+#[cfg(test)]
+mod workers;
