@@ -72,12 +72,8 @@ fn is_too_large<T: Handlers>(
     }
 }
 
-/// Swaps to a text of a byte too many are refused and change nothing; one to a text of a byte less is made.
-fn holds_at_the_limit<T: Handlers + Drop>(table: T, alloc: Global) -> Result<bool, AllocError> {
-    let Ok(prepared) = prepare(alloc, RUNNING) else {
-        return Ok(false);
-    };
-    let mut router = Router::open(table, prepared);
+/// Whether four packets enter.
+fn fills<T: Handlers>(router: &mut Router<T>, alloc: Global) -> Result<bool, AllocError> {
     for _ in 0..4 {
         let device = kept(alloc, b"a")?;
         let packet = StoredPacket::of(alloc, &Packet::empty())?;
@@ -88,6 +84,11 @@ fn holds_at_the_limit<T: Handlers + Drop>(table: T, alloc: Global) -> Result<boo
             return Ok(false);
         }
     }
+    Ok(true)
+}
+
+/// Whether swaps to a text of a byte too many are refused and change nothing.
+fn stands<T: Handlers>(router: &mut Router<T>, alloc: Global) -> Result<bool, AllocError> {
     let swap = Call::Swap {
         text: blanks(alloc, LONGEST_TEXT + 1)?,
     };
@@ -96,20 +97,31 @@ fn holds_at_the_limit<T: Handlers + Drop>(table: T, alloc: Global) -> Result<boo
         text: blanks(alloc, LONGEST_TEXT + 1)?,
     };
     for call in [&swap, &write] {
-        if !reads(&mut router, alloc, &STANDS)? || !is_too_large(&mut router, alloc, call)? {
+        if !reads(router, alloc, &STANDS)? || !is_too_large(router, alloc, call)? {
             return Ok(false);
         }
     }
-    if !reads(&mut router, alloc, &STANDS)? {
-        return Ok(false);
-    }
+    reads(router, alloc, &STANDS)
+}
+
+/// Whether a swap to a text of a byte less is made.
+fn swaps<T: Handlers>(router: &mut Router<T>, alloc: Global) -> Result<bool, AllocError> {
     let longest = Call::Swap {
         text: blanks(alloc, LONGEST_TEXT)?,
     };
     if !matches!(router.step(alloc, &longest), Ok(Reply::Done)) {
         return Ok(false);
     }
-    reads(&mut router, alloc, &[(b"list", b"0\n")])
+    reads(router, alloc, &[(b"list", b"0\n")])
+}
+
+/// Swaps to a text of a byte too many are refused and change nothing; one to a text of a byte less is made.
+fn holds_at_the_limit<T: Handlers + Drop>(table: T, alloc: Global) -> Result<bool, AllocError> {
+    let Ok(prepared) = prepare(alloc, RUNNING) else {
+        return Ok(false);
+    };
+    let mut router = Router::open(table, prepared);
+    Ok(fills(&mut router, alloc)? && stands(&mut router, alloc)? && swaps(&mut router, alloc)?)
 }
 
 #[derive(Drop)]
