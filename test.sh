@@ -5,7 +5,7 @@ set -eu
 cd "$(dirname "$(readlink -f "$0")")"
 . tools/built.sh
 sources=$(sum_of_sources)
-# A check for each processor, where there are 4 GB for each: none was seen to take more than 3.2. By itself rt expects them to take several times as much,
+# A check for each processor, where there are 4 GB for each: none was seen to take more than 3.5. By itself rt expects them to take several times as much,
 # and leaves processors idle.
 most=$(awk -v most="$(nproc)" '/^MemAvailable:/ { room = int($2 / 4000000); print room < 1 ? 1 : room < most ? room : most }' /proc/meminfo)
 RT_JOBS=${RT_JOBS:-$most} rt ci

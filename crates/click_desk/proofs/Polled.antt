@@ -1,5 +1,5 @@
 -- Laws of what a history polled.
-use Rattle.std.proofs.Common.{◌≡◌, ℕ, zero, suc, ◌<◌, ◌≤◌, ◌+◌, Bool, true, false, if◌then◌else◌, List, [], ◌∷◌, ◌++◌, map, length, slice_index_or, Option, Some, None, sym, refl, ap, ◌∙◌, subst, true≢false, append-nil, append_assoc, arith}
+use Rattle.std.proofs.Common.{◌≡◌, ℕ, zero, suc, ◌≤◌, Bool, true, false, if◌then◌else◌, List, [], ◌∷◌, ◌++◌, length, slice_index_or, sym, refl, ap, ◌∙◌, true≢false, append-nil, append_assoc, arith}
 use Rattle.std.specs.Str.{bytes_eq}
 use Rattle.click_packet.specs.Packet.{Packet}
 use Rattle.click_rings.specs.Feeds.{Drawing, drew}

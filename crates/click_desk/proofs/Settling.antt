@@ -1,6 +1,5 @@
 -- What a settlement rests on.
-use Rattle.std.proofs.Common.{◌≡◌, ℕ, zero, suc, ◌<◌, ◌≤◌, ◌+◌, Bool, true, false, ◌||◌, ◌&&◌, if◌then◌else◌, List, [], ◌∷◌, ◌++◌, map, length, take, drop, slice_index_or, slice_set, sym, refl, ap, ◌∙◌, subst, true≢false, arith}
-use Rattle.std.proofs.Math.Bool.{not}
+use Rattle.std.proofs.Common.{◌≡◌, ℕ, zero, suc, ◌<◌, Bool, true, false, if◌then◌else◌, List, [], ◌∷◌, map, length, slice_index_or, slice_set, sym, refl, ap, ◌∙◌, true≢false, arith}
 use Rattle.std.specs.List.{All, remove}
 use Rattle.std.specs.Str.{bytes_eq}
 use Rattle.click_rings.specs.Feeds.{Drawing, FeedName, name_of, has_feed, are_apart, IsPlace}

@@ -11,11 +11,10 @@ ghost use Rattle.click_desk.specs.History.{entry, Legal};
 ghost use Rattle.click_desk.specs.Polls.{IsPolled};
 
 use crate::entry::Entry;
-use crate::recorded::Recorded;
 use crate::terms::Terms;
 use click_packet::PacketRoom;
 use click_rings::Tap;
-use click_router::{Call, Handlers, Router};
+use click_router::{Call, Handlers, Recorded, Router};
 use std::alloc::{AllocError, Global};
 use std::marker::Model;
 use thiserror::Error;
@@ -161,8 +160,7 @@ impl<T: Handlers> Booked<T> {
             entered,
             listed: beside,
         } = rooms;
-        let stepped = self.router.step(alloc, &call);
-        let Ok(reply) = Recorded::of(stepped, told) else {
+        let Ok(reply) = self.router.record(alloc, &call, told) else {
             return Err(DeskFault::NoMemory);
         };
         // A reply that holds memory comes of a call that changed nothing.

@@ -8,11 +8,10 @@ ghost use Rattle.click_desk.specs.Polls.{Polls};
 ghost use Rattle.click_desk.specs.Sittings.{Calls, IsRefused};
 
 use crate::booked::{Booked, DeskFault};
-use crate::recorded::Recorded;
 use crate::rule::{DeskPass, Give, Queue, Take};
 use crate::seat::Seat;
 use crate::terms::Terms;
-use click_router::{Call, Handlers, Reply};
+use click_router::{Call, Handlers, Recorded, Reply};
 use std::alloc::Global;
 use std::marker::Model;
 use std::sync::Wait;
@@ -39,18 +38,29 @@ impl<T> Model for Desk<T> {
     ghost invariant = { λ d. (ruled_capacity d.queue ≡ 1) × (0 < d.terms.seats) };
 }
 
-/// Takes the booked router. It tries again until it finds it.
+/// How often a call yields its core at most, before it looks again for a booked router that another has.
+const MOST_YIELDS: u32 = 64;
+
+fn yield_times(times: u32) {
+    for _ in 0..times {
+        thread::yield_now();
+    }
+}
+
+/// Takes the booked router. It tries again until it finds it, and after each try that failed it yields for longer, since who looks slows down who has it.
 pub(crate) fn take<T, R: Wait>(rt: &R, queue: &Queue<T>, pass: &mut DeskPass<T>) -> Booked<T>
     requires queue { IsPassOf queue.now pass.old }
     requires opened { (view pass.old).opened ≡ true }
     ensures queue { IsPassOf queue.now pass.new }
     ensures taken { Takes (view pass.old) result (view pass.new) }
 {
+    let mut yields: u32 = 1;
     for _ in rt.forever() {
         match queue.try_pop_as::<Take>(pass) {
             Some(booked) => return booked,
-            None => thread::yield_now(),
+            None => yield_times(yields),
         }
+        yields = yields.saturating_mul(2).min(MOST_YIELDS);
     }
     unreachable!()
 }
@@ -69,7 +79,7 @@ pub(crate) fn give<T, R: Wait>(rt: &R, queue: &Queue<T>, pass: &mut DeskPass<T>,
 }
 
 /// The reply of what was entered. It is made last of all, since one has a packet's room and costs to move.
-fn reply_of(entered: Result<Recorded, DeskFault>) -> Result<Reply, DeskFault>
+fn told(entered: Result<Recorded, DeskFault>) -> Result<Reply, DeskFault>
     ensures { result ≡ entered }
 {
     match entered {
@@ -87,10 +97,26 @@ impl<T: Handlers> Desk<T> {
         ensures ok { IfOk result (λ reply. Calls seat.old seat.new call reply) }
         ensures err { IfErr result (λ fault. IsRefused seat.old seat.new fault) }
     {
+        told(self.record(rt, seat, call))
+    }
+
+    /// One call as `call` makes it, with the reply as the history keeps it, which is small.
+    pub fn record<R: Wait>(
+        &self,
+        rt: &R,
+        seat: &mut Seat<T>,
+        call: Call,
+    ) -> Result<Recorded, DeskFault>
+        requires seat { seat.old.desk ≡ self.now }
+        requires call { is_poll call ≡ false }
+        ensures seat { (seat.new.desk ≡ seat.old.desk) × (seat.new.feeds ≡ seat.old.feeds) × (seat.new.number ≡ seat.old.number) }
+        ensures ok { IfOk result (λ reply. Calls seat.old seat.new call reply) }
+        ensures err { IfErr result (λ fault. IsRefused seat.old seat.new fault) }
+    {
         let mut booked = take(rt, &self.queue, &mut seat.pass);
         let result = booked.enter(self.alloc, seat.number, &mut seat.calls, call);
         give(rt, &self.queue, &mut seat.pass, booked);
-        reply_of(result)
+        result
     }
 
     /// Up to `most` packets of a device's feed, 1 to 32, enter in one call. Nothing is drawn where the configuration has no such device, or the desk no feed of it.
@@ -110,6 +136,6 @@ impl<T: Handlers> Desk<T> {
         let mut booked = take(rt, &self.queue, &mut seat.pass);
         let result = booked.enter_poll(self.alloc, seat.number, &mut seat.calls, device, most);
         give(rt, &self.queue, &mut seat.pass, booked);
-        reply_of(result)
+        told(result)
     }
 }

@@ -1,7 +1,6 @@
 //! One call of one seat, with its reply.
 
-use crate::recorded::Recorded;
-use click_router::Call;
+use click_router::{Call, Recorded};
 
 /// One call of one seat, with its reply.
 #[derive(Drop)]

@@ -9,10 +9,9 @@ ghost use Rattle.click_desk.specs.Polls.{IsPolled, MayTake};
 
 use crate::booked::{Booked, DeskFault, recorded_twice};
 use crate::entry::Entry;
-use crate::recorded::Recorded;
 use click_packet::{PacketRoom, StoredPacket};
 use click_rings::{Tap, draw_from, seen_in};
-use click_router::{Call, Handlers};
+use click_router::{Call, Handlers, Recorded};
 use click_text::sequence::Sequence;
 use std::alloc::{AllocError, Global};
 
@@ -144,8 +143,7 @@ impl<T: Handlers> Booked<T> {
         };
         let (call, listed) = room.draw(self.taps.as_mut_slice(), device, count);
         // From here on nothing fails: a poll and its reply take no memory.
-        let stepped = self.router.step(alloc, &call);
-        let Ok(reply) = Recorded::of(stepped, None) else {
+        let Ok(reply) = self.router.record(alloc, &call, None) else {
             unreachable!()
         };
         let Ok((entered, told)) = recorded_twice(alloc, &reply, None, None) else {

@@ -3,9 +3,8 @@
 ghost use Rattle.std.specs.Prelude.{◌≡◌};
 ghost use Rattle.click_desk.specs.Sittings.{IsSeat};
 
-use crate::recorded::Recorded;
 use crate::rule::DeskPass;
-use click_router::Call;
+use click_router::{Call, Recorded};
 use std::marker::Model;
 
 /// Who makes calls at a desk, from any thread.

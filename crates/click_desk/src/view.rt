@@ -2,8 +2,7 @@
 
 use crate::charter::Charter;
 use crate::entry::Entry;
-use crate::recorded::Recorded;
-use click_router::Call;
+use click_router::{Call, Recorded};
 use std::collections::LinkedList;
 
 /// What a pass knows and may do. No value of it is made.

@@ -1,9 +1,9 @@
 //! Sessions and drivers in threads of their own, held by gates.
 
 use click_control::{Ended, Reading, Writing};
-use click_desk::{Entry, Kept, Seat};
+use click_desk::{Entry, Seat};
 use click_handlers::{Table, TakesTable, with_table};
-use click_router::Handlers;
+use click_router::{Handlers, Kept};
 use click_workers::{AllRan, Door, Gate, OpenGate, SessionEnd, run_workers};
 use std::alloc::Global;
 use std::sync::Wait;

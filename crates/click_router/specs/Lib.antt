@@ -3,6 +3,7 @@ pub mod Globals
 pub mod One
 pub mod Opened
 pub mod Polls
+pub mod Recorded
 pub mod State
 pub mod Swap
 pub mod kept

@@ -1,9 +1,9 @@
-//! Copies of calls and replies.
+//! Copies of calls and refusals.
 
 ghost use Rattle.std.specs.Prelude.{◌≡◌, length, take, slice_index_or, true, IfOk, IfErr};
-ghost use Rattle.click_router.specs.One.{refusal_holds, holds_memory};
+ghost use Rattle.click_router.specs.One.{refusal_holds};
 
-use crate::call::{Call, Refusal, Reply};
+use crate::call::{Call, Refusal};
 use crate::fault::{ConfigFault, FaultPlace};
 use click_packet::StoredPacket;
 use click_text::sequence::Sequence;
@@ -118,25 +118,6 @@ impl Refusal {
             Refusal::WrongWay => Refusal::WrongWay,
             Refusal::Handler(fault) => Refusal::Handler(*fault),
             Refusal::Config(fault) => Refusal::Config(fault.copy(alloc)?),
-        })
-    }
-}
-
-impl Reply {
-    /// An equal reply. It takes memory only where the reply holds some.
-    pub fn copy(&self, alloc: Global) -> Result<Reply, AllocError>
-        ensures copy { IfOk result (λ copy. copy ≡ self.now) }
-        ensures light { IfErr result (λ _. holds_memory self.now ≡ true) }
-    {
-        Ok(match self {
-            Reply::Value(value) => Reply::Value(bytes_of(alloc, value)?),
-            Reply::Done => Reply::Done,
-            Reply::Refused(why) => Reply::Refused(why.copy(alloc)?),
-            Reply::Entered(count) => Reply::Entered(*count),
-            Reply::Worked(count) => Reply::Worked(*count),
-            Reply::Sent(Some(packet)) => Reply::Sent(Some(packet.copy())),
-            Reply::Sent(None) => Reply::Sent(None),
-            Reply::NoDevice => Reply::NoDevice,
         })
     }
 }

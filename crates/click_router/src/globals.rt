@@ -7,8 +7,9 @@ ghost use Rattle.click_router.specs.Globals.{global_value, element_list, lines_o
 ghost use Rattle.click_router.specs.One.{read_global, is_hotconfig};
 ghost use Rattle.click_router.specs.kept.GlobalNames.{name_of};
 
-use crate::call::{Reply, StepFault, refusal_of};
+use crate::call::{StepFault, refusal_of};
 use crate::opening::Prepared;
+use crate::recorded::{Kept, Recorded};
 use click_classes::{CLASSES, Class};
 use click_expand::{FlatElement, flat_text};
 use click_text::sequence::Sequence;
@@ -128,14 +129,14 @@ impl Prepared {
     }
 
     /// Reads a handler of the router itself.
-    pub(crate) fn read_global(&self, alloc: Global, name: &[u8]) -> Result<Reply, StepFault>
+    pub(crate) fn read_global(&self, alloc: Global, name: &[u8]) -> Result<Recorded, StepFault>
         ensures { IfOk result (λ reply. reply ≡ read_global name.now (global_value self.now name.now)) }
     {
         let Some(handler) = named(name) else {
-            return Ok(Reply::Refused(refusal_of(is_hotconfig(name))));
+            return Ok(Recorded::refused(refusal_of(is_hotconfig(name))));
         };
         match self.global_value(alloc, handler) {
-            Ok(value) => Ok(Reply::Value(Sequence::of(value))),
+            Ok(value) => Ok(Recorded::of(Kept::Value(Sequence::of(value)))),
             Err(_) => Err(StepFault::NoMemory),
         }
     }

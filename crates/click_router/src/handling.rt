@@ -12,18 +12,27 @@ use crate::call::{Call, Refusal, Reply, StepFault, refusal_of};
 use crate::globals::{has_global, is_hotconfig};
 use crate::handler_name::split;
 use crate::opening::Prepared;
+use crate::recorded::{Kept, Recorded};
 use click_engine::{Element, Plant};
 use click_handlers::{HandlerFault, ReadRow, Table, WriteRow};
+use click_packet::PacketRoom;
 use click_text::sequence::Sequence;
 use std::alloc::Global;
 
 /// What answers the calls of a router: a table of handlers. All that stands above a router is generic in it.
 pub trait Handlers {
-    ghost use Rattle.std.specs.Prelude.{◌≡◌, true, IfOk, IfErr, MatchResult};
-    ghost use Rattle.click_router.specs.One.{Answers, takes_memory, holds_memory};
+    ghost use Rattle.std.specs.Prelude.{◌≡◌, true, is_some, IfOk, IfErr, MatchResult};
+    ghost use Rattle.click_router.specs.One.{Answers, takes_memory, holds_memory, is_transmit};
 
-    /// Answers one call, as `Router::step` says it.
-    fn step(&self, running: &mut Prepared, alloc: Global, call: &Call) -> Result<Reply, StepFault>
+    /// Answers one call, as `Router::record` says it.
+    fn record(
+        &self,
+        running: &mut Prepared,
+        alloc: Global,
+        call: &Call,
+        room: Option<PacketRoom>,
+    ) -> Result<Recorded, StepFault>
+        requires { is_transmit call.now ≡ true → is_some room ≡ true }
         ensures answer { MatchResult result (λ reply. Answers running.old call.now running.new reply) (λ _. running.new ≡ running.old) }
         ensures refused { IfErr result (λ _. takes_memory call.now ≡ true) }
         ensures light { IfOk result (λ reply. holds_memory reply ≡ true → running.new ≡ running.old) };
@@ -48,13 +57,13 @@ impl Prepared {
 }
 
 /// The reply to what a read handler answers.
-fn read_reply(answer: Result<Vec<u8>, HandlerFault>) -> Result<Reply, StepFault>
+fn read_reply(answer: Result<Vec<u8>, HandlerFault>) -> Result<Recorded, StepFault>
     ensures { (value : Result (List ℕ) HandlerFault) → IsReadAnswer value answer → IfOk result (λ reply. reply ≡ spec.read_reply value) }
 {
     match answer {
-        Ok(value) => Ok(Reply::Value(Sequence::of(value))),
+        Ok(value) => Ok(Recorded::of(Kept::Value(Sequence::of(value)))),
         Err(HandlerFault::NoMemory) => Err(StepFault::NoMemory),
-        Err(fault) => Ok(Reply::Refused(Refusal::Handler(fault))),
+        Err(fault) => Ok(Recorded::refused(Refusal::Handler(fault))),
     }
 }
 
@@ -64,7 +73,7 @@ fn read_row(
     element: &Element,
     alloc: Global,
     text: &[u8],
-) -> Result<Reply, StepFault>
+) -> Result<Recorded, StepFault>
     requires { class element.now.state ≡ row.now.class }
     ensures { IfOk result (λ reply. reply ≡ spec.read_reply (read_value row.now.name.items element.now text.now)) }
 {
@@ -78,13 +87,13 @@ fn read_element(
     alloc: Global,
     handler: &[u8],
     text: &[u8],
-) -> Result<Reply, StepFault>
+) -> Result<Recorded, StepFault>
     ensures { IfOk result (λ reply. reply ≡ spec.read_element element.now handler.now text.now) }
 {
     let class = element.state.class();
     match table.read(class, handler) {
         Some(row) => read_row(row, element, alloc, text),
-        None => Ok(Reply::Refused(refusal_of(table.write(class, handler).is_some()))),
+        None => Ok(Recorded::refused(refusal_of(table.write(class, handler).is_some()))),
     }
 }
 
@@ -95,7 +104,7 @@ fn read(
     alloc: Global,
     name: &[u8],
     text: &[u8],
-) -> Result<Reply, StepFault>
+) -> Result<Recorded, StepFault>
     ensures { IfOk result (λ reply. reply ≡ spec.read running.now name.now text.now) }
 {
     let Some((element, handler)) = split(name) else {
@@ -103,23 +112,23 @@ fn read(
     };
     match running.find(element) {
         Some((_, found)) => read_element(table, found, alloc, handler, text),
-        None => Ok(Reply::Refused(Refusal::NoElement)),
+        None => Ok(Recorded::refused(Refusal::NoElement)),
     }
 }
 
 /// Whether a handler can be asked one way.
-fn check(has: bool, has_other: bool) -> Reply
+fn check(has: bool, has_other: bool) -> Recorded
     ensures { result ≡ spec.check has has_other }
 {
     if has {
-        Reply::Done
+        Recorded::of(Kept::Done)
     } else {
-        Reply::Refused(refusal_of(has_other))
+        Recorded::refused(refusal_of(has_other))
     }
 }
 
 /// Whether a handler can be read.
-fn check_read(table: &Table, running: &Prepared, name: &[u8]) -> Reply
+fn check_read(table: &Table, running: &Prepared, name: &[u8]) -> Recorded
     ensures { result ≡ spec.check_read running.now name.now }
 {
     let Some((element, handler)) = split(name) else {
@@ -132,12 +141,12 @@ fn check_read(table: &Table, running: &Prepared, name: &[u8]) -> Reply
             let writes = table.write(class, handler).is_some();
             check(reads, writes)
         }
-        None => Reply::Refused(Refusal::NoElement),
+        None => Recorded::refused(Refusal::NoElement),
     }
 }
 
 /// Whether a handler can be written.
-fn check_write(table: &Table, running: &Prepared, name: &[u8]) -> Reply
+fn check_write(table: &Table, running: &Prepared, name: &[u8]) -> Recorded
     ensures { result ≡ spec.check_write running.now name.now }
 {
     let Some((element, handler)) = split(name) else {
@@ -150,18 +159,18 @@ fn check_write(table: &Table, running: &Prepared, name: &[u8]) -> Reply
             let writes = table.write(class, handler).is_some();
             check(writes, reads)
         }
-        None => Reply::Refused(Refusal::NoElement),
+        None => Recorded::refused(Refusal::NoElement),
     }
 }
 
 /// What a write handler says; `Err` where memory ran out.
-fn write_reply(fault: Option<HandlerFault>) -> Result<Reply, StepFault>
+fn write_reply(fault: Option<HandlerFault>) -> Result<Recorded, StepFault>
     ensures { MatchOption fault (result ≡ Ok Reply.Done) (λ f. MatchResult result (λ reply. (reply ≡ Reply.Refused (Refusal.Handler f)) × (f ≢ HandlerFault.NoMemory)) (λ _. Unit {0})) }
 {
     match fault {
-        None => Ok(Reply::Done),
+        None => Ok(Recorded::of(Kept::Done)),
         Some(HandlerFault::NoMemory) => Err(StepFault::NoMemory),
-        Some(fault) => Ok(Reply::Refused(Refusal::Handler(fault))),
+        Some(fault) => Ok(Recorded::refused(Refusal::Handler(fault))),
     }
 }
 
@@ -172,7 +181,7 @@ fn write_row(
     at: usize,
     alloc: Global,
     text: &[u8],
-) -> Result<Reply, StepFault>
+) -> Result<Recorded, StepFault>
     requires there { at < length plant.old.elements }
     requires class { class (slice_index_or plant.old.elements at blank).state ≡ row.now.class }
     ensures { MatchResult result
@@ -200,7 +209,7 @@ fn write_element(
     alloc: Global,
     handler: &[u8],
     text: &[u8],
-) -> Result<Reply, StepFault>
+) -> Result<Recorded, StepFault>
     requires { at < length plant.old.elements }
     ensures { MatchResult result
         (λ reply. spec.write_element plant.old at (slice_index_or plant.old.elements at blank) handler.now text.now ≡ (plant.new, reply))
@@ -209,7 +218,7 @@ fn write_element(
     let class = plant.element(at).state.class();
     match table.write(class, handler) {
         Some(row) => write_row(row, plant, at, alloc, text),
-        None => Ok(Reply::Refused(refusal_of(table.read(class, handler).is_some()))),
+        None => Ok(Recorded::refused(refusal_of(table.read(class, handler).is_some()))),
     }
 }
 
@@ -220,20 +229,26 @@ fn write(
     alloc: Global,
     name: &[u8],
     text: &[u8],
-) -> Result<Reply, StepFault>
+) -> Result<Recorded, StepFault>
     ensures { MatchResult result (λ reply. spec.write running.old name.now text.now ≡ (running.new, reply)) (λ _. running.new ≡ running.old) }
 {
     let Some((element, handler)) = split(name) else {
-        return Ok(Reply::Refused(refusal_of(has_global(name))));
+        return Ok(Recorded::refused(refusal_of(has_global(name))));
     };
     let Some((at, _)) = running.find(element) else {
-        return Ok(Reply::Refused(Refusal::NoElement));
+        return Ok(Recorded::refused(Refusal::NoElement));
     };
     write_element(table, &mut *running.plant, at, alloc, handler, text)
 }
 
 impl Handlers for Table {
-    fn step(&self, running: &mut Prepared, alloc: Global, call: &Call) -> Result<Reply, StepFault> {
+    fn record(
+        &self,
+        running: &mut Prepared,
+        alloc: Global,
+        call: &Call,
+        room: Option<PacketRoom>,
+    ) -> Result<Recorded, StepFault> {
         match call {
             Call::Read { name, text } => {
                 read(self, running, alloc, name.as_slice(), text.as_slice())
@@ -250,7 +265,10 @@ impl Handlers for Table {
             Call::Arrive { device, packet } => Ok(running.arrive(device.as_slice(), packet)),
             Call::Poll { device, taken } => Ok(running.poll(device.as_slice(), taken.as_slice())),
             Call::Round => Ok(running.round()),
-            Call::Transmit { device } => Ok(running.transmit(device.as_slice())),
+            Call::Transmit { device } => match room {
+                Some(room) => Ok(running.transmit_kept(device.as_slice(), room)),
+                None => unreachable!(),
+            },
         }
     }
 }

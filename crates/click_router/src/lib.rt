@@ -10,6 +10,7 @@ mod handling;
 pub mod laws;
 mod opening;
 mod packets;
+mod recorded;
 mod router;
 mod swapping;
 
@@ -17,4 +18,5 @@ pub use call::{Call, Refusal, Reply, StepFault};
 pub use fault::{ConfigFault, FaultKind, FaultPlace, Side};
 pub use handling::Handlers;
 pub use opening::{Prepared, prepare};
+pub use recorded::{Kept, Recorded};
 pub use router::Router;

@@ -5,8 +5,9 @@ ghost use Rattle.click_router.specs.One.{arrivals, entered, worked, sent};
 
 use crate::call::Reply;
 use crate::opening::Prepared;
+use crate::recorded::{Kept, Recorded};
 use click_engine::Plant;
-use click_packet::{Packet, StoredPacket};
+use click_packet::{Packet, PacketRoom, StoredPacket};
 
 /// Packets enter from a device one after another.
 fn enter_all(plant: &mut Plant, device: &[u8], taken: &[StoredPacket])
@@ -21,37 +22,37 @@ fn enter_all(plant: &mut Plant, device: &[u8], taken: &[StoredPacket])
 
 impl Prepared {
     /// A packet enters from a device.
-    pub(crate) fn arrive(&mut self, device: &[u8], packet: &StoredPacket) -> Reply
+    pub(crate) fn arrive(&mut self, device: &[u8], packet: &StoredPacket) -> Recorded
         ensures { entered self.old device.now (packet.now ∷ []) ≡ (self.new, result) }
     {
         let mut whole = Packet::empty();
         packet.write_to(&mut whole);
         if self.plant.enter(device, &whole) {
-            Reply::Entered(1)
+            Recorded::of(Kept::Entered(1))
         } else {
-            Reply::NoDevice
+            Recorded::of(Kept::NoDevice)
         }
     }
 
     /// Packets enter from a device one after another.
-    pub(crate) fn poll(&mut self, device: &[u8], taken: &[StoredPacket]) -> Reply
+    pub(crate) fn poll(&mut self, device: &[u8], taken: &[StoredPacket]) -> Recorded
         ensures { entered self.old device.now taken.now ≡ (self.new, result) }
     {
         if !self.plant.has_source(device) {
-            return Reply::NoDevice;
+            return Recorded::of(Kept::NoDevice);
         }
         enter_all(&mut *self.plant, device, taken);
-        Reply::Entered(taken.len() as u64)
+        Recorded::of(Kept::Entered(taken.len() as u64))
     }
 
     /// Each task runs once.
-    pub(crate) fn round(&mut self) -> Reply
+    pub(crate) fn round(&mut self) -> Recorded
         ensures { worked self.old ≡ (self.new, result) }
     {
-        Reply::Worked(self.plant.round())
+        Recorded::of(Kept::Worked(self.plant.round()))
     }
 
-    /// A device takes a packet.
+    /// A device takes a packet, which stays as it came.
     pub(crate) fn transmit(&mut self, device: &[u8]) -> Reply
         ensures { sent self.old device.now ≡ (self.new, result) }
     {
@@ -59,5 +60,20 @@ impl Prepared {
             return Reply::NoDevice;
         }
         Reply::Sent(self.plant.pull(device))
+    }
+
+    /// A device takes a packet, which is kept in this room.
+    pub(crate) fn transmit_kept(&mut self, device: &[u8], room: PacketRoom) -> Recorded
+        ensures { sent self.old device.now ≡ (self.new, result) }
+    {
+        if !self.plant.has_sink(device) {
+            return Recorded::of(Kept::NoDevice);
+        }
+        let mut whole = Packet::empty();
+        if self.plant.pull_into(device, &mut whole) {
+            Recorded::of(Kept::Sent(Some(room.keep(&whole))))
+        } else {
+            Recorded::of(Kept::Sent(None))
+        }
     }
 }

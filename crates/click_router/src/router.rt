@@ -3,6 +3,8 @@
 use crate::call::{Call, Reply, StepFault};
 use crate::handling::Handlers;
 use crate::opening::Prepared;
+use crate::recorded::Recorded;
+use click_packet::PacketRoom;
 use std::alloc::Global;
 use std::marker::Model;
 
@@ -58,7 +60,7 @@ impl<T> Router<T> {
 }
 
 impl<T: Handlers> Router<T> {
-    ghost use Rattle.std.specs.Prelude.{◌≡◌, true, IfOk, IfErr, MatchResult};
+    ghost use Rattle.std.specs.Prelude.{◌≡◌, true, is_some, IfOk, IfErr, MatchResult};
     ghost use Rattle.click_router.specs.One.{Answers, takes_memory, holds_memory, is_transmit, sends_packet};
 
     /// Answers one call. Where memory is refused nothing has changed, and only a read, a write or a swap takes memory. A reply that holds memory comes only from a call that changed nothing, and a packet
@@ -69,6 +71,28 @@ impl<T: Handlers> Router<T> {
         ensures light { IfOk result (λ reply. holds_memory reply ≡ true → self.new ≡ self.old) }
         ensures sends { IfOk result (λ reply. sends_packet reply ≡ true → is_transmit call.now ≡ true) }
     {
-        self.table.step(&mut self.running, alloc, call)
+        if let Call::Transmit { device } = call {
+            return Ok(self.running.transmit(device.as_slice()));
+        }
+        match self.record(alloc, call, None) {
+            Ok(reply) => Ok(reply.into_reply()),
+            Err(fault) => Err(fault),
+        }
+    }
+
+    /// Answers one call as `step` does, with a reply for a history, which is small. A transmit must have room for its packet.
+    pub fn record(
+        &mut self,
+        alloc: Global,
+        call: &Call,
+        room: Option<PacketRoom>,
+    ) -> Result<Recorded, StepFault>
+        requires { is_transmit call.now ≡ true → is_some room ≡ true }
+        ensures answer { MatchResult result (λ reply. Answers self.old call.now self.new reply) (λ _. self.new ≡ self.old) }
+        ensures refused { IfErr result (λ _. takes_memory call.now ≡ true) }
+        ensures light { IfOk result (λ reply. holds_memory reply ≡ true → self.new ≡ self.old) }
+        ensures sends { IfOk result (λ reply. sends_packet reply ≡ true → is_transmit call.now ≡ true) }
+    {
+        self.table.record(&mut self.running, alloc, call, room)
     }
 }

@@ -4,9 +4,10 @@ ghost use Rattle.std.specs.Prelude.{◌≡◌, true, IfOk, MatchResult};
 ghost use Rattle.click_router.specs.One.{holds_memory};
 ghost use Rattle.click_router.specs.Swap.{taken, Swaps};
 
-use crate::call::{Refusal, Reply, StepFault};
+use crate::call::{Refusal, StepFault};
 use crate::fault::FaultKind;
 use crate::opening::{Prepared, prepare};
+use crate::recorded::{Kept, Recorded};
 use std::alloc::Global;
 
 impl Prepared {
@@ -24,18 +25,18 @@ impl Prepared {
     }
 
     /// The configuration of a text takes the place of this one, or is refused. All its memory is taken before the running plant is touched; where memory runs out nothing has changed.
-    pub(crate) fn swap(&mut self, alloc: Global, text: &[u8]) -> Result<Reply, StepFault>
+    pub(crate) fn swap(&mut self, alloc: Global, text: &[u8]) -> Result<Recorded, StepFault>
         ensures swaps { MatchResult result (λ reply. Swaps self.old text.now self.new reply) (λ _. self.new ≡ self.old) }
         ensures light { IfOk result (λ reply. holds_memory reply ≡ true → self.new ≡ self.old) }
     {
         match prepare(alloc, text) {
             Ok(prepared) => {
                 self.install(prepared);
-                Ok(Reply::Done)
+                Ok(Recorded::of(Kept::Done))
             }
             Err(fault) => match fault.kind {
                 FaultKind::NoMemory => Err(StepFault::NoMemory),
-                _ => Ok(Reply::Refused(Refusal::Config(fault))),
+                _ => Ok(Recorded::refused(Refusal::Config(fault))),
             },
         }
     }

@@ -25,7 +25,7 @@ fn take_turn<T: Handlers, G: Gate, R: Wait>(
     if !gate.before(who, nth) {
         return false;
     }
-    match desk.call(rt, seat, Call::Round) {
+    match desk.record(rt, seat, Call::Round) {
         Ok(_) => {
             gate.after(who, nth);
             true

@@ -1,6 +1,5 @@
-use Rattle.std.proofs.Common.{◌≡◌, List, map, true, false, true≢false, length, ◌<◌, ap, ◌∙◌, sym, subst, refl, arith}
+use Rattle.std.proofs.Common.{◌≡◌, List, map, true, true≢false, ap, ◌∙◌, sym, subst}
 use Rattle.std.specs.Prelude.{slice_set}
-use Rattle.std.specs.List.{All}
 use Rattle.crossbeam_queue.proofs.Lists.{at_index, set_again}
 use Rattle.click_rings.specs.Feeds.{Drawing, name_of, has_feed, are_apart, IsPlace}
 use Rattle.click_rings.proofs.Draws.{has_at}

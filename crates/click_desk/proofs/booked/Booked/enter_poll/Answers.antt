@@ -1,19 +1,16 @@
-use Rattle.std.proofs.Common.{◌≡◌, ◌++◌, ◌∷◌, ◌≤◌, [], List, length, map, true, false, ◌∙◌, ap, subst, sym, arith, length-append}
+use Rattle.std.proofs.Common.{◌≡◌, ◌++◌, ◌∷◌, [], List, length, map, ◌∙◌, ap, subst, sym, arith, length-append}
 use Rattle.std.proofs.lemmas.List.{with_items_is}
 use Rattle.click_packet.specs.Packet.{Packet}
 use Rattle.click_rings.specs.Feeds.{Drawing, name_of, has_feed, are_apart, drew}
 use Rattle.click_rings.proofs.Draws.{drew_feeds}
-use Rattle.std.specs.Prelude.{Result, MatchResult}
 use Rattle.click_router.specs.One.{Answers}
-use Rattle.click_router.specs.declared.call.Reply.{Reply}
-use Rattle.click_router.specs.declared.call.StepFault.{StepFault}
 use Rattle.click_router.specs.Polls.{poll}
 use Rattle.click_router.specs.declared.call.Call.{Call}
 use Rattle.click_desk.specs.declared.entry.Entry.{Entry}
 use Rattle.click_desk.specs.Charters.{charter_of}
 use Rattle.click_desk.specs.Booking.{Booking}
 use Rattle.click_desk.specs.History.{entry, Legal}
-use Rattle.click_desk.specs.Polls.{IsPolled, MayTake}
+use Rattle.click_desk.specs.Polls.{IsPolled}
 use Rattle.click_desk.proofs.Histories.{legal_more}
 use Rattle.click_desk.proofs.Polled.{polled_drew, drew_length, none_of}
 use Rattle.click_desk.proofs.booked.Booked.enter_poll.Goals as goal
@@ -32,11 +29,10 @@ invariant_of-self-2 g c =
     let call : Call = c.draw-call.result.0 in
     let e : Entry = entry c.args.number call c.in-Ok-recorded_twice.entered in
     let items : c.push_reserved.new.self.items ≡ c.self.inside.entries.items ++ e ∷ [] = c.push_reserved.ensures.items ∙ ap (λ l. l ++ e ∷ []) c.reserve.ensures.items in
-    let answer : Answers c.self.inside.router call c.step-stepped.new.self c.in-Ok-of.reply =
-    subst (λ (x : Result Reply StepFault). MatchResult x (λ r. Answers c.self.inside.router call c.step-stepped.new.self r) (λ _. c.step-stepped.new.self ≡ c.self.inside.router)) (sym c.in-Ok-of.ensures) c.step-stepped.ensures.answer in
-    let is : Answers c.self.inside.router call c.step-stepped.new.self c.in-Ok-recorded_twice.entered =
-    subst (λ r. Answers c.self.inside.router call c.step-stepped.new.self r) (sym c.in-Ok-recorded_twice.ensures.kept.0) answer in (
-      subst (λ (l : List Entry). Legal c.self.inside.terms.opening l c.step-stepped.new.self) (sym items) (legal_more c.self.inside.terms.opening c.self.inside.entries.items c.self.inside.router e c.step-stepped.new.self c.self.invariant.0 is),
+    let answer : Answers c.self.inside.router call c.record.new.self c.in-Ok-record.reply = c.in-Ok-record.ensures.answer in
+    let is : Answers c.self.inside.router call c.record.new.self c.in-Ok-recorded_twice.entered =
+    subst (λ r. Answers c.self.inside.router call c.record.new.self r) (sym c.in-Ok-recorded_twice.ensures.kept.0) answer in (
+      subst (λ (l : List Entry). Legal c.self.inside.terms.opening l c.record.new.self) (sym items) (legal_more c.self.inside.terms.opening c.self.inside.entries.items c.self.inside.router e c.record.new.self c.self.invariant.0 is),
       subst (λ (y : List Entry × List Drawing). IsPolled y.0 y.1) (λ i. (sym items i, sym taps i)) (polled_drew c.self.inside.entries.items e device got old d.1 c.self.invariant.1),
       ap are_apart names ∙ c.self.invariant.2,
     )
@@ -59,11 +55,10 @@ returns-clause-legal g c =
     let call : Call = c.draw-call.result.0 in
     let e : Entry = entry c.args.number call c.in-Ok-recorded_twice.entered in
     let items : c.push_reserved.new.self.items ≡ c.self.inside.entries.items ++ e ∷ [] = c.push_reserved.ensures.items ∙ ap (λ l. l ++ e ∷ []) c.reserve.ensures.items in
-    let answer : Answers c.self.inside.router call c.step-stepped.new.self c.in-Ok-of.reply =
-    subst (λ (x : Result Reply StepFault). MatchResult x (λ r. Answers c.self.inside.router call c.step-stepped.new.self r) (λ _. c.step-stepped.new.self ≡ c.self.inside.router)) (sym c.in-Ok-of.ensures) c.step-stepped.ensures.answer in
-    let is : Answers c.self.inside.router call c.step-stepped.new.self c.in-Ok-recorded_twice.entered =
-    subst (λ r. Answers c.self.inside.router call c.step-stepped.new.self r) (sym c.in-Ok-recorded_twice.ensures.kept.0) answer in
-    subst (λ (l : List Entry). Legal c.self.inside.terms.opening l c.step-stepped.new.self) (sym items) (legal_more c.self.inside.terms.opening c.self.inside.entries.items c.self.inside.router e c.step-stepped.new.self c.self.invariant.0 is)
+    let answer : Answers c.self.inside.router call c.record.new.self c.in-Ok-record.reply = c.in-Ok-record.ensures.answer in
+    let is : Answers c.self.inside.router call c.record.new.self c.in-Ok-recorded_twice.entered =
+    subst (λ r. Answers c.self.inside.router call c.record.new.self r) (sym c.in-Ok-recorded_twice.ensures.kept.0) answer in
+    subst (λ (l : List Entry). Legal c.self.inside.terms.opening l c.record.new.self) (sym items) (legal_more c.self.inside.terms.opening c.self.inside.entries.items c.self.inside.router e c.record.new.self c.self.invariant.0 is)
 
 pub returns-clause-polled : goal.returns-clause-polled
 returns-clause-polled g c =
@@ -96,16 +91,15 @@ returns-clause-ok g c =
     let e : Entry = entry c.args.number call c.in-Ok-recorded_twice.entered in
     let items : c.push_reserved.new.self.items ≡ c.self.inside.entries.items ++ e ∷ [] = c.push_reserved.ensures.items ∙ ap (λ l. l ++ e ∷ []) c.reserve.ensures.items in
     let kept = c.in-Ok-recorded_twice.ensures.kept in
-    let answer : Answers c.self.inside.router call c.step-stepped.new.self c.in-Ok-of.reply =
-    subst (λ (x : Result Reply StepFault). MatchResult x (λ r. Answers c.self.inside.router call c.step-stepped.new.self r) (λ _. c.step-stepped.new.self ≡ c.self.inside.router)) (sym c.in-Ok-of.ensures) c.step-stepped.ensures.answer in
-    let turn : Answers c.self.inside.router (poll device got) c.step-stepped.new.self c.in-Ok-of.reply =
-    subst (λ x. Answers c.self.inside.router x c.step-stepped.new.self c.in-Ok-of.reply) d.1 answer in
+    let answer : Answers c.self.inside.router call c.record.new.self c.in-Ok-record.reply = c.in-Ok-record.ensures.answer in
+    let turn : Answers c.self.inside.router (poll device got) c.record.new.self c.in-Ok-record.reply =
+    subst (λ x. Answers c.self.inside.router x c.record.new.self c.in-Ok-record.reply) d.1 answer in
     let was = ap (λ (b : Booking). b.entries) c.self.view_is in (
       got,
       record {
         within = omega (arith, d.4, c.seen_where-count.ensures.most);
         no_device = λ none.
-            let nothing = c.seen_where-count.ensures.nothing ((c.has_source-found.ensures.polled got c.step-stepped.new.self c.in-Ok-of.reply turn).1 none) in
+            let nothing = c.seen_where-count.ensures.nothing ((c.has_source-found.ensures.polled got c.record.new.self c.in-Ok-record.reply turn).1 none) in
             none_of got (omega (arith, d.4, nothing));
         no_feed = λ away. d.5 (ap (λ l. has_feed device l) (ap (λ l. map name_of l) now ∙ sym names) ∙ away);
       },

@@ -4,7 +4,6 @@ use Rattle.crossbeam_queue.specs.Passes.{view}
 use Rattle.click_rings.specs.Feeds.{FeedName}
 use Rattle.click_desk.specs.Charters.{charter_of, terms_of}
 use Rattle.click_desk.specs.declared.charter.Charter.{Charter}
-use Rattle.click_desk.specs.declared.terms.Terms.{Terms}
 use Rattle.click_desk.specs.declared.view.View.{View}
 use Rattle.click_desk.specs.Openings.{IsOpenFault}
 use Rattle.click_desk.specs.Sittings.{DeskName, Sitting, seats_below}

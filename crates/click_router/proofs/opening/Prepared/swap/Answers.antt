@@ -5,9 +5,9 @@ use Rattle.click_router.proofs.Running.{other_fault}
 use Rattle.click_router.proofs.opening.Prepared.swap.Goals as goal
 
 pub returns-in-Ok-clause-swaps : goal.returns-in-Ok-clause-swaps
-returns-in-Ok-clause-swaps c = rw c.install.ensures (installed c.in-Ok.prepared c.in-Ok.ensures.opened)
+returns-in-Ok-clause-swaps c = rw (c.install.ensures, c.of.ensures) (installed c.in-Ok.prepared c.in-Ok.ensures.opened)
 
 pub returns-in_default : goal.returns-in_default
 returns-in_default c =
     let fault = c.in-Err.fault in let text = c.args.text.now in
-    record { swaps = refused fault (other_fault (IsFirstFault text fault) fault c.in_default.not-NoMemory c.in-Err.ensures.err); light = λ e. refl }
+    record { swaps = rw c.refused.ensures (refused fault (other_fault (IsFirstFault text fault) fault c.in_default.not-NoMemory c.in-Err.ensures.err)); light = λ e. refl }

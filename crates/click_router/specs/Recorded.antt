@@ -1,8 +1,8 @@
 -- A reply as a history keeps it.
 use Rattle.click_router.specs.declared.call.Reply.{Reply}
 use Rattle.click_router.specs.declared.call.Reply.TheVariants as reply
-use Rattle.click_desk.specs.declared.recorded.Kept.{Kept}
-use Rattle.click_desk.specs.declared.recorded.Kept.TheVariants as kept
+use Rattle.click_router.specs.declared.recorded.Kept.{Kept}
+use Rattle.click_router.specs.declared.recorded.Kept.TheVariants as kept
 
 abbrev pub reply_of : Kept → Reply
 reply_of (kept.Value value) = reply.Value value

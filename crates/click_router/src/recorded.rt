@@ -2,10 +2,10 @@
 
 ghost use Rattle.std.specs.Prelude.{◌≡◌, true, IfOk, IfErr, is_some};
 ghost use Rattle.click_router.specs.One.{holds_memory, sends_packet};
-ghost use Rattle.click_desk.specs.Recorded.{reply_of};
+ghost use Rattle.click_router.specs.Recorded.{reply_of};
 
+use crate::call::{Refusal, Reply};
 use click_packet::{Packet, PacketRoom, StoredPacket};
-use click_router::{Refusal, Reply, StepFault};
 use click_text::sequence::Sequence;
 use std::alloc::{AllocError, Global};
 use std::marker::Model;
@@ -22,7 +22,7 @@ pub enum Kept {
     NoDevice,
 }
 
-/// A reply in a history. Contracts see it as the reply.
+/// A reply in a history. It is small, where a `Reply` has a packet's room. Contracts see it as the reply.
 #[derive(Drop)]
 pub struct Recorded {
     kept: Kept,
@@ -30,7 +30,7 @@ pub struct Recorded {
 
 impl Model for Recorded {
     ghost use Rattle.click_router.specs.declared.call.Reply.{Reply};
-    ghost use Rattle.click_desk.specs.Recorded.{reply_of};
+    ghost use Rattle.click_router.specs.Recorded.{reply_of};
 
     ghost Value = { Reply };
 
@@ -38,38 +38,23 @@ impl Model for Recorded {
 }
 
 impl Recorded {
-    /// What is kept of what a call came to. Where a packet was sent, there must be room for it already. It takes no memory.
-    pub(crate) fn of(
-        stepped: Result<Reply, StepFault>,
-        room: Option<PacketRoom>,
-    ) -> Result<Recorded, StepFault>
-        requires { IfOk stepped (λ reply. sends_packet reply ≡ true → is_some room ≡ true) }
-        ensures { result ≡ stepped }
+    pub(crate) fn of(kept: Kept) -> Recorded
+        ensures { result ≡ reply_of kept }
     {
-        // Each reply is taken apart where it stands, since one as a whole has a packet's room.
-        let kept = match stepped {
-            Ok(Reply::Value(value)) => Kept::Value(value),
-            Ok(Reply::Done) => Kept::Done,
-            Ok(Reply::Refused(why)) => Kept::Refused(why),
-            Ok(Reply::Entered(count)) => Kept::Entered(count),
-            Ok(Reply::Worked(count)) => Kept::Worked(count),
-            Ok(Reply::Sent(None)) => Kept::Sent(None),
-            Ok(Reply::Sent(Some(packet))) => match room {
-                Some(room) => Kept::Sent(Some(room.keep(&packet))),
-                None => unreachable!(),
-            },
-            Ok(Reply::NoDevice) => Kept::NoDevice,
-            Err(fault) => return Err(fault),
-        };
-        Ok(Recorded { kept })
+        Recorded { kept }
+    }
+
+    /// Of a call that is refused.
+    pub(crate) fn refused(why: Refusal) -> Recorded
+        ensures { result ≡ Reply.Refused why }
+    {
+        Recorded {
+            kept: Kept::Refused(why),
+        }
     }
 
     /// An equal one. Where a packet was sent, there must be room for it already; only a value and a refusal take memory.
-    pub(crate) fn copy(
-        &self,
-        alloc: Global,
-        room: Option<PacketRoom>,
-    ) -> Result<Recorded, AllocError>
+    pub fn copy(&self, alloc: Global, room: Option<PacketRoom>) -> Result<Recorded, AllocError>
         requires { sends_packet self.now ≡ true → is_some room ≡ true }
         ensures copy { IfOk result (λ copy. copy ≡ self.now) }
         ensures light { IfErr result (λ _. holds_memory self.now ≡ true) }
@@ -93,7 +78,7 @@ impl Recorded {
     }
 
     /// The reply.
-    pub(crate) fn into_reply(self) -> Reply
+    pub fn into_reply(self) -> Reply
         ensures { result ≡ self }
     {
         let Recorded { kept } = self;
