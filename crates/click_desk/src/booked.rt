@@ -29,13 +29,20 @@ pub enum DeskFault {
     HistoryFull,
 }
 
-/// A router and its history, which leads from the opening text to it, with the feeds from which was drawn what the history polled.
+/// What a desk was opened with, its history, and its feeds.
 #[derive(Drop)]
-pub struct Booked<T> {
+pub(crate) struct Ledger {
     pub(crate) terms: Terms,
     pub(crate) entries: Vec<Entry>,
-    pub(crate) router: Router<T>,
     pub(crate) taps: Vec<Tap>,
+}
+
+/// A router and its history, which leads from the opening text to it, with the feeds from which was drawn what the history polled. It is small, since each call
+/// moves it out of the queue and back.
+#[derive(Drop)]
+pub struct Booked<T> {
+    pub(crate) ledger: Box<Ledger>,
+    pub(crate) router: Router<T>,
 }
 
 impl<T> Model for Booked<T> {
@@ -48,25 +55,22 @@ impl<T> Model for Booked<T> {
 
     ghost Value = { Booking };
 
-    ghost view = { λ b. record { terms = charter_of b.terms (map name_of b.taps.items); entries = b.entries.items; state = b.router; taps = b.taps.items } };
+    ghost view = { λ b. record { terms = charter_of b.ledger.value.terms (map name_of b.ledger.value.taps.items); entries = b.ledger.value.entries.items; state = b.router; taps = b.ledger.value.taps.items } };
 
-    ghost invariant = { λ b. Legal b.terms.opening b.entries.items b.router × IsPolled b.entries.items b.taps.items × (are_apart (map name_of b.taps.items) ≡ true) };
+    ghost invariant = { λ b. Legal b.ledger.value.terms.opening b.ledger.value.entries.items b.router × IsPolled b.ledger.value.entries.items b.ledger.value.taps.items
+        × (are_apart (map name_of b.ledger.value.taps.items) ≡ true) };
 }
 
 impl<T> Booked<T> {
-    /// A router of this text, with an empty history, and feeds from which nothing was drawn.
-    pub fn new(alloc: Global, terms: Terms, router: Router<T>, taps: Vec<Tap>) -> Booked<T>
-        requires opened { IsOpened terms.opening router }
-        requires apart { are_apart (map name_of taps.items) ≡ true }
-        requires fresh { All (λ t. t.drawn ≡ []) taps.items }
-        ensures { (result.terms ≡ charter_of terms (map name_of taps.items)) × (result.entries ≡ []) × (result.state ≡ router) }
+    /// A router of the ledger's text, with an empty history, and feeds from which nothing was drawn.
+    pub fn new(ledger: Box<Ledger>, router: Router<T>) -> Booked<T>
+        requires opened { IsOpened ledger.value.terms.opening router }
+        requires empty { ledger.value.entries.items ≡ [] }
+        requires apart { are_apart (map name_of ledger.value.taps.items) ≡ true }
+        requires fresh { All (λ t. t.drawn ≡ []) ledger.value.taps.items }
+        ensures { (result.terms ≡ charter_of ledger.value.terms (map name_of ledger.value.taps.items)) × (result.entries ≡ []) × (result.state ≡ router) }
     {
-        Booked {
-            terms,
-            entries: Vec::new(alloc),
-            router,
-            taps,
-        }
+        Booked { ledger, router }
     }
 
     /// Its parts.
@@ -77,12 +81,12 @@ impl<T> Booked<T> {
         ensures polled { IsPolled self.entries self.taps }
         ensures apart { are_apart (map name_of self.taps) ≡ true }
     {
-        let Booked {
+        let Booked { ledger, router } = self;
+        let Ledger {
             terms,
             entries,
-            router,
             taps,
-        } = self;
+        } = Box::into_inner(ledger);
         (terms, entries, router, taps)
     }
 }
@@ -143,10 +147,11 @@ impl<T: Handlers> Booked<T> {
         ensures err { OnErr result ((self.new ≡ self.old) × (calls.new.items ≡ calls.old.items)) }
         ensures full { (result ≡ Err DeskFault.HistoryFull) ↔ (self.old.terms.room ≤ length self.old.entries) }
     {
-        if self.entries.len() >= self.terms.room {
+        let ledger = &mut *self.ledger;
+        if ledger.entries.len() >= ledger.terms.room {
             return Err(DeskFault::HistoryFull);
         }
-        if self.entries.reserve(1).is_err() || calls.reserve(1).is_err() {
+        if ledger.entries.reserve(1).is_err() || calls.reserve(1).is_err() {
             return Err(DeskFault::NoMemory);
         }
         let Ok(listed) = call.copy(alloc) else {
@@ -167,7 +172,7 @@ impl<T: Handlers> Booked<T> {
         let Ok((entered, told)) = recorded_twice(alloc, &reply, entered, beside) else {
             return Err(DeskFault::NoMemory);
         };
-        self.entries.push_reserved(Entry {
+        ledger.entries.push_reserved(Entry {
             seat: number,
             call,
             reply: entered,

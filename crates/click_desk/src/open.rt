@@ -11,7 +11,7 @@ ghost use Rattle.click_desk.specs.Sittings.{seats_below};
 ghost use Rattle.click_desk.specs.Openings.{AreFit, IsOpenFault};
 ghost use Rattle.click_rings.specs.Feeds.{name_of};
 
-use crate::booked::Booked;
+use crate::booked::{Booked, Ledger};
 use crate::desk::{Desk, give};
 use crate::rule::{DeskPass, NextSeat, Queue};
 use crate::seat::Seat;
@@ -54,12 +54,23 @@ pub struct OpenRefused<T> {
 
 /// All that takes memory.
 struct Parts<T> {
-    inside: Terms,
+    ledger: Box<Ledger>,
     beside: Terms,
     queue: Queue<T>,
     maker: DeskPass<T>,
     given: Vec<Seat<T>>,
-    taps: Vec<Tap>,
+}
+
+/// A ledger without an entry, with room for so many feeds.
+fn empty_ledger(alloc: Global, terms: Terms, inlets: usize) -> Result<Box<Ledger>, AllocError>
+    ensures { IfOk result (λ l. (l.value.terms ≡ terms) × (l.value.entries.items ≡ []) × (l.value.taps.items ≡ []) × (inlets ≤ vec_capacity l.value.taps)) }
+{
+    let ledger = Ledger {
+        terms,
+        entries: Vec::new(alloc),
+        taps: Vec::with_capacity(alloc, inlets)?,
+    };
+    Ok(Box::new(alloc, ledger)?)
 }
 
 /// Takes all memory that a desk of these terms needs.
@@ -70,36 +81,35 @@ fn make_parts<T>(
     seats: usize,
     inlets: usize,
 ) -> Result<Parts<T>, AllocError>
-    ensures terms { IfOk result (λ p. (p.inside ≡ record { opening = text.now; room = room; seats = seats }) × (p.beside ≡ p.inside)) }
+    ensures terms { IfOk result (λ p. (p.ledger.value.terms ≡ record { opening = text.now; room = room; seats = seats }) × (p.beside ≡ p.ledger.value.terms)) }
+    ensures empty { IfOk result (λ p. p.ledger.value.entries.items ≡ []) }
     ensures queue { IfOk result (λ p. (ruled_capacity p.queue ≡ 1) × IsPassOf p.queue p.maker × (view p.maker ≡ first)) }
     ensures given { IfOk result (λ p. (p.given.items ≡ []) × (seats ≤ vec_capacity p.given)) }
-    ensures taps { IfOk result (λ p. (p.taps.items ≡ []) × (inlets ≤ vec_capacity p.taps)) }
+    ensures taps { IfOk result (λ p. (p.ledger.value.taps.items ≡ []) × (inlets ≤ vec_capacity p.ledger.value.taps)) }
 {
     let inside = Terms::of(alloc, text, room, seats)?;
+    let ledger = empty_ledger(alloc, inside, inlets)?;
     let beside = Terms::of(alloc, text, room, seats)?;
     let given = Vec::with_capacity(alloc, seats)?;
-    let taps = Vec::with_capacity(alloc, inlets)?;
     let (queue, maker) = Queue::<T>::ruled(alloc, 1)?;
     Ok(Parts {
-        inside,
+        ledger,
         beside,
         queue,
         maker,
         given,
-        taps,
     })
 }
 
 /// Opens the inlets. It takes no memory.
-fn open_all(inlets: Vec<Inlet>, mut taps: Vec<Tap>) -> Vec<Tap>
-    requires { (taps.items ≡ []) × (length inlets.items ≤ vec_capacity taps) }
-    ensures names { map name_of result.items ≡ inlets.items }
-    ensures fresh { All (λ t. t.drawn ≡ []) result.items }
+fn open_all(inlets: Vec<Inlet>, taps: &mut Vec<Tap>)
+    requires { (taps.old.items ≡ []) × (length inlets.items ≤ vec_capacity taps.old) }
+    ensures names { map name_of taps.new.items ≡ inlets.items }
+    ensures fresh { All (λ t. t.drawn ≡ []) taps.new.items }
 {
     for inlet in inlets {
         taps.push_reserved(Tap::of(inlet));
     }
-    taps
 }
 
 /// Makes the seats.
@@ -155,6 +165,17 @@ fn misfit(seats: usize, inlets: &[Inlet]) -> Option<OpenFault>
     None
 }
 
+/// What was handed in, and why no desk was opened.
+fn refused<T>(table: T, inlets: Vec<Inlet>, fault: OpenFault) -> OpenRefused<T>
+    ensures { result ≡ record { table = table; inlets = inlets; fault = fault } }
+{
+    OpenRefused {
+        table,
+        inlets,
+        fault,
+    }
+}
+
 impl<T: Drop> Desk<T> {
     /// Opens a desk with 1 to 256 seats and at most 16 inlets, no two of them of one device, for a history of at most `room` entries. A refusal hands the table and
     /// the inlets back: for the number of seats, else for a device that is there twice, else for the number of inlets, else for the configuration, else because
@@ -176,45 +197,25 @@ impl<T: Drop> Desk<T> {
         ensures fault { IfErr result (λ r. IsOpenFault seats inlets.items text.now r.fault) }
     {
         if let Some(fault) = misfit(seats, inlets.as_slice()) {
-            return Err(OpenRefused {
-                table,
-                inlets,
-                fault,
-            });
+            return Err(refused(table, inlets, fault));
         }
         let prepared = match prepare(alloc, text) {
             Ok(prepared) => prepared,
-            Err(fault) => {
-                return Err(OpenRefused {
-                    table,
-                    inlets,
-                    fault: fault_of(fault),
-                });
-            }
+            Err(fault) => return Err(refused(table, inlets, fault_of(fault))),
         };
         let Ok(parts) = make_parts(alloc, text, room, seats, inlets.len()) else {
-            return Err(OpenRefused {
-                table,
-                inlets,
-                fault: OpenFault::NoMemory,
-            });
+            return Err(refused(table, inlets, OpenFault::NoMemory));
         };
         let Parts {
-            inside,
+            mut ledger,
             beside,
             queue,
             mut maker,
             mut given,
-            taps,
         } = parts;
         let router = Router::open(table, prepared);
-        let taps = open_all(inlets, taps);
-        give(
-            rt,
-            &queue,
-            &mut maker,
-            Booked::new(alloc, inside, router, taps),
-        );
+        open_all(inlets, &mut ledger.taps);
+        give(rt, &queue, &mut maker, Booked::new(ledger, router));
         make_seats(alloc, &queue, maker, seats, &mut given);
         let desk = Desk {
             alloc,

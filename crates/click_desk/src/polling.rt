@@ -130,18 +130,19 @@ impl<T: Handlers> Booked<T> {
         ensures err { OnErr result ((self.new ≡ self.old) × (calls.new.items ≡ calls.old.items)) }
         ensures full { (result ≡ Err DeskFault.HistoryFull) ↔ (self.old.terms.room ≤ length self.old.entries) }
     {
-        if self.entries.len() >= self.terms.room {
+        let ledger = &mut *self.ledger;
+        if ledger.entries.len() >= ledger.terms.room {
             return Err(DeskFault::HistoryFull);
         }
-        if self.entries.reserve(1).is_err() || calls.reserve(1).is_err() {
+        if ledger.entries.reserve(1).is_err() || calls.reserve(1).is_err() {
             return Err(DeskFault::NoMemory);
         }
         let found = self.router.has_source(device);
-        let count = seen_where(found, &mut self.taps, device, most);
+        let count = seen_where(found, &mut ledger.taps, device, most);
         let Ok(room) = PollRoom::new(alloc, device, count) else {
             return Err(DeskFault::NoMemory);
         };
-        let (call, listed) = room.draw(self.taps.as_mut_slice(), device, count);
+        let (call, listed) = room.draw(ledger.taps.as_mut_slice(), device, count);
         // From here on nothing fails: a poll and its reply take no memory.
         let Ok(reply) = self.router.record(alloc, &call, None) else {
             unreachable!()
@@ -149,7 +150,7 @@ impl<T: Handlers> Booked<T> {
         let Ok((entered, told)) = recorded_twice(alloc, &reply, None, None) else {
             unreachable!()
         };
-        self.entries.push_reserved(Entry {
+        ledger.entries.push_reserved(Entry {
             seat: number,
             call,
             reply: entered,

@@ -8,8 +8,8 @@ ghost use Rattle.click_router.specs.One.{read_global, is_hotconfig};
 ghost use Rattle.click_router.specs.kept.GlobalNames.{name_of};
 
 use crate::call::{StepFault, refusal_of};
-use crate::opening::Prepared;
 use crate::recorded::{Kept, Recorded};
+use crate::running::Running;
 use click_classes::{CLASSES, Class};
 use click_expand::{FlatElement, flat_text};
 use click_text::sequence::Sequence;
@@ -107,7 +107,7 @@ fn classes_text(alloc: Global, classes: &[Class]) -> Result<Vec<u8>, AllocError>
     Ok(text)
 }
 
-impl Prepared {
+impl Running {
     ghost use Rattle.std.specs.Prelude.{◌≡◌, Some, IfOk};
     ghost use Rattle.click_router.specs.Globals.{global_value};
     ghost use Rattle.click_router.specs.One.{read_global};

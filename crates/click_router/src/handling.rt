@@ -11,8 +11,8 @@ ghost use Rattle.click_router.specs.One as spec;
 use crate::call::{Call, Refusal, Reply, StepFault, refusal_of};
 use crate::globals::{has_global, is_hotconfig};
 use crate::handler_name::split;
-use crate::opening::Prepared;
 use crate::recorded::{Kept, Recorded};
+use crate::running::Running;
 use click_engine::{Element, Plant};
 use click_handlers::{HandlerFault, ReadRow, Table, WriteRow};
 use click_packet::PacketRoom;
@@ -27,7 +27,7 @@ pub trait Handlers {
     /// Answers one call, as `Router::record` says it.
     fn record(
         &self,
-        running: &mut Prepared,
+        running: &mut Running,
         alloc: Global,
         call: &Call,
         room: Option<PacketRoom>,
@@ -38,7 +38,7 @@ pub trait Handlers {
         ensures light { IfOk result (λ reply. holds_memory reply ≡ true → running.new ≡ running.old) };
 }
 
-impl Prepared {
+impl Running {
     ghost use Rattle.std.specs.Prelude.{◌≡◌, Ok, Err, None, Some, slice_get, IfOk, IfSome, MatchOption, MatchResult};
     ghost use Rattle.click_router.specs.One as spec;
 
@@ -100,7 +100,7 @@ fn read_element(
 /// Reads a handler.
 fn read(
     table: &Table,
-    running: &Prepared,
+    running: &Running,
     alloc: Global,
     name: &[u8],
     text: &[u8],
@@ -128,7 +128,7 @@ fn check(has: bool, has_other: bool) -> Recorded
 }
 
 /// Whether a handler can be read.
-fn check_read(table: &Table, running: &Prepared, name: &[u8]) -> Recorded
+fn check_read(table: &Table, running: &Running, name: &[u8]) -> Recorded
     ensures { result ≡ spec.check_read running.now name.now }
 {
     let Some((element, handler)) = split(name) else {
@@ -146,7 +146,7 @@ fn check_read(table: &Table, running: &Prepared, name: &[u8]) -> Recorded
 }
 
 /// Whether a handler can be written.
-fn check_write(table: &Table, running: &Prepared, name: &[u8]) -> Recorded
+fn check_write(table: &Table, running: &Running, name: &[u8]) -> Recorded
     ensures { result ≡ spec.check_write running.now name.now }
 {
     let Some((element, handler)) = split(name) else {
@@ -225,7 +225,7 @@ fn write_element(
 /// Writes a handler that is no swap.
 fn write(
     table: &Table,
-    running: &mut Prepared,
+    running: &mut Running,
     alloc: Global,
     name: &[u8],
     text: &[u8],
@@ -238,13 +238,13 @@ fn write(
     let Some((at, _)) = running.find(element) else {
         return Ok(Recorded::refused(Refusal::NoElement));
     };
-    write_element(table, &mut *running.plant, at, alloc, handler, text)
+    write_element(table, &mut running.plant, at, alloc, handler, text)
 }
 
 impl Handlers for Table {
     fn record(
         &self,
-        running: &mut Prepared,
+        running: &mut Running,
         alloc: Global,
         call: &Call,
         room: Option<PacketRoom>,

@@ -12,6 +12,7 @@ mod opening;
 mod packets;
 mod recorded;
 mod router;
+mod running;
 mod swapping;
 
 pub use call::{Call, Refusal, Reply, StepFault};
@@ -20,3 +21,4 @@ pub use handling::Handlers;
 pub use opening::{Prepared, prepare};
 pub use recorded::{Kept, Recorded};
 pub use router::Router;
+pub use running::Running;

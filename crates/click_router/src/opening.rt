@@ -9,6 +9,7 @@ ghost use Rattle.click_router.specs.Opened.{IsBegun, IsKnown, AreKnown, AreFresh
 ghost use Rattle.click_router.specs.kept.Refused.{IsUnfit, IsUnlawful, IsConfigFault};
 
 use crate::fault::{ConfigFault, FaultKind, FaultPlace};
+use crate::running::Running;
 use click_classes::{ArgFault, State, class_of, make};
 use click_engine::Plant;
 use click_expand::{ExpandFault, FaultKind as ExpandKind, Flat, FlatElement, flatten};
@@ -19,25 +20,19 @@ use click_text::{LONGEST_TEXT, parse};
 use std::alloc::{AllocError, Global};
 use std::marker::Model;
 
-/// A lawful configuration with the plant of its elements.
+/// A lawful configuration with the plant of its elements, ready to run. It stands in a box, so that a router costs little to move: a desk hands it from
+/// thread to thread.
 #[derive(Drop)]
 pub struct Prepared {
-    pub(crate) text: Sequence<u8>,
-    pub(crate) flat: Flat,
-    // In a box, so that a router costs little to move: a desk hands it from thread to thread.
-    pub(crate) plant: Box<Plant>,
+    pub(crate) running: Box<Running>,
 }
 
 impl Model for Prepared {
-    ghost use Rattle.std.specs.Prelude.{◌≡◌};
-    ghost use Rattle.click_ports.specs.Net.{names_of};
     ghost use Rattle.click_router.specs.State.{RouterState};
 
     ghost Value = { RouterState };
 
-    ghost view = { λ p. record { text = p.text; flat = p.flat; plant = p.plant.value } };
-
-    ghost invariant = { λ p. p.plant.value.net.names ≡ names_of p.flat.elements };
+    ghost view = { λ p. p.running.value };
 }
 
 impl Prepared {
@@ -47,7 +42,7 @@ impl Prepared {
     pub fn flat(&self) -> &Flat
         ensures { result.now ≡ self.now.flat }
     {
-        &self.flat
+        self.running.flat()
     }
 }
 
@@ -286,11 +281,13 @@ fn push(states: &mut Vec<State>, state: State) -> Result<(), AllocError>
     Ok(())
 }
 
-/// The plant in a box.
-fn boxed(alloc: Global, plant: Plant) -> Result<Box<Plant>, AllocError>
-    ensures { IfOk result (λ b. b.value ≡ plant) }
+/// What is to run, in a box.
+fn boxed(alloc: Global, running: Running) -> Result<Prepared, AllocError>
+    ensures { IfOk result (λ p. p ≡ running) }
 {
-    Ok(Box::new(alloc, plant)?)
+    Ok(Prepared {
+        running: Box::new(alloc, running)?,
+    })
 }
 
 /// The router of a flat form, or its first fault.
@@ -304,8 +301,8 @@ fn prepare_flat(alloc: Global, text: Sequence<u8>, flat: Flat) -> Result<Prepare
     match resolve(alloc, &flat, states.as_slice()) {
         Err(fault) => Err(of_ports(alloc, flat.elements.as_slice(), fault)?),
         Ok(net) => {
-            let plant = boxed(alloc, Plant::new(alloc, net, states)?)?;
-            Ok(Prepared { text, flat, plant })
+            let plant = Plant::new(alloc, net, states)?;
+            Ok(boxed(alloc, Running { text, flat, plant })?)
         }
     }
 }

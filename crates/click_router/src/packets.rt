@@ -4,8 +4,8 @@ ghost use Rattle.std.specs.Prelude.{◌≡◌, ◌∷◌, []};
 ghost use Rattle.click_router.specs.One.{arrivals, entered, worked, sent};
 
 use crate::call::Reply;
-use crate::opening::Prepared;
 use crate::recorded::{Kept, Recorded};
+use crate::running::Running;
 use click_engine::Plant;
 use click_packet::{Packet, PacketRoom, StoredPacket};
 
@@ -20,7 +20,7 @@ fn enter_all(plant: &mut Plant, device: &[u8], taken: &[StoredPacket])
     }
 }
 
-impl Prepared {
+impl Running {
     /// A packet enters from a device.
     pub(crate) fn arrive(&mut self, device: &[u8], packet: &StoredPacket) -> Recorded
         ensures { entered self.old device.now (packet.now ∷ []) ≡ (self.new, result) }
@@ -41,7 +41,7 @@ impl Prepared {
         if !self.plant.has_source(device) {
             return Recorded::of(Kept::NoDevice);
         }
-        enter_all(&mut *self.plant, device, taken);
+        enter_all(&mut self.plant, device, taken);
         Recorded::of(Kept::Entered(taken.len() as u64))
     }
 

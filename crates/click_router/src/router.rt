@@ -4,6 +4,7 @@ use crate::call::{Call, Reply, StepFault};
 use crate::handling::Handlers;
 use crate::opening::Prepared;
 use crate::recorded::Recorded;
+use crate::running::Running;
 use click_packet::PacketRoom;
 use std::alloc::Global;
 use std::marker::Model;
@@ -11,7 +12,7 @@ use std::marker::Model;
 /// A router of one thread, with the table `T` that it answers handlers through. To a contract it is its text, its elements and the plant of them.
 #[derive(Drop)]
 pub struct Router<T> {
-    running: Prepared,
+    running: Box<Running>,
     table: T,
 }
 
@@ -20,7 +21,7 @@ impl<T> Model for Router<T> {
 
     ghost Value = { RouterState };
 
-    ghost view = { λ r. r.running };
+    ghost view = { λ r. r.running.value };
 }
 
 impl<T> Router<T> {
@@ -37,7 +38,7 @@ impl<T> Router<T> {
         ensures { result ≡ prepared }
     {
         Router {
-            running: prepared,
+            running: prepared.running,
             table,
         }
     }
@@ -47,7 +48,7 @@ impl<T> Router<T> {
         ensures source { IsTrue result ↔ IsSome (source_of self.now.plant device.now) }
         ensures polled { (packets : List Packet) (next : RouterState) (reply : Reply) → Answers self.now (poll device.now packets) next reply → (result ≡ false) ↔ (reply ≡ Reply.NoDevice) }
     {
-        self.running.plant.has_source(device)
+        self.running.has_source(device)
     }
 
     /// What was prepared takes the place of what runs: a swap to a text that opens. Like-named queues of one class keep the packets that they have room for, and
@@ -93,6 +94,6 @@ impl<T: Handlers> Router<T> {
         ensures light { IfOk result (λ reply. holds_memory reply ≡ true → self.new ≡ self.old) }
         ensures sends { IfOk result (λ reply. sends_packet reply ≡ true → is_transmit call.now ≡ true) }
     {
-        self.table.record(&mut self.running, alloc, call, room)
+        self.table.record(&mut *self.running, alloc, call, room)
     }
 }

@@ -8,9 +8,10 @@ use crate::call::{Refusal, StepFault};
 use crate::fault::FaultKind;
 use crate::opening::{Prepared, prepare};
 use crate::recorded::{Kept, Recorded};
+use crate::running::Running;
 use std::alloc::Global;
 
-impl Prepared {
+impl Running {
     ghost use Rattle.std.specs.Prelude.{◌≡◌, true, IfOk, MatchResult};
     ghost use Rattle.click_router.specs.One.{holds_memory};
     ghost use Rattle.click_router.specs.Swap.{taken, Swaps};
@@ -19,8 +20,9 @@ impl Prepared {
     pub(crate) fn install(&mut self, prepared: Prepared)
         ensures { self.new ≡ taken prepared self.old }
     {
-        let mut next = prepared;
-        next.plant.take_over(&mut *self.plant);
+        let Prepared { running } = prepared;
+        let mut next = Box::into_inner(running);
+        next.plant.take_over(&mut self.plant);
         *self = next;
     }
 

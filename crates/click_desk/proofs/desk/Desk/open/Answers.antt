@@ -3,6 +3,7 @@ use Rattle.std.specs.List.{All}
 use Rattle.crossbeam_queue.specs.Passes.{view}
 use Rattle.click_rings.specs.Feeds.{FeedName}
 use Rattle.click_desk.specs.Charters.{charter_of, terms_of}
+use Rattle.click_desk.specs.declared.booked.Ledger.{Ledger}
 use Rattle.click_desk.specs.declared.charter.Charter.{Charter}
 use Rattle.click_desk.specs.declared.view.View.{View}
 use Rattle.click_desk.specs.Openings.{IsOpenFault}
@@ -16,7 +17,7 @@ returns-clause-seats g c =
     let t = c.in-Ok-make_parts.ensures.terms in
     let feeds : List FeedName = c.args.inlets.items in
     let terms : (view c.give.new.pass).terms ≡ charter_of parts.beside feeds =
-    ap (λ (v : View). v.terms) c.give.ensures.given ∙ (c.new.ensures.0 ∙ (λ i. charter_of (sym t.1 i) (c.open_all-taps.ensures.names i))) in
+    ap (λ (v : View). v.terms) c.give.ensures.given ∙ (c.new.ensures.0 ∙ (λ i. charter_of ((ap (λ (l : Ledger). l.terms) c.deref_mut.ensures.value ∙ sym t.1) i) (c.open_all.ensures.names i))) in
     let desk : DeskName = record { table = parts.queue.table.shared.table_id; terms = parts.beside } in
     let made : c.make_seats.new.given.items ≡ seats_below desk feeds c.args.seats =
     c.make_seats.ensures ∙ ap (λ (y : Charter). seats_below (record { table = desk.table; terms = terms_of y }) y.feeds c.args.seats) terms in
@@ -30,4 +31,4 @@ returns-clause-fed g c =
 
 pub returns-in-Some-clause-fault : goal.returns-in-Some-clause-fault
 returns-in-Some-clause-fault g c =
-    subst (λ (l : List FeedName). IsOpenFault c.args.seats l c.args.text.now c.in-Some.fault) c.as_slice.ensures.value (c.in-Some.ensures.fault c.args.text.now)
+    rw c.refused.ensures (subst (λ (l : List FeedName). IsOpenFault c.args.seats l c.args.text.now c.in-Some.fault) c.as_slice.ensures.value (c.in-Some.ensures.fault c.args.text.now))

@@ -3,7 +3,7 @@ use Rattle.std.proofs.lemmas.Result.{IfOk-weaker}
 use Rattle.click_router.specs.Globals.{global_value, class_list}
 use Rattle.click_router.specs.kept.GlobalNames.{name_of}
 use Rattle.click_router.proofs.GlobalNames.{classes_value}
-use Rattle.click_router.proofs.opening.Prepared.global_value.Goals as goal
+use Rattle.click_router.proofs.running.Running.global_value.Goals as goal
 
 pub returns-in-Classes : goal.returns-in-Classes
 returns-in-Classes c =

@@ -1,8 +1,8 @@
 use Rattle.std.proofs.Common.{refl}
 use Rattle.click_router.specs.Opened.{IsFirstFault}
 use Rattle.click_router.specs.Swap.{installed, refused}
-use Rattle.click_router.proofs.Running.{other_fault}
-use Rattle.click_router.proofs.opening.Prepared.swap.Goals as goal
+use Rattle.click_router.proofs.Untouched.{other_fault}
+use Rattle.click_router.proofs.running.Running.swap.Goals as goal
 
 pub returns-in-Ok-clause-swaps : goal.returns-in-Ok-clause-swaps
 returns-in-Ok-clause-swaps c = rw (c.install.ensures, c.of.ensures) (installed c.in-Ok.prepared c.in-Ok.ensures.opened)
