@@ -1,7 +1,7 @@
 //! What a router is asked, and what it answers.
 
-ghost use Rattle.std.specs.Prelude.{◌≡◌};
-ghost use Rattle.click_router.specs.One.{refusal_of};
+ghost use Rattle.std.specs.Prelude.{◌≡◌, false};
+ghost use Rattle.click_router.specs.One.{refusal_of, refusal_holds};
 
 use crate::fault::ConfigFault;
 use click_handlers::HandlerFault;
@@ -97,7 +97,8 @@ pub enum StepFault {
 
 /// Why there is no handler of that name for one way.
 pub(crate) fn refusal_of(has_other: bool) -> Refusal
-    ensures { result ≡ refusal_of has_other }
+    ensures is { result ≡ refusal_of has_other }
+    ensures light { refusal_holds result ≡ false }
 {
     if has_other {
         Refusal::WrongWay

@@ -1,9 +1,8 @@
-//! Copies of calls and refusals.
+//! Copies of calls and faults.
 
-ghost use Rattle.std.specs.Prelude.{◌≡◌, length, take, slice_index_or, true, IfOk, IfErr};
-ghost use Rattle.click_router.specs.One.{refusal_holds};
+ghost use Rattle.std.specs.Prelude.{◌≡◌, length, take, slice_index_or, IfOk};
 
-use crate::call::{Call, Refusal};
+use crate::call::Call;
 use crate::fault::{ConfigFault, FaultPlace};
 use click_packet::StoredPacket;
 use click_text::sequence::Sequence;
@@ -102,22 +101,6 @@ impl FaultPlace {
                 side: *side,
                 port: *port,
             },
-        })
-    }
-}
-
-impl Refusal {
-    /// An equal refusal. It takes memory only where it holds some.
-    pub fn copy(&self, alloc: Global) -> Result<Refusal, AllocError>
-        ensures copy { IfOk result (λ copy. copy ≡ self.now) }
-        ensures light { IfErr result (λ _. refusal_holds self.now ≡ true) }
-    {
-        Ok(match self {
-            Refusal::NoElement => Refusal::NoElement,
-            Refusal::NoHandler => Refusal::NoHandler,
-            Refusal::WrongWay => Refusal::WrongWay,
-            Refusal::Handler(fault) => Refusal::Handler(*fault),
-            Refusal::Config(fault) => Refusal::Config(fault.copy(alloc)?),
         })
     }
 }

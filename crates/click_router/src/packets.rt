@@ -71,9 +71,9 @@ impl Running {
         }
         let mut whole = Packet::empty();
         if self.plant.pull_into(device, &mut whole) {
-            Recorded::of(Kept::Sent(Some(room.keep(&whole))))
+            Recorded::of(Kept::Sent(room.keep(&whole)))
         } else {
-            Recorded::of(Kept::Sent(None))
+            Recorded::of(Kept::SentNone)
         }
     }
 }

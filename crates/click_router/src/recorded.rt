@@ -1,10 +1,12 @@
 //! A reply as a history keeps it.
 
-ghost use Rattle.std.specs.Prelude.{◌≡◌, true, IfOk, IfErr, is_some};
-ghost use Rattle.click_router.specs.One.{holds_memory, sends_packet};
+ghost use Rattle.std.specs.Prelude.{◌≡◌, true, false, IfOk, IfErr, is_some};
+ghost use Rattle.click_router.specs.One.{refusal_holds, holds_memory, sends_packet};
 ghost use Rattle.click_router.specs.Recorded.{reply_of};
 
 use crate::call::{Refusal, Reply};
+use crate::fault::ConfigFault;
+use click_handlers::HandlerFault;
 use click_packet::{Packet, PacketRoom, StoredPacket};
 use click_text::sequence::Sequence;
 use std::alloc::{AllocError, Global};
@@ -15,10 +17,16 @@ use std::marker::Model;
 pub enum Kept {
     Value(Sequence<u8>),
     Done,
-    Refused(Refusal),
+    NoElement,
+    NoHandler,
+    WrongWay,
+    Handler(HandlerFault),
+    // In a box, since it is large and rare.
+    Config(Box<ConfigFault>),
     Entered(u64),
     Worked(u64),
-    Sent(Option<StoredPacket>),
+    Sent(StoredPacket),
+    SentNone,
     NoDevice,
 }
 
@@ -44,13 +52,28 @@ impl Recorded {
         Recorded { kept }
     }
 
-    /// Of a call that is refused.
+    /// Of a call that is refused, but not for a configuration.
     pub(crate) fn refused(why: Refusal) -> Recorded
+        requires { refusal_holds why ≡ false }
         ensures { result ≡ Reply.Refused why }
     {
-        Recorded {
-            kept: Kept::Refused(why),
-        }
+        let kept = match why {
+            Refusal::NoElement => Kept::NoElement,
+            Refusal::NoHandler => Kept::NoHandler,
+            Refusal::WrongWay => Kept::WrongWay,
+            Refusal::Handler(fault) => Kept::Handler(fault),
+            Refusal::Config(_) => unreachable!(),
+        };
+        Recorded { kept }
+    }
+
+    /// Of a swap that is refused.
+    pub(crate) fn faulty(alloc: Global, fault: ConfigFault) -> Result<Recorded, AllocError>
+        ensures { IfOk result (λ r. r ≡ Reply.Refused (Refusal.Config fault)) }
+    {
+        Ok(Recorded {
+            kept: Kept::Config(Box::new(alloc, fault)?),
+        })
     }
 
     /// An equal one. Where a packet was sent, there must be room for it already; only a value and a refusal take memory.
@@ -64,14 +87,18 @@ impl Recorded {
                 Kept::Value(Sequence::of(Vec::from_slice(alloc, value.as_slice())?))
             }
             Kept::Done => Kept::Done,
-            Kept::Refused(why) => Kept::Refused(why.copy(alloc)?),
+            Kept::NoElement => Kept::NoElement,
+            Kept::NoHandler => Kept::NoHandler,
+            Kept::WrongWay => Kept::WrongWay,
+            Kept::Handler(fault) => Kept::Handler(*fault),
+            Kept::Config(fault) => Kept::Config(Box::new(alloc, fault.copy(alloc)?)?),
             Kept::Entered(count) => Kept::Entered(*count),
             Kept::Worked(count) => Kept::Worked(*count),
-            Kept::Sent(None) => Kept::Sent(None),
-            Kept::Sent(Some(packet)) => match room {
-                Some(room) => Kept::Sent(Some(room.copy_of(packet))),
+            Kept::Sent(packet) => match room {
+                Some(room) => Kept::Sent(room.copy_of(packet)),
                 None => unreachable!(),
             },
+            Kept::SentNone => Kept::SentNone,
             Kept::NoDevice => Kept::NoDevice,
         };
         Ok(Recorded { kept })
@@ -85,11 +112,15 @@ impl Recorded {
         match kept {
             Kept::Value(value) => Reply::Value(value),
             Kept::Done => Reply::Done,
-            Kept::Refused(why) => Reply::Refused(why),
+            Kept::NoElement => Reply::Refused(Refusal::NoElement),
+            Kept::NoHandler => Reply::Refused(Refusal::NoHandler),
+            Kept::WrongWay => Reply::Refused(Refusal::WrongWay),
+            Kept::Handler(fault) => Reply::Refused(Refusal::Handler(fault)),
+            Kept::Config(fault) => Reply::Refused(Refusal::Config(Box::into_inner(fault))),
             Kept::Entered(count) => Reply::Entered(count),
             Kept::Worked(count) => Reply::Worked(count),
-            Kept::Sent(None) => Reply::Sent(None),
-            Kept::Sent(Some(stored)) => {
+            Kept::SentNone => Reply::Sent(None),
+            Kept::Sent(stored) => {
                 let mut packet = Packet::empty();
                 stored.write_to(&mut packet);
                 Reply::Sent(Some(packet))

@@ -4,7 +4,7 @@ ghost use Rattle.std.specs.Prelude.{◌≡◌, true, IfOk, MatchResult};
 ghost use Rattle.click_router.specs.One.{holds_memory};
 ghost use Rattle.click_router.specs.Swap.{taken, Swaps};
 
-use crate::call::{Refusal, StepFault};
+use crate::call::StepFault;
 use crate::fault::FaultKind;
 use crate::opening::{Prepared, prepare};
 use crate::recorded::{Kept, Recorded};
@@ -38,7 +38,10 @@ impl Running {
             }
             Err(fault) => match fault.kind {
                 FaultKind::NoMemory => Err(StepFault::NoMemory),
-                _ => Ok(Recorded::refused(Refusal::Config(fault))),
+                _ => match Recorded::faulty(alloc, fault) {
+                    Ok(reply) => Ok(reply),
+                    Err(_) => Err(StepFault::NoMemory),
+                },
             },
         }
     }

@@ -7,7 +7,7 @@ use Rattle.click_router.proofs.running.Running.swap.Goals as goal
 pub returns-in-Ok-clause-swaps : goal.returns-in-Ok-clause-swaps
 returns-in-Ok-clause-swaps c = rw (c.install.ensures, c.of.ensures) (installed c.in-Ok.prepared c.in-Ok.ensures.opened)
 
-pub returns-in_default : goal.returns-in_default
-returns-in_default c =
+pub returns-in-Ok-faulty : goal.returns-in-Ok-faulty
+returns-in-Ok-faulty c =
     let fault = c.in-Err.fault in let text = c.args.text.now in
-    record { swaps = rw c.refused.ensures (refused fault (other_fault (IsFirstFault text fault) fault c.in_default.not-NoMemory c.in-Err.ensures.err)); light = λ e. refl }
+    record { swaps = rw c.in-Ok-faulty.ensures (refused fault (other_fault (IsFirstFault text fault) fault c.in_default.not-NoMemory c.in-Err.ensures.err)); light = λ e. refl }
