@@ -1,6 +1,6 @@
 #!/usr/bin/env bash
-# The gate: every proof from nothing, the must-fail edits, the tests and the stored runs; then, with the programs that this has built, the scripts that
-# try the programs and the pages; and at last these scripts themselves, against programs that are wrong.
+# The gate: every proof from nothing, the tests and the stored runs; then, over the libraries and programs that this has built, the wrong bodies that the
+# prover has to refuse, and the scripts that try the programs and the pages; and at last these scripts themselves, against programs and edits that are wrong.
 set -eu
 cd "$(dirname "$(readlink -f "$0")")"
 . tools/built.sh
@@ -14,6 +14,7 @@ if [ "$(sum_of_sources)" != "$sources" ]; then
     exit 1
 fi
 write_stamp "$sources"
+tools/wrong_bodies.py
 tools/front_door.sh
 tools/readme.sh
 tools/tries.sh

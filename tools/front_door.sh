@@ -12,7 +12,7 @@ cp "${2:-$top/tools/built.sh}" "$tree/tools/built.sh"
 printf 'low:\nmiddle: low itoa # a library\nclick_prog: middle\nclick_bench: click_prog\n' > "$tree/crates.txt"
 printf 'Handles allowed: none.\n' > "$tree/HANDLES"
 for crate in low middle click_prog click_bench; do
-    for part in src specs proofs must-fail; do
+    for part in src specs proofs wrong-bodies; do
         mkdir -p "$tree/crates/$crate/$part"
         echo "$crate" > "$tree/crates/$crate/$part/file"
     done
@@ -79,7 +79,7 @@ for file in crates/low/src/file crates/middle/specs/file crates/click_prog/proof
 done
 rm "$tree/crates/click_prog/src/new"
 runs 1 'after a file is gone'
-for file in crates/click_bench/src/file crates/low/must-fail/file README.md; do
+for file in crates/click_bench/src/file crates/low/wrong-bodies/file README.md; do
     echo more >> "$tree/$file"
     runs 0 "after a change of $file"
 done

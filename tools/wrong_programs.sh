@@ -1,6 +1,6 @@
 #!/usr/bin/env bash
-# Shows that the scripts of the gate can fail: each is run against programs that answer wrongly, and pages that say something wrong, and has to refuse
-# each that concerns it: with status 1, and saying why. A wrong program runs the real one and changes what comes. One that changes nothing has to pass,
+# Shows that the scripts of the gate can fail: each is run against programs that answer wrongly, pages that say something wrong and edits that are none, and has
+# to refuse each that concerns it: with status 1, and saying why. A wrong program runs the real one and changes what comes. One that changes nothing has to pass,
 # so that it is the change that is refused. The programs must have been built.
 set -eu
 . "$(dirname "$(readlink -f "$0")")/checking.sh"
@@ -381,3 +381,60 @@ mkdir "$work/without"
 for word in bash dirname readlink mktemp rm; do ln -s "$(command -v $word)" "$work/without/$word"; done
 is_refused 'no C compiler' env PATH="$work/without" "$work/without/bash" tools/refuse.sh
 echo 'no C compiler is a failure'
+
+# The edits. A small crate, whose second function calls the first: what is wrong in both is refused in each; an edit that keeps the meaning is not refused because the
+# function that it calls is; and an edit that does not apply, is not read or does not compile is no edit.
+refused=0
+tree=$work/edits
+mkdir -p "$tree/crates/small/src" "$tree/crates/small/wrong-bodies"
+echo 'small:' > "$tree/crates.txt"
+cat > "$tree/crates/small/src/lib.rt" << 'E'
+//! Numbers that come next.
+
+#![tactic(auto)]
+
+ghost use Rattle.std.specs.Prelude.{◌≡◌, ◌+◌, ◌≤◌};
+
+/// The number after this one.
+pub fn next(n: u8) -> u8
+    requires { n ≤ 99 }
+    ensures { result ≡ n + 1 }
+{
+    n + 1
+}
+
+/// The number after the next.
+pub fn after_next(n: u8) -> u8
+    requires { n ≤ 98 }
+    ensures { result ≡ n + 2 }
+{
+    next(n + 1)
+}
+E
+# edit NAME OLD NEW: the only edit beside that of the first function.
+edit() {
+    rm -f "$tree/crates/small/wrong-bodies"/*
+    printf 'file: src/lib.rt\nold:     n + 1\nnew:     n + 2\n' > "$tree/crates/small/wrong-bodies/two_more.edit"
+    printf 'file: src/lib.rt\nold: %s\nnew: %s\n' "$2" "$3" > "$tree/crates/small/wrong-bodies/$1.edit"
+}
+edit same_number '    next(n + 1)' '    next(n)'
+TREE=$tree ran tools/wrong_bodies.py
+same_status 0 "$status" 'tools/wrong_bodies.py, with two wrong bodies'
+same '2 passed, 0 failed' "$(tail -n 1 "$work/out")" 'tools/wrong_bodies.py, with two wrong bodies'
+# wrong_edit WHY NAME OLD NEW: it is refused for that.
+wrong_edit() {
+    local why=$1
+    shift
+    edit "$@"
+    TREE=$tree is_refused "the edit $1" tools/wrong_bodies.py
+    if ! grep -q "$why" "$work/err"; then fail "the edit $1: wanted: $why" "came:" "$(shown "$work/err")"; fi
+}
+wrong_edit 'NOT REFUSED: small::after_next' other_order '    next(n + 1)' '    next(1 + n)'
+wrong_edit 'stands 0 times' no_such_text '    next(n + 3)' '    next(n)'
+wrong_edit 'did not reach the prover' no_such_name '    next(n + 1)' '    next_of(n + 1)'
+edit no_pair '    next(n + 1)' '    next(n)'
+sed -i '$d' "$tree/crates/small/wrong-bodies/no_pair.edit"
+TREE=$tree is_refused 'an edit without its new text' tools/wrong_bodies.py
+rm "$tree/crates/small/wrong-bodies"/*
+TREE=$tree is_refused 'a crate without edits' tools/wrong_bodies.py
+echo "$refused times a wrong edit was refused"

@@ -147,6 +147,60 @@ impl<T: Handlers> Booked<T> {
         ensures err { OnErr result ((self.new ≡ self.old) × (calls.new.items ≡ calls.old.items)) }
         ensures full { (result ≡ Err DeskFault.HistoryFull) ↔ (self.old.terms.room ≤ length self.old.entries) }
     {
+        // What drivers call all the time needs none of the places that other calls need, and each of these costs what it holds, used or not.
+        match call {
+            Call::Round => self.enter_round(number, calls),
+            call => self.enter_any(alloc, number, calls, call),
+        }
+    }
+
+    /// A Round as `enter` makes it. It takes no memory but for its places in both lists.
+    fn enter_round(
+        &mut self,
+        number: usize,
+        calls: &mut Vec<(Call, Recorded)>,
+    ) -> Result<Recorded, DeskFault>
+        ensures terms { self.new.terms ≡ self.old.terms }
+        ensures legal { Legal self.new.terms.opening self.new.entries self.new.state }
+        ensures polled { IsPolled self.new.entries self.new.taps }
+        ensures ok { IfOk result (λ reply. (self.new.entries ≡ self.old.entries ++ entry number Call.Round reply ∷ []) × (calls.new.items ≡ calls.old.items ++ (Call.Round, reply) ∷ []) × (length self.new.entries ≤ self.new.terms.room)) }
+        ensures err { OnErr result ((self.new ≡ self.old) × (calls.new.items ≡ calls.old.items)) }
+        ensures full { (result ≡ Err DeskFault.HistoryFull) ↔ (self.old.terms.room ≤ length self.old.entries) }
+    {
+        let ledger = &mut *self.ledger;
+        if ledger.entries.len() >= ledger.terms.room {
+            return Err(DeskFault::HistoryFull);
+        }
+        if ledger.entries.reserve(1).is_err() || calls.reserve(1).is_err() {
+            return Err(DeskFault::NoMemory);
+        }
+        let worked = self.router.round();
+        ledger.entries.push_reserved(Entry {
+            seat: number,
+            call: Call::Round,
+            reply: Recorded::worked(worked),
+        });
+        calls.push_reserved((Call::Round, Recorded::worked(worked)));
+        Ok(Recorded::worked(worked))
+    }
+
+    /// A call as `enter` makes it, which may send a packet and may take memory.
+    #[inline(never)]
+    fn enter_any(
+        &mut self,
+        alloc: Global,
+        number: usize,
+        calls: &mut Vec<(Call, Recorded)>,
+        call: Call,
+    ) -> Result<Recorded, DeskFault>
+        requires { is_poll call ≡ false }
+        ensures terms { self.new.terms ≡ self.old.terms }
+        ensures legal { Legal self.new.terms.opening self.new.entries self.new.state }
+        ensures polled { IsPolled self.new.entries self.new.taps }
+        ensures ok { IfOk result (λ reply. (self.new.entries ≡ self.old.entries ++ entry number call reply ∷ []) × (calls.new.items ≡ calls.old.items ++ (call, reply) ∷ []) × (length self.new.entries ≤ self.new.terms.room)) }
+        ensures err { OnErr result ((self.new ≡ self.old) × (calls.new.items ≡ calls.old.items)) }
+        ensures full { (result ≡ Err DeskFault.HistoryFull) ↔ (self.old.terms.room ≤ length self.old.entries) }
+    {
         let ledger = &mut *self.ledger;
         if ledger.entries.len() >= ledger.terms.room {
             return Err(DeskFault::HistoryFull);

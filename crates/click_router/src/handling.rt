@@ -264,7 +264,7 @@ impl Handlers for Table {
             Call::Swap { text } => running.swap(alloc, text.as_slice()),
             Call::Arrive { device, packet } => Ok(running.arrive(device.as_slice(), packet)),
             Call::Poll { device, taken } => Ok(running.poll(device.as_slice(), taken.as_slice())),
-            Call::Round => Ok(running.round()),
+            Call::Round => Ok(Recorded::worked(running.round())),
             Call::Transmit { device } => match room {
                 Some(room) => Ok(running.transmit_kept(device.as_slice(), room)),
                 None => unreachable!(),

@@ -45,11 +45,11 @@ impl Running {
         Recorded::of(Kept::Entered(taken.len() as u64))
     }
 
-    /// Each task runs once.
-    pub(crate) fn round(&mut self) -> Recorded
-        ensures { worked self.old ≡ (self.new, result) }
+    /// Each task runs once. How many packets they gave or pulled.
+    pub(crate) fn round(&mut self) -> u64
+        ensures { worked self.old ≡ (self.new, Reply.Worked result) }
     {
-        Recorded::of(Kept::Worked(self.plant.round()))
+        self.plant.round()
     }
 
     /// A device takes a packet, which stays as it came.

@@ -52,6 +52,15 @@ impl Recorded {
         Recorded { kept }
     }
 
+    /// Of a Round, in which the tasks gave or pulled this many packets.
+    pub fn worked(count: u64) -> Recorded
+        ensures { result ≡ Reply.Worked count }
+    {
+        Recorded {
+            kept: Kept::Worked(count),
+        }
+    }
+
     /// Of a call that is refused, but not for a configuration.
     pub(crate) fn refused(why: Refusal) -> Recorded
         requires { refusal_holds why ≡ false }

@@ -58,6 +58,13 @@ impl<T> Router<T> {
     {
         self.running.install(prepared);
     }
+
+    /// Each task runs once, as a step of Round runs it. How many packets they gave or pulled, as its reply tells it.
+    pub fn round(&mut self) -> u64
+        ensures { Answers self.old Call.Round self.new (Reply.Worked result) }
+    {
+        self.running.round()
+    }
 }
 
 impl<T: Handlers> Router<T> {

@@ -7,7 +7,7 @@ use Rattle.click_desk.specs.History.{entry, Legal}
 use Rattle.click_desk.specs.Polls.{IsPolled}
 use Rattle.click_desk.proofs.Histories.{legal_more}
 use Rattle.click_desk.proofs.Polled.{polled_same}
-use Rattle.click_desk.proofs.booked.Booked.enter.Goals as goal
+use Rattle.click_desk.proofs.booked.Booked.enter_any.Goals as goal
 
 pub returns-clause-legal : goal.returns-clause-legal
 returns-clause-legal g c =

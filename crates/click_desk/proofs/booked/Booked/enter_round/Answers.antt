@@ -1,0 +1,39 @@
+use Rattle.std.proofs.Common.{◌≡◌, ◌++◌, ◌∷◌, [], true, List, map, ◌∙◌, ap, subst, sym, refl}
+use Rattle.click_rings.specs.Feeds.{name_of, are_apart}
+use Rattle.click_router.specs.One.{Answers}
+use Rattle.click_router.specs.declared.call.Call.TheVariants as call
+use Rattle.click_desk.specs.declared.booked.Ledger.{Ledger}
+use Rattle.click_desk.specs.declared.entry.Entry.{Entry}
+use Rattle.click_desk.specs.History.{entry, Legal}
+use Rattle.click_desk.specs.Polls.{IsPolled}
+use Rattle.click_desk.proofs.Histories.{legal_more}
+use Rattle.click_desk.proofs.Polled.{polled_same}
+use Rattle.click_desk.proofs.booked.Booked.enter_round.Goals as goal
+
+pub returns-clause-legal : goal.returns-clause-legal
+returns-clause-legal g c =
+    let ledger : Ledger = c.deref_mut-ledger.result.now in
+    let router = c.self.inside.router in
+    let e : Entry = entry c.args.number call.Round c.worked.result in
+    let is : Answers router call.Round c.round-worked.new.self c.worked.result =
+    subst (λ r. Answers router call.Round c.round-worked.new.self r) (sym c.worked.ensures) c.round-worked.ensures in
+    let items : c.push_reserved.new.self.items ≡ ledger.entries.items ++ e ∷ [] = c.push_reserved.ensures.items ∙ ap (λ l. l ++ e ∷ []) c.reserve.ensures.items in
+    let held : Legal ledger.terms.opening ledger.entries.items router =
+    subst (λ (l : Ledger). Legal l.terms.opening l.entries.items router) (sym c.deref_mut-ledger.ensures.value) c.self.invariant.0 in
+    subst (λ (l : List Entry). Legal ledger.terms.opening l c.round-worked.new.self) (sym items) (legal_more ledger.terms.opening ledger.entries.items router e c.round-worked.new.self held is)
+
+pub returns-clause-polled : goal.returns-clause-polled
+returns-clause-polled g c =
+    let ledger : Ledger = c.deref_mut-ledger.result.now in
+    let e : Entry = entry c.args.number call.Round c.worked.result in
+    let items : c.push_reserved.new.self.items ≡ ledger.entries.items ++ e ∷ [] = c.push_reserved.ensures.items ∙ ap (λ l. l ++ e ∷ []) c.reserve.ensures.items in
+    let drawn : IsPolled ledger.entries.items ledger.taps.items =
+    subst (λ (l : Ledger). IsPolled l.entries.items l.taps.items) (sym c.deref_mut-ledger.ensures.value) c.self.invariant.1 in
+    subst (λ (l : List Entry). IsPolled l ledger.taps.items) (sym items) (polled_same ledger.entries.items e ledger.taps.items refl drawn)
+
+pub invariant_of-self-2 : goal.invariant_of-self-2
+invariant_of-self-2 g c = (
+  returns-clause-legal g c,
+  returns-clause-polled g c,
+  subst (λ (l : Ledger). are_apart (map name_of l.taps.items) ≡ true) (sym c.deref_mut-ledger.ensures.value) c.self.invariant.2,
+)
