@@ -4,6 +4,20 @@
 set -eu
 cd "$(dirname "$(readlink -f "$0")")"
 . tools/built.sh
+times_file=$(mktemp)
+trap 'rm -f "$times_file"' EXIT
+
+# took PART: says what the part that ends here took, in minutes of processors.
+before=0
+took() {
+    local now
+    times > "$times_file"
+    now=$(awk 'NR == 2 { for (at = 1; at <= 2; at++) { split($at, part, /[ms]/); sum += 60 * part[1] + part[2] } print sum }' "$times_file")
+    awk -v part="$1" -v now="$now" -v before="$before" \
+        'BEGIN { printf "test.sh: %s took %.1f minutes of processors, %.1f so far\n", part, (now - before) / 60, now / 60 }'
+    before=$now
+}
+
 sources=$(sum_of_sources)
 # A check for each processor, where there are 4 GB for each: none was seen to take more than 3.5. By itself rt expects them to take several times as much,
 # and leaves processors idle.
@@ -14,7 +28,9 @@ if [ "$(sum_of_sources)" != "$sources" ]; then
     exit 1
 fi
 write_stamp "$sources"
+took 'what is proved from nothing, with the tests and the stored runs,'
 tools/wrong_bodies.py
+took 'what is wrong and has to be refused'
 tools/front_door.sh
 tools/readme.sh
 tools/tries.sh
@@ -31,4 +47,6 @@ tools/pcap_example.sh
 tools/swap_faults.sh
 tools/swap_sizes.sh
 tools/refuse.sh
+took 'what tries the programs and the pages'
 tools/wrong_programs.sh
+took 'what shows that these checks can fail'

@@ -232,8 +232,10 @@ def refused_by_itself(said):
             errors.setdefault(found[1], found[2])
     refused, checked = {}, set()
     for path, verdict in re.findall(r"^fn ([\w:+]+): (.*)$", said, re.M):
-        checked.add(path)
         place = "/".join(path.split("::")[1:])
+        # (a closure stands in its function)
+        path = re.sub(r"\bfn::(\w+)::.*", r"\1", path)
+        checked.add(path)
         open_goal = re.search(r"`search` did not prove .*|expected .*", verdict.partition("; it calls ")[0])
         if open_goal:
             refused[path] = open_goal[0]
