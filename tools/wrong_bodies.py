@@ -148,13 +148,13 @@ def body_of(function, lines):
     return next(alone, next((at for at in own if lines[at].endswith(" {") and not lines[at].strip().startswith(("requires", "ensures"))), function.last))
 
 
-def function_at(crate, folder, file, text, at):
-    """The function in whose body this place of the text is, if it is in one."""
+def function_at(crate, folder, file, text, at, with_head):
+    """The function in whose body, or in whose head, this place of the text is, if it is in one."""
     line = text.count("\n", 0, at)
     lines = text.split("\n")
     # (what a trait only declares has no body, and would end where the next one does)
     begun = [it for it in functions_of(crate, folder, file, text) if it.first <= line]
-    return begun[-1] if begun and body_of(begun[-1], lines) <= line <= begun[-1].last else None
+    return begun[-1] if begun and (with_head or body_of(begun[-1], lines) <= line) and line <= begun[-1].last else None
 
 
 # The edits
@@ -178,19 +178,20 @@ def read_edit(crate, folder, path):
             raise BadEdit(f"{path}: '{line}' is no line of an edit")
     if not pairs or old is not None:
         raise BadEdit(f"{path}: it has no whole pair of an old and a new text")
-    functions = functions_changed(crate, folder, path, pairs)
+    # (where it is said which functions are to be refused, a change of their heads is no change of anything else)
+    functions = functions_changed(crate, folder, path, pairs, bool(named))
     owned = set() if None in functions else {it.cycle or it.path for it in functions}
     return Edit(os.path.basename(path).removesuffix(".edit"), pairs, named or {it.path for it in functions if owned}, owned)
 
 
-def functions_changed(crate, folder, path, pairs):
-    """The functions whose bodies the pairs change, with None among them where something else is changed."""
+def functions_changed(crate, folder, path, pairs, with_heads):
+    """The functions whose bodies the pairs change, or whose heads, with None among them where something else is changed."""
     texts, found = {}, set()
     for file, old, new in pairs:
         text = texts.get(file) or text_of(f"{folder}/{file}")
         if text.count(old) != 1:
             raise BadEdit(f"{path}: the old text stands {text.count(old)} times in {file}: {old}")
-        found.add(function_at(crate, folder, file, text, text.find(old)) if file.endswith(".rt") else None)
+        found.add(function_at(crate, folder, file, text, text.find(old), with_heads) if file.endswith(".rt") else None)
         texts[file] = text.replace(old, new)
     # (by what a function is, since an earlier pair may have moved its lines)
     return {it and it._replace(first=0, last=0) for it in found}

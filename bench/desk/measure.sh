@@ -1,7 +1,8 @@
 #!/usr/bin/env bash
 # Calls a second through the desk: rounds of a gateway (some 900 instructions each) by 1, 2, 4 and 8 drivers of click_prog, each in a thread of its own, beside a
 # router alone (click_bench rounds) and beside plain Rust with the same history behind a mutex (peer). Each is the best of several runs, and the beginning
-# of a run is taken away by a run with a round less for each driver. Needs rustc, and the programs, which ./test.sh builds. It is no part of the gate; nothing else should run beside it.
+# of a run is taken away by a run without rounds. A run is long, and the peer's threads begin together: else the threads that begin first are done before the last
+# begin, and a mutex that nobody waits for is measured. Needs rustc, and the programs, which ./test.sh builds. It is no part of the gate; nothing else should run beside it.
 set -eu
 here="$(cd "$(dirname "$0")" && pwd)"
 work="$(mktemp -d)"
@@ -9,7 +10,7 @@ trap 'rm -rf "$work"' EXIT
 rustc --edition 2024 -C opt-level=3 -C codegen-units=1 -C target-cpu=x86-64-v2 -o "$work/peer" "$here/peer/main.rs"
 program=${PROGRAM:-$here/../../crates/click_prog/out/click_prog}
 bench=${BENCH:-$here/../../crates/click_bench/out/click_bench}
-calls=${CALLS_IN_ALL:-160000}
+calls=${CALLS_IN_ALL:-640000}
 
 # The gateway of bench/engine.
 printf -v bytes '%s' '\<4500 0040 0001 0000 4011 66a9 0a000001 0a010002 1000 0407 002c 0000' "$(printf ' %s' $(yes 07 | head -36))" '>'

@@ -10,7 +10,7 @@ mod router;
 #[path = "../../engine/peer/routers.rs"]
 mod routers;
 
-use std::sync::Mutex;
+use std::sync::{Barrier, Mutex};
 
 #[derive(Clone)]
 enum Call {
@@ -56,10 +56,11 @@ fn main() {
     let numbers: Vec<usize> = std::env::args().skip(1).map(|word| word.parse().unwrap()).collect();
     let (seats, rounds) = (numbers[0], numbers[1]);
     let desk = Mutex::new(Owned(Desk { router: routers::forward(), entries: Vec::new() }));
+    let all = Barrier::new(seats);
     let calls: usize = std::thread::scope(|scope| {
         let threads: Vec<_> = (0..seats).map(|seat| scope.spawn({
-            let desk = &desk;
-            move || work(desk, seat, rounds)
+            let (desk, all) = (&desk, &all);
+            move || { all.wait(); work(desk, seat, rounds) }
         })).collect();
         threads.into_iter().map(|thread| thread.join().unwrap().len()).sum()
     });
