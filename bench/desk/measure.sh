@@ -1,15 +1,15 @@
 #!/usr/bin/env bash
 # Calls a second through the desk: rounds of a gateway (some 900 instructions each) by 1, 2, 4 and 8 drivers of click_prog, each in a thread of its own, beside a
-# router alone (click_bench rounds) and beside plain Rust with the same history behind a mutex (peer). Each is the best of several runs, and the beginning
+# router alone (drive rounds) and beside plain Rust with the same history behind a mutex (peer). Each is the best of several runs, and the beginning
 # of a run is taken away by a run without rounds. A run is long, and the peer's threads begin together: else the threads that begin first are done before the last
-# begin, and a mutex that nobody waits for is measured. Needs rustc, and the programs, which ./test.sh builds. It is no part of the gate; nothing else should run beside it.
+# begin, and a mutex that nobody waits for is measured. Needs rt, rustc, and the program, which ./test.sh builds. It is no part of the gate; nothing else should run beside it.
 set -eu
 here="$(cd "$(dirname "$0")" && pwd)"
 work="$(mktemp -d)"
 trap 'rm -rf "$work"' EXIT
 rustc --edition 2024 -C opt-level=3 -C codegen-units=1 -C target-cpu=x86-64-v2 -o "$work/peer" "$here/peer/main.rs"
 program=${PROGRAM:-$here/../../crates/click_prog/out/click_prog}
-bench=${BENCH:-$here/../../crates/click_bench/out/click_bench}
+drive=${DRIVE:-$("$here/../drive/build.sh" "$work/built")}
 calls=${CALLS_IN_ALL:-640000}
 
 # The gateway of bench/engine.
@@ -17,7 +17,7 @@ printf -v bytes '%s' '\<4500 0040 0001 0000 4011 66a9 0a000001 0a010002 1000 040
 text="InfiniteSource(\"$bytes\", -1, 1) -> CheckIPHeader -> GetIPAddress(16) -> StaticIPLookup(0.0.0.0/0 0, 10.0.0.0/8 0, 10.1.0.0/16 10.9.9.9 0, 192.168.0.0/16 0)
     -> DecIPTTL -> EtherEncap(0x0800, 1:1:1:1:1:1, 2:2:2:2:2:2) -> Queue(1000) -> Unqueue -> Counter -> Discard;"
 
-alone() { "$bench" rounds "$1" <<< "$text"; }
+alone() { "$drive" rounds "$1" <<< "$text"; }
 desk() { "$program" -e "$text" -w "$2" --rounds "$1" < /dev/null; }
 mutex() { "$work/peer" "$2" "$1"; }
 

@@ -7,10 +7,9 @@ here="$(cd "$(dirname "$0")" && pwd)"
 work="$(mktemp -d)"
 trap 'rm -rf "$work"' EXIT
 
-bench="$here/../../crates/click_bench"
-(cd "$bench" && rt run > "$work/log" 2>&1) || { tail -20 "$work/log"; exit 1; }
+drive=${DRIVE:-$("$here/../drive/build.sh" "$work/built")}
 rustc --edition 2024 -C opt-level=3 -C codegen-units=1 -C target-cpu=x86-64-v2 -o "$work/peer" "$here/peer/main.rs"
-ours=("$bench/out/click_bench" engine)
+ours=("$drive" engine)
 peer=("$work/peer")
 rounds=1024 # a multiple of the entries of the table of routes
 

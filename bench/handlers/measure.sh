@@ -8,9 +8,8 @@ work="$(mktemp -d)"
 trap 'rm -rf "$work"' EXIT
 
 crates="$here/../../crates"
-for name in click_bench click_prog; do
-    (cd "$crates/$name" && rt run > "$work/log" 2>&1) || { tail -20 "$work/log"; exit 1; }
-done
+(cd "$crates/click_prog" && rt run > "$work/log" 2>&1) || { tail -20 "$work/log"; exit 1; }
+drive=${DRIVE:-$("$here/../drive/build.sh" "$work/built")}
 for name in read session; do
     rustc --edition 2024 -C opt-level=3 -C codegen-units=1 -C target-cpu=x86-64-v2 -o "$work/$name" "$here/$name.rs"
 done
@@ -45,7 +44,7 @@ same() { # what is compared
 
 echo 'instructions a read: elements, ours, plain Rust'
 for elements in 3 4095; do
-    first="$(each "$crates/click_bench/out/click_bench" "$elements")"
+    first="$(each "$drive" "$elements")"
     cp "$work/printed" "$work/answer"
     second="$(each "$work/read" "$elements")"
     same "$elements"

@@ -1,4 +1,4 @@
-//! Parses large texts, makes elements with many arguments and prepares routers, to be measured from outside; it prints sizes and counts alone.
+//! Parses large texts, makes elements with many arguments and prepares routers, to be tried and measured from outside; it prints sizes and counts alone.
 //! With no arguments it does all it can at the greatest sizes. Else:
 //!
 //! - `KIND SIZE` parses a text of that kind and size in bytes: its kind, its size, how many statements and bodies it has;
@@ -6,20 +6,12 @@
 //! - `retry` swaps a router with queued packets to what stands on standard input, and again where memory was refused;
 //! - `refeed` opens, calls, polls, closes and settles a desk with a feed, and each again where memory was refused;
 //! - `lookup COUNT`, `classifier COUNT` make an element of that many arguments;
-//! - `engine CASE COUNT` drives a plant that many times (bench/engine);
-//! - `read ELEMENTS COUNT` reads a Counter's count that many times in a router of so many elements (bench/handlers);
-//! - `rounds COUNT` makes that many rounds of the router on standard input (bench/desk);
-//! - `feeds ring|polls|arrivals COUNT` sends packets through a ring alone, or 32 at a time into a router (bench/feeds);
 //! - `make CLASS` makes an element of the class with the configuration string on standard input.
 #![tactic(auto)]
 
-mod driving;
-mod engine;
 mod expanding;
-mod feeding;
 mod making;
 mod preparing;
-mod reading;
 mod refeeding;
 mod retrying;
 
@@ -154,28 +146,8 @@ fn run<R: Threads + Wait + Sync>(threads: &R, rt: &HostRuntime) -> io::Result<()
         if kind.as_str() == "make" {
             return making::one(rt, size.as_str());
         }
-        if kind.as_str() == "rounds" {
-            return driving::input(threads, rt, size.parse::<usize>().unwrap_or(0));
-        }
         if let Ok(size) = size.parse::<usize>() {
             return sized(rt, kind.as_str(), size);
-        }
-    }
-    if let [_, word, case, count] = words.as_slice() {
-        if word.as_str() == "engine" {
-            return engine::run(rt, case.as_str(), count.parse::<usize>().unwrap_or(0));
-        }
-        if word.as_str() == "feeds" {
-            return feeding::run(
-                threads,
-                rt,
-                case.as_str(),
-                count.parse::<usize>().unwrap_or(0),
-            );
-        }
-        if word.as_str() == "read" {
-            let elements = case.parse::<usize>().unwrap_or(0);
-            return reading::run(threads, rt, elements, count.parse::<usize>().unwrap_or(0));
         }
     }
     for kind in KINDS {
