@@ -3,7 +3,7 @@ use Rattle.std.proofs.Common.{◌≡◌, ℕ, ◌+◌, List, [], ◌∷◌, leng
 use Rattle.std.proofs.lemmas.Bool.{cond_both}
 use Rattle.click_packet.specs.Header.{ttl}
 use Rattle.click_packet.specs.Packet.{Packet}
-use Rattle.click_classes.specs.Acts.{act, pass, gives, stored, emission, is_active, front_dropped, switched, routed, classified, aged, ether_header, first_of, fresh_packet, up_by, Passed, Acted, Stored}
+use Rattle.click_classes.specs.Acts.{act, pass, gives, stored, emission, is_active, front_dropped, switched, routed, classified, aged, first_of, fresh_packet, up_by, Passed, Acted, Stored}
 use Rattle.click_classes.specs.Routes.{route}
 use Rattle.click_classes.specs.PacketList.{PacketList}
 use Rattle.click_classes.specs.Settings.{settings}
@@ -26,8 +26,7 @@ aged-settings p (Some hops) = passes state.DecIPTTL (nat_le hops 1) _ _ refl ref
 pub pass-settings : (s : State) (p : Packet) → settings (pass s p).state ≡ settings s
 unfolding pass
 pass-settings state.DecIPTTL p = aged-settings p (ttl p.bytes)
-pass-settings (state.EtherEncap ether_type source destination) p =
-    passes (state.EtherEncap ether_type source destination) (nat_le (length (ether_header ether_type source destination) + length p.bytes) 1600) _ _ refl refl
+pass-settings (state.EtherEncap header) p = passes (state.EtherEncap header) (nat_le (length header + length p.bytes) 1600) _ _ refl refl
 pass-settings _ p = refl
 
 front_dropped-settings : (ps : List Packet) (q : PacketList) (drops highest : ℕ) (p : Packet)

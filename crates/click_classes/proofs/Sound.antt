@@ -3,7 +3,7 @@ use Rattle.std.proofs.Common.{◌≡◌, ℕ, ◌+◌, ◌≤◌, List, [], ◌�
 use Rattle.std.proofs.lemmas.Bool.{cond_both, eqb-false}
 use Rattle.click_packet.specs.Header.{ttl}
 use Rattle.click_packet.specs.Packet.{Packet}
-use Rattle.click_classes.specs.Acts.{act, pass, gives, stored, emission, is_active, queued, front_queued, front_dropped, switched, routed, classified, aged, ether_header, first_of, fresh_packet, up_by, Passed, Acted, Stored}
+use Rattle.click_classes.specs.Acts.{act, pass, gives, stored, emission, is_active, queued, front_queued, front_dropped, switched, routed, classified, aged, first_of, fresh_packet, up_by, Passed, Acted, Stored}
 use Rattle.click_classes.specs.Routes.{route}
 use Rattle.click_classes.specs.PacketList.{PacketList}
 use Rattle.click_classes.specs.Queues.{IsSound}
@@ -26,8 +26,7 @@ aged-sound p (Some hops) = passes (nat_le hops 1) _ _ tt tt
 pub pass-sound : (s : State) (p : Packet) → IsSound s → IsSound (pass s p).state
 unfolding pass
 pass-sound state.DecIPTTL p h = aged-sound p (ttl p.bytes)
-pass-sound (state.EtherEncap ether_type source destination) p h =
-    passes (nat_le (length (ether_header ether_type source destination) + length p.bytes) 1600) _ _ tt tt
+pass-sound (state.EtherEncap header) p h = passes (nat_le (length header + length p.bytes) 1600) _ _ tt tt
 pass-sound _ p h = h
 
 -- a packet is stored last where there is room

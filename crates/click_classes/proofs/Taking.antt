@@ -1,5 +1,5 @@
 -- What is taken over.
-use Rattle.std.proofs.Common.{◌≡◌, ℕ, ◌+◌, ◌-◌, ◌≤◌, List, length, take, Option, Some, None, refl, ap, ◌∙◌, arith, length-take}
+use Rattle.std.proofs.Common.{◌≡◌, ℕ, ◌+◌, ◌≤◌, length, take, Some, None, refl, ap, ◌∙◌, arith, length-take}
 use Rattle.click_classes.specs.Fitting.{FitsPorts}
 use Rattle.click_classes.specs.PacketList.{PacketList}
 use Rattle.click_classes.specs.Queues.{Queued, queue_of, IsSound}

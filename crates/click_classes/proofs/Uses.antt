@@ -15,7 +15,7 @@ use Rattle.click_classes.specs.declared.state.State.TheVariants as state
 use Rattle.click_classes.specs.declared.values.entry.Entry.{Entry}
 use Rattle.click_classes.specs.Counts.{ports, at_least, up_to_256, outputs_for, counts}
 use Rattle.click_classes.specs.Entries.{word, entry_of, entry, has_prefix, with_entry, table}
-use Rattle.click_classes.specs.Fresh.{argument_at, given_or, optional, addresses, source_bytes, without_arguments, suppressor, capacity, empty, queue, front_drop_queue, switch_port, switch, pull_switch, copies, tee, pull_tee, only_number, paint, paint_tee, strip, check_length, get_ip_address, ether_encap, device, from_device, to_device, classifier, static_ip_lookup, check_ip_header, infinite_source}
+use Rattle.click_classes.specs.Fresh.{argument_at, given_or, optional, addresses, source_bytes, without_arguments, suppressor, capacity, empty, queue, front_drop_queue, switch_port, switch, pull_switch, copies, tee, pull_tee, only_number, paint, paint_tee, strip, check_length, get_ip_address, ether_header, ether_encap, device, from_device, to_device, classifier, static_ip_lookup, check_ip_header, infinite_source}
 use Rattle.click_classes.specs.Made.{FirstStandsFor, ByWords, IsFresh}
 use Rattle.click_classes.specs.Patterns.{pattern}
 use Rattle.click_classes.specs.State.{class}
@@ -173,7 +173,7 @@ well_ether_encap args s h =
     let a = both_ok (number_in 0 65535 (argument_at args 0)) _ s whole in
     let b = both_ok (ethernet (argument_at args 1)) _ s a.2 in
     let d = both_ok (ethernet (argument_at args 2)) _ s b.2 in
-    well is.EtherEncap (state.EtherEncap a.0 b.0 d.0) s d.2 refl one_one
+    well is.EtherEncap (state.EtherEncap (ether_header a.0 b.0 d.0)) s d.2 refl one_one
 
 well_infinite_source : (first : Option (Option (List ℕ))) (args : List (List ℕ)) (s : State) → Ok s ≡ infinite_source first args → IsWell is.InfiniteSource s
 unfolding infinite_source

@@ -1,5 +1,5 @@
 -- What an element does with a packet (Click element reference). `inputs` and `outputs` are how many ports the element has.
-use Rattle.std.specs.Prelude.{ℕ, ◌+◌, ◌-◌, ◌/◌, ◌%◌, ◌^◌, ◌==◌, nat_le, nat_lt, min, max, Bool, true, false, ◌&&◌, List, [], ◌∷◌, ◌++◌, length, take, drop, position, slice_index, slice_index_or, Option, Some, None, if◌then◌else◌}
+use Rattle.std.specs.Prelude.{ℕ, ◌+◌, ◌-◌, ◌^◌, ◌==◌, nat_le, nat_lt, min, max, Bool, true, false, ◌&&◌, List, [], ◌∷◌, ◌++◌, length, take, drop, position, slice_index, slice_index_or, Option, Some, None, if◌then◌else◌}
 use Rattle.std.specs.Str.{bytes_eq}
 use Rattle.click_packet.specs.Header.{header_good, ttl, with_ttl}
 use Rattle.click_packet.specs.Packet.{Packet}
@@ -52,10 +52,6 @@ aged p (Some hops) =
     if nat_le hops 1 then passed state.DecIPTTL p fate.Aside
     else passed state.DecIPTTL (record p { bytes = with_ttl p.bytes (hops - 1) }) fate.Onward
 
--- an Ethernet header: destination, source, and the type with its high byte first
-abbrev pub ether_header : ℕ → List ℕ → List ℕ → List ℕ
-ether_header ether_type source destination = destination ++ source ++ (ether_type / 256) ∷ (ether_type % 256) ∷ []
-
 -- a packet with a header before it; one that would have more than 1,600 bytes with it is dropped
 abbrev pub encapsulated : State → List ℕ → Packet → Passed
 encapsulated s header p =
@@ -74,8 +70,7 @@ pass (state.CheckLength most) p = passed (state.CheckLength most) p (if nat_le (
 pass (state.GetIPAddress offset) p = passed (state.GetIPAddress offset) (record p { destination = address_at offset p.bytes }) fate.Onward
 pass (state.CheckIPHeader refused) p = passed (state.CheckIPHeader refused) p (if header_good p.bytes refused then fate.Onward else fate.Aside)
 pass state.DecIPTTL p = aged p (ttl p.bytes)
-pass (state.EtherEncap ether_type source destination) p =
-    encapsulated (state.EtherEncap ether_type source destination) (ether_header ether_type source destination) p
+pass (state.EtherEncap header) p = encapsulated (state.EtherEncap header) header p
 -- no other element passes packets so; what is pushed to an Idle or a Discard is dropped
 pass s p = passed s p fate.Dropped
 
@@ -188,7 +183,7 @@ tries inputs (state.CheckLength most) output = range 0 1
 tries inputs (state.GetIPAddress offset) output = range 0 1
 tries inputs (state.CheckIPHeader refused) output = range 0 1
 tries inputs state.DecIPTTL output = range 0 1
-tries inputs (state.EtherEncap ether_type source destination) output = range 0 1
+tries inputs (state.EtherEncap header) output = range 0 1
 -- a queue gives what it has stored, and an Idle nothing; no other class has a pull output
 tries inputs s output = range 0 0
 

@@ -1,5 +1,5 @@
 -- An element's first state by its arguments (Click element reference): the number of arguments first, then the arguments in order.
-use Rattle.std.specs.Prelude.{ℕ, ◌-◌, ◌^◌, ◌==◌, List, [], length, true, ◌&&◌, nat_le, slice_get, slice_index_or, replicate, Option, Some, None, Result, Ok, Err, if◌then◌else◌}
+use Rattle.std.specs.Prelude.{ℕ, ◌-◌, ◌/◌, ◌%◌, ◌^◌, ◌==◌, List, [], ◌∷◌, ◌++◌, length, true, ◌&&◌, nat_le, slice_get, slice_index_or, replicate, Option, Some, None, Result, Ok, Err, if◌then◌else◌}
 use Rattle.click_classes.specs.declared.fault.ArgFault.{ArgFault}
 use Rattle.click_classes.specs.declared.fault.ArgFault.TheVariants as fault
 use Rattle.click_classes.specs.declared.state.State.{State}
@@ -86,12 +86,16 @@ check_length args = only_number 65535 args >>= λ n. Ok (state.CheckLength n)
 unfoldable pub get_ip_address : List (List ℕ) → Result State ArgFault
 get_ip_address args = only_number 1596 args >>= λ n. Ok (state.GetIPAddress n)
 
+-- an Ethernet header: destination, source, and the type with its high byte first
+abbrev pub ether_header : ℕ → List ℕ → List ℕ → List ℕ
+ether_header ether_type source destination = destination ++ source ++ (ether_type / 256) ∷ (ether_type % 256) ∷ []
+
 unfoldable pub ether_encap : List (List ℕ) → Result State ArgFault
 ether_encap args = taking 3 3 args
     (number_in 0 65535 (argument_at args 0) >>= λ t.
     ethernet (argument_at args 1) >>= λ source.
     ethernet (argument_at args 2) >>= λ destination.
-    Ok (state.EtherEncap t source destination))
+    Ok (state.EtherEncap (ether_header t source destination)))
 
 -- the name of a device as the only argument
 unfoldable pub device : List (List ℕ) → Result (List ℕ) ArgFault

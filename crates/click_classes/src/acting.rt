@@ -5,7 +5,7 @@ ghost use Rattle.click_classes.specs.Acts.{after, range, side_output, pushed_to,
 
 use crate::classes::address::take_address;
 use crate::classes::classifier::classify;
-use crate::classes::encap::put_header;
+use crate::classes::encap::encapsulate;
 use crate::classes::header::{age, header_fate};
 use crate::classes::length::length_fate;
 use crate::classes::paint::paint_tee_fate;
@@ -145,7 +145,7 @@ impl State {
             }
             State::CheckIPHeader { refused } => header_fate(refused, packet),
             State::DecIPTTL => age(packet),
-            State::EtherEncap { .. } => put_header(self, packet),
+            State::EtherEncap { header } => encapsulate(header, packet),
             State::Queue { .. }
             | State::FrontDropQueue { .. }
             | State::Unqueue
@@ -196,7 +196,7 @@ impl State {
             State::CheckLength { max } => pushed_to(outputs, length_fate(*max, packet)),
             State::CheckIPHeader { refused } => pushed_to(outputs, header_fate(refused, packet)),
             State::DecIPTTL => pushed_to(outputs, age(packet)),
-            State::EtherEncap { .. } => pushed_to(outputs, put_header(self, packet)),
+            State::EtherEncap { header } => pushed_to(outputs, encapsulate(header, packet)),
             State::Queue {
                 list,
                 drops,
@@ -370,8 +370,8 @@ impl State {
         if !has_next(bytes, *limit, *active, *count) {
             return false;
         }
-        let _fits = packet.fill(bytes.as_slice());
         *count = count.saturating_add(1);
+        let _fits = packet.fill(bytes.as_slice());
         true
     }
 

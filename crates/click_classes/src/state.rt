@@ -95,11 +95,9 @@ pub enum State {
         refused: Sequence<[u8; 4]>,
     },
     DecIPTTL,
-    /// The header's fields.
+    /// The header: destination, source and type.
     EtherEncap {
-        ether_type: u16,
-        source: [u8; 6],
-        destination: [u8; 6],
+        header: [u8; 14],
     },
     /// The bytes of each packet, how many packets in all (None: without an end), how many in one run, whether there are
     /// any now, and how many there were.

@@ -1,5 +1,5 @@
 -- What a push or a pull over one connection tells.
-use Rattle.std.proofs.Common.{◌≡◌, ◌≢◌, ◌⊎◌, ℕ, zero, suc, inl, ◌-◌, ◌^◌, ◌<◌, inr, length, refl, sym, ap, ◌∙◌, Option, Some, None, Bool, true, false, if◌then◌else◌, MatchOption, arith}
+use Rattle.std.proofs.Common.{◌≡◌, ◌≢◌, ◌⊎◌, ℕ, zero, suc, inl, ◌+◌, ◌-◌, ◌*◌, ◌^◌, ◌<◌, inr, length, refl, sym, ap, ◌∙◌, Option, Some, None, Bool, true, false, if◌then◌else◌, MatchOption, arith}
 use Rattle.click_packet.specs.Packet.{Packet}
 use Rattle.click_classes.specs.Acts.{stored, Stored}
 use Rattle.click_classes.specs.declared.acting.PortRange.{PortRange}
@@ -7,7 +7,7 @@ use Rattle.click_classes.specs.declared.acting.PortRange.{PortRange}
 use Rattle.click_engine.specs.declared.world.Port.{Port}
 use Rattle.click_engine.specs.World.{Wiring, World, element_at, with_state, tries_at, spent, overrun, Acts}
 use Rattle.click_engine.specs.Run.{push, sent, Pulled, nothing, Answers}
-use Rattle.click_engine.specs.kept.Hops.{with_left, Along, Pushed, Reached}
+use Rattle.click_engine.specs.kept.Hops.{Along, Pushed, Reached}
 use Rattle.click_engine.specs.kept.Tables.{far_of}
 use Rattle.click_engine.specs.declared.hops.Reply.{Reply}
 use Rattle.click_engine.proofs.Steps.{push-none, push-unconnected, push-made, pull-none, pull-unconnected, pull-asks, pull-held, stored-no, spread-zero}
@@ -126,10 +126,6 @@ pub stored-left : (o : Option Stored) (at : ℕ) (w v : World) (p : Packet) (hel
 stored-left None at w v p held h = ap (λ (u : World). u.left) h.1
 stored-left (Some s) at w v p held h = ap (λ (u : World). u.left) h.2
 
--- what an element does does not depend on the crossings left
-pub acts_left : (w v : World) (at input : ℕ) (p q : Packet) (to : PortRange) → Acts w v at input p q to → (n : ℕ) → Acts (with_left w n) (with_left v n) at input p q to
-acts_left w v at input p q to a n = record { world = ap (λ u. with_left u n) a.world; packet = a.packet; outputs = a.outputs }
-
 -- a packet that was pushed on is pushed on by one step more
 pub along_next : (net : Wiring) (w v u : World) (at first count : ℕ) (p : Packet) (far next : ℕ) (q : Packet) (to output still : ℕ) (r : Packet)
     → Along net w v at first count p far next 1 q → Pushed net v u far next q to output still r → Along net w u at first count p to output still r
@@ -151,6 +147,26 @@ along_next net w v u at first count p far next q to output (suc still) r over st
 pub along_one : (net : Wiring) (w v u : World) (at first count : ℕ) (p : Packet) (far next : ℕ) (q : Packet) (to output still : ℕ) (r : Packet)
     → Along net w v at first count p far next 1 q → Pushed net v u far next q to output still r → still ≡ 1 → Along net w u at first count p to output 1 r
 along_one net w v u at first count p far next q to output still r over step one = rw one at (along_next net w v u at first count p far next q to output still r over step)
+
+-- the first step
+pub pushed_along : (net : Wiring) (w v : World) (at o : ℕ) (p : Packet) (far first still : ℕ) (q : Packet) → Pushed net w v at o p far first still q → Along net w v at o 1 p far first still q
+pushed_along net w v at o p far first still q step =
+    along_next net w w v at o 1 p at o p far first still q (record { made = refl; fewer = omega arith; falls = omega arith; more = λ h e. absurd (omega arith) }) step
+
+-- some steps, and then some more
+pub along_on : (net : Wiring) (w v u : World) (at first : ℕ) (p : Packet) (far next still : ℕ) (q : Packet) (to output more : ℕ) (r : Packet)
+    → Along net w v at first 1 p far next still q → Along net v u far next still q to output more r → (still ≡ 0 → more ≡ 0) → Along net w u at first 1 p to output more r
+along_on net w v u at first p far next still q to output more r over later none = record {
+  made = later.made ∙ over.made;
+  fewer = omega (arith, over.fewer, later.fewer);
+  falls = omega (arith, over.falls, later.falls);
+  more = λ h e. go still refl h;
+}
+  where
+    go : (n : ℕ) → still ≡ n → 1 < more → more + 131072 * u.left < 131072 * w.left
+    go zero e h = absurd (omega (arith, none e, h))
+    go (suc zero) e h = omega (arith, later.more h e, over.fewer)
+    go (suc (suc n)) e h = omega (arith, later.falls, over.more (omega (arith, e)) refl)
 
 -- a packet that was pushed on finds no crossing left
 pub along_lost : (net : Wiring) (w v u : World) (at first count : ℕ) (p : Packet) (far next : ℕ) (q : Packet) (to output : ℕ) → Along net w v at first count p far next 1 q

@@ -8,7 +8,7 @@ use Rattle.std.proofs.lemmas.Iterator.Adapters.{position_from-zero}
 use Rattle.std.proofs.lemmas.List.{take_more}
 use Rattle.std.proofs.lemmas.Slice.Eq.{bytes_eq-Decides}
 use Rattle.click_expand.specs.Elements.{has_name}
-use Rattle.click_engine.specs.Devices.{Device, element_with}
+use Rattle.click_engine.specs.Devices.{element_with}
 use Rattle.click_engine.specs.kept.Tables.{devices, FindsFirst}
 
 -- what was found, else the place where it is the name's turn

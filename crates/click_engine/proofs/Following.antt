@@ -4,7 +4,7 @@ use Rattle.std.proofs.lemmas.List.{take-set}
 use Rattle.click_packet.specs.Packet.{Packet}
 use Rattle.click_engine.specs.World.{Wiring, World}
 use Rattle.click_engine.specs.Run.{push}
-use Rattle.click_engine.specs.Frames.{Frame, Machine, Follows, finish, to_do}
+use Rattle.click_engine.specs.Frames.{Frame, Sends, Machine, Follows, finish, to_do}
 use Rattle.click_engine.specs.kept.Hops.{Along}
 use Rattle.click_engine.specs.kept.Slots.{sends_of, frames_of, last_of}
 use Rattle.click_engine.specs.declared.machine.Sender.{Sender}
@@ -17,9 +17,9 @@ pub to_do-moved : (a b : ℕ) (fs : List Frame) → to_do a fs + 131072 * b ≡ 
 to_do-moved a b [] = omega arith
 to_do-moved a b (f ∷ fs) = omega (arith, to_do-moved a b fs)
 
-module _ (net : Wiring) (w v : World) (s t : Sender) where
-  module _ (below : List Frame) (a : Option Packet) (r : ℕ) (over : Along net w v s.at s.first s.count s.packet t.at t.first t.count t.packet) (fits : length (sends_of s ∷ below) + w.left ≤ r) where
-    sends_along : Follows net w (machine (sends_of s ∷ below) a r) v (machine (sends_of t ∷ below) a r)
+module _ (net : Wiring) (w v : World) (at first count : ℕ) (p : Packet) (t : Sender) where
+  module _ (below : List Frame) (a : Option Packet) (r : ℕ) (over : Along net w v at first count p t.at t.first t.count t.packet) (fits : length (Sends at first count p ∷ below) + w.left ≤ r) where
+    pub sends_along : Follows net w (machine (Sends at first count p ∷ below) a r) v (machine (sends_of t ∷ below) a r)
     sends_along = record {
       keeps = ap (λ u. finish net below (left_with u a)) over.made;
       fewer = over.fewer;
@@ -28,7 +28,7 @@ module _ (net : Wiring) (w v : World) (s t : Sender) where
       falls = omega (arith, over.falls, to_do-moved v.left w.left below);
     }
 
-    sends_done : t.count ≡ 0 → Follows net w (machine (sends_of s ∷ below) a r) v (machine below a r)
+    pub sends_done : t.count ≡ 0 → Follows net w (machine (Sends at first count p ∷ below) a r) v (machine below a r)
     sends_done none = record {
       keeps =
           ap (λ u. finish net below (left_with u a)) (sym (spread-zero (λ u o. push net v.left u t.at o t.packet) t.count t.first v none))
@@ -60,11 +60,11 @@ module _ (net : Wiring) (w v : World) (old : Machine) (d : ℕ) (xs : List Sende
       let after =
       machine_is (frames_of (take d (set xs (d - 1) t)) ys) (sends_of t ∷ below) (last_of got (set xs (d - 1) t)) (last_of got xs) r
       (ap (λ n. frames_of (take n (set xs (d - 1) t)) ys) up ∙ frames-set (d - 1) xs ys t (omega (arith, some, inside))) (last-free got xs (d - 1) t free) in
-      rw (before, after) (sends_along net w v s t below (last_of got xs) r over fits_before)
+      rw (before, after) (sends_along net w v s.at s.first s.count s.packet t below (last_of got xs) r over fits_before)
 
   pub follow_ended : t.count ≡ 0 → Follows net w old v (machine (frames_of (take (d - 1) (set xs (d - 1) t)) ys) (last_of got (set xs (d - 1) t)) r)
   follow_ended none =
       let after =
       machine_is (frames_of (take (d - 1) (set xs (d - 1) t)) ys) below (last_of got (set xs (d - 1) t)) (last_of got xs) r
       (ap (λ zs. frames_of zs ys) (take-set xs (d - 1) t)) (last-free got xs (d - 1) t free) in
-      rw (before, after) (sends_done net w v s t below (last_of got xs) r over fits_before none)
+      rw (before, after) (sends_done net w v s.at s.first s.count s.packet t below (last_of got xs) r over fits_before none)

@@ -5,11 +5,12 @@ use Rattle.click_classes.specs.Acts.{Stored}
 use Rattle.click_engine.specs.World.{Wiring, World}
 use Rattle.click_engine.specs.Run.{push, pull, Pulled}
 use Rattle.click_engine.specs.Frames.{Sends, Pulls, Asks, Machine, IsTurn, Follows, complete}
-use Rattle.click_engine.specs.kept.Slots.{frames_of, last_of}
+use Rattle.click_engine.specs.kept.Slots.{sends_of, frames_of, last_of}
 use Rattle.click_engine.specs.declared.machine.Sender.{Sender}
 use Rattle.click_engine.specs.declared.machine.Ask.{Ask}
 use Rattle.click_engine.specs.declared.hops.Reply.{Reply}
-use Rattle.click_engine.specs.kept.Hops.{Reached}
+use Rattle.click_engine.specs.kept.Hops.{Along, Reached}
+use Rattle.click_engine.proofs.Following.{sends_along, sends_done}
 use Rattle.click_engine.proofs.Serving.{follows_on}
 use Rattle.click_engine.proofs.Turns.{machine, left_with, pulls_ended, pulls_asks}
 use Rattle.click_engine.proofs.Slack.{push-slack}
@@ -30,21 +31,6 @@ module _ (old : Machine) (d : ℕ) (xs : List Sender) (ys : List Ask) (got : Boo
   pub same_room : r ≡ old.room
   same_room = ap (λ (m : Machine). m.room) view
 
-  pub started_push : 0 < length xs → (s : Sender) (at : ℕ) (p : Packet) → s.at ≡ at → s.first ≡ 0 → s.count ≡ 1 → s.packet ≡ p
-      → machine (frames_of (take 1 (set xs 0 s)) ys) (last_of false (set xs 0 s)) r ≡ machine (Sends at 0 1 p ∷ []) None old.room
-  started_push first s at p at_is first_is count_is packet_is =
-      let frames : frames_of (take 1 (set xs 0 s)) ys ≡ Sends at 0 1 p ∷ [] =
-      one_send xs s ys first ∙ rw (at_is, first_is, count_is, packet_is, no_asks (take d xs) ys empty) refl in
-      rw (frames, last-none (set xs 0 s), same_room) refl
-
-  pub started_answer : 0 < length xs → (u : Sender) → u ≡ get_or xs 0 u → (s : Sender) (at : ℕ) → s.at ≡ at → s.first ≡ 0 → s.count ≡ 1 → s.packet ≡ u.packet
-      → IfSome old.last (λ p. machine (frames_of (take 1 (set xs 0 s)) ys) (last_of false (set xs 0 s)) r ≡ machine (Sends at 0 1 p ∷ []) None old.room)
-  started_answer first u there s at at_is first_is count_is packet_is = go old.last (ap (λ (m : Machine). m.last) view)
-    where
-      go : (o : Option Packet) → last_of got xs ≡ o → IfSome o (λ p. machine (frames_of (take 1 (set xs 0 s)) ys) (last_of false (set xs 0 s)) r ≡ machine (Sends at 0 1 p ∷ []) None old.room)
-      go None e = tt
-      go (Some p) e = started_push first s at p at_is first_is count_is (packet_is ∙ some_packet got xs u p first there e)
-
   -- the first slot holds the answer, where there is one
   pub held : d ≤ length xs → 0 < length xs → (s : Sender) (b : Bool)
       → machine (frames_of (take d (set xs 0 s)) ys) (last_of b (set xs 0 s)) r ≡ machine [] (if b then Some s.packet else None) old.room
@@ -52,6 +38,24 @@ module _ (old : Machine) (d : ℕ) (xs : List Sender) (ys : List Ask) (got : Boo
       let none = no_asks (take d xs) ys empty in
       let zero = no_senders d xs ys inside empty in
       rw (zero, none, same_room, last_set xs s b first) refl
+
+  -- a push of the answer began, and went as far as one output was to get it
+  module _ (net : Wiring) (w v : World) (at : ℕ) (u t : Sender) (there : u ≡ get_or xs 0 u) (over : Along net w v at 0 1 u.packet t.at t.first t.count t.packet) (fits : w.left < old.room) (inside : d ≤ length xs) (first : 0 < length xs) where
+    abbrev Pushed_on : Machine → Option Packet → Type 0
+    Pushed_on new o = IfSome o (λ p. Follows net w (machine (Sends at 0 1 p ∷ []) None old.room) v new)
+
+    of_packet : (new : Machine) → Follows net w (machine (Sends at 0 1 u.packet ∷ []) None old.room) v new → (o : Option Packet) → last_of got xs ≡ o → Pushed_on new o
+    of_packet new f None e = tt
+    of_packet new f (Some p) e = rw (some_packet got xs u p first there e) at f
+
+    pub answer_pushed : 0 < t.count → Pushed_on (machine (frames_of (take 1 (set xs 0 t)) ys) (last_of false (set xs 0 t)) r) old.last
+    answer_pushed more =
+        let frames : frames_of (take 1 (set xs 0 t)) ys ≡ sends_of t ∷ [] = one_send xs t ys first ∙ rw (no_asks (take d xs) ys empty) refl in
+        of_packet _ (rw (frames, last-none (set xs 0 t), same_room) (sends_along net w v at 0 1 u.packet t [] None old.room over (omega (arith, fits)))) old.last (ap (λ (m : Machine). m.last) view)
+
+    pub answer_ended : t.count ≡ 0 → Pushed_on (machine (frames_of (take d (set xs 0 t)) ys) (last_of false (set xs 0 t)) r) old.last
+    answer_ended none =
+        of_packet _ (rw (held inside first t false) (sends_done net w v at 0 1 u.packet t [] None old.room over (omega (arith, fits)) none)) old.last (ap (λ (m : Machine). m.last) view)
 
   -- a pull began, and its first turn was made
   module _ (net : Wiring) (w v : World) (at : ℕ) (s : Sender) (rep : Reply) (over : Reached net w v at 0 s.packet rep) (fits : w.left < old.room) (inside : d ≤ length xs) (first : 0 < length xs) where
@@ -82,7 +86,8 @@ module _ (net : Wiring) (w v : World) (m : Machine) (a : Option Packet) (r at : 
   pub ran_pull : m ≡ machine (Pulls at 0 ∷ []) None r → complete net w m ≡ left_with v a → pull net w.left w at 0 ≡ left_with v a
   ran_pull e f = rw e at f
 
-  pub ran_answer : (o : Option Packet) → IfSome o (λ p. m ≡ machine (Sends at 0 1 p ∷ []) None r) → complete net w m ≡ left_with v a
-      → (d : ℕ) → w.left ≤ d → IfSome o (λ p. v ≡ push net d w at 0 p)
-  ran_answer None h f d k = tt
-  ran_answer (Some p) h f d k = ran_push p h f ∙ push-slack net w.left d w at 0 p (omega arith) k
+pub ran_answer : (net : Wiring) (w u v : World) (new : Machine) (a : Option Packet) (r at : ℕ) (o : Option Packet) → IfSome o (λ p. Follows net w (machine (Sends at 0 1 p ∷ []) None r) u new)
+    → complete net u new ≡ left_with v a → (d : ℕ) → w.left ≤ d → IfSome o (λ p. v ≡ push net d w at 0 p)
+ran_answer net w u v new a r at None h f d k = tt
+ran_answer net w u v new a r at (Some p) h f d k =
+    ran_push net w v (machine (Sends at 0 1 p ∷ []) None r) a r at p refl (sym h.keeps ∙ f) ∙ push-slack net w.left d w at 0 p (omega arith) k

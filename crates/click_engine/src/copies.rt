@@ -4,7 +4,7 @@ ghost use Rattle.click_engine.specs.Wires.{world_of, wiring_of};
 ghost use Rattle.click_engine.specs.kept.Hops.{Served};
 ghost use Rattle.click_engine.specs.kept.Slots.{ServedAbove};
 
-use crate::hops::push_along;
+use crate::hops::push_copy;
 use crate::machine::Sender;
 use crate::wires::Wires;
 use crate::world::Work;
@@ -16,13 +16,11 @@ fn push_copies(wires: &Wires, work: &mut Work, sender: &mut Sender, copy: &mut S
 {
     copy.count = 0;
     while copy.count == 0 && sender.count > 1 {
-        copy.at = sender.at;
-        copy.first = sender.first;
-        copy.count = 1;
         copy.packet.copy_from(&sender.packet);
+        let output = sender.first;
         sender.first += 1;
         sender.count -= 1;
-        push_along(wires, work, copy);
+        push_copy(wires, work, sender.at, output, copy);
     }
 }
 

@@ -3,7 +3,7 @@ ghost use Rattle.std.specs.Prelude.{◌≡◌, ℕ, ◌+◌, ◌-◌, ◌<◌, �
 
 use crate::asking::{Asking, ask_along, waits};
 use crate::copies::serve_above;
-use crate::hops::{Reply, pull_over, push_over, push_slot};
+use crate::hops::{Reply, pull_over, push_along, push_over, push_slot};
 use crate::slots::{copy_up, make_above, tries};
 use crate::wires::Wires;
 use crate::world::Work;
@@ -142,31 +142,30 @@ impl Machine {
         self.answered
     }
 
-    /// Begins with a push of `packet` at output 0 of an element.
-    pub(crate) fn start_push(&mut self, at: usize, packet: &Packet)
+    /// Makes `packet` the last pull's answer.
+    #[inline(always)]
+    pub(crate) fn hold(&mut self, packet: &Packet)
         requires { self.old.frames ≡ [] }
-        ensures { self.new ≡ record { frames = Sends at 0 1 packet.now ∷ []; last = None; room = self.old.room } }
+        ensures { self.new ≡ record { frames = []; last = Some packet.now; room = self.old.room } }
     {
-        let sender = &mut self.senders[0];
-        sender.at = at;
-        sender.first = 0;
-        sender.count = 1;
-        sender.packet.copy_from(packet);
-        self.sending = 1;
-        self.answered = false;
+        self.senders[0].packet.copy_from(packet);
+        self.answered = true;
     }
 
-    /// Begins with a push of the last pull's answer at output 0 of an element.
-    pub(crate) fn start_push_answer(&mut self, at: usize)
+    /// Begins with a push of the last pull's answer at output 0 of an element, and pushes it on as far as no copy has several ways to go.
+    #[inline(always)]
+    pub(crate) fn push_answer(&mut self, wires: &Wires, work: &mut Work, at: usize)
         requires done { self.old.frames ≡ [] }
-        ensures { IfSome self.old.last (λ p. self.new ≡ record { frames = Sends at 0 1 p ∷ []; last = None; room = self.old.room }) }
+        requires room { work.old.left < self.old.room }
+        ensures { IfSome self.old.last (λ p. Follows (wiring_of wires.now) (world_of work.old) (record { frames = Sends at 0 1 p ∷ []; last = None; room = self.old.room })
+            (world_of work.new) self.new) }
     {
-        let sender = &mut self.senders[0];
-        sender.at = at;
-        sender.first = 0;
-        sender.count = 1;
-        self.sending = 1;
         self.answered = false;
+        let sender = &mut self.senders[0];
+        push_slot(wires, work, sender, at, 0);
+        if sender.count > 0 {
+            self.sending = 1;
+        }
     }
 
     /// Begins with a pull at input 0 of an element, and asks at once what that leads to: mostly a queue is there, and nothing is left to do.
@@ -294,7 +293,7 @@ impl Machine {
             return;
         }
         let sender = &mut self.senders[top];
-        push_slot(wires, work, sender);
+        push_along(wires, work, sender);
         if sender.count == 0 {
             self.sending = top;
         }

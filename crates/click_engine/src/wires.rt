@@ -1,5 +1,5 @@
 //! The connections of a net, in tables.
-ghost use Rattle.std.specs.Prelude.{◌≡◌, ◌<◌, ◌≤◌, ◌^◌, ℕ, [], vec_len, slice_index_or, IfOk, OnOk, None, nat_eq, replicate, map};
+ghost use Rattle.std.specs.Prelude.{◌≡◌, ◌<◌, ◌≤◌, ◌^◌, ℕ, [], length, vec_len, slice_index_or, IfOk, OnOk, None, nat_eq, replicate, map};
 ghost use Rattle.click_engine.specs.Wires.{end_of, first_joined};
 ghost use Rattle.click_engine.specs.kept.Tables.{entry, far_of, first_far, first_of, nowhere, rows_of, IsNoted, IsTable};
 
@@ -27,6 +27,7 @@ const NOWHERE: Port = Port {
 };
 
 impl Model for Wires {
+    ghost use Rattle.std.specs.Prelude.{◌≡◌, length};
     ghost use Rattle.click_ports.specs.Net.{Net as Seen};
     ghost use Rattle.click_engine.specs.Wires.{target_in, source_in};
     ghost use Rattle.click_engine.specs.kept.Tables.{rows_of, AreFirst, IsTable};
@@ -36,7 +37,8 @@ impl Model for Wires {
     ghost view = { λ w. w.net };
 
     ghost invariant = { λ w. IsTable (rows_of w.targets.items) (target_in w.net.connections)
-        × IsTable (rows_of w.sources.items) (source_in w.net.connections) × AreFirst w.ahead.items (target_in w.net.connections) };
+        × IsTable (rows_of w.sources.items) (source_in w.net.connections) × AreFirst w.ahead.items (target_in w.net.connections)
+        × (length w.ahead.items ≡ length w.net.shapes) };
 }
 
 /// The connection's port at a side: the output that it leaves, or the input that it comes to.
@@ -110,7 +112,8 @@ fn joined(
     side: Side,
     other: Side,
 ) -> Result<Vec<Vec<Option<Port>>>, AllocError>
-    ensures { IfOk result (λ rows. IsTable (rows_of rows.items) (first_joined side other net.now.connections)) }
+    ensures table { IfOk result (λ rows. IsTable (rows_of rows.items) (first_joined side other net.now.connections)) }
+    ensures all { IfOk result (λ rows. vec_len rows ≡ length net.now.shapes) }
 {
     let mut rows = empty_rows(alloc, net.shapes().len())?;
     for connection in net.connections() {
@@ -174,9 +177,9 @@ fn near(ports: &[Port], at: usize) -> Port
 }
 
 impl Wires {
-    ghost use Rattle.std.specs.Prelude.{◌≡◌, IfOk};
+    ghost use Rattle.std.specs.Prelude.{◌≡◌, IfOk, length};
     ghost use Rattle.click_engine.specs.Wires.{wiring_of};
-    ghost use Rattle.click_engine.specs.kept.Tables.{far_of};
+    ghost use Rattle.click_engine.specs.kept.Tables.{far_of, AreFirst};
 
     /// The tables of a net.
     pub fn new(alloc: Global, net: Net) -> Result<Wires, AllocError>
@@ -198,6 +201,23 @@ impl Wires {
         ensures { result.now ≡ self.now }
     {
         &self.net
+    }
+
+    /// The input that a push at the first output of each element goes to.
+    #[inline(always)]
+    pub(crate) fn ahead(&self) -> &[Port]
+        ensures first { AreFirst result.now (wiring_of self.now).target }
+        ensures all { length result.now ≡ length self.now.shapes }
+    {
+        self.ahead.as_slice()
+    }
+
+    /// How many elements there are.
+    #[inline(always)]
+    pub(crate) fn len(&self) -> usize
+        ensures { result ≡ length self.now.shapes }
+    {
+        self.ahead.len()
     }
 
     /// The input that a push at an output goes to.

@@ -1,10 +1,9 @@
 //! Elements that put a header before packets.
 
-ghost use Rattle.std.specs.Prelude.{◌≡◌, replicate};
-ghost use Rattle.click_classes.specs.Fresh.{ether_encap};
-ghost use Rattle.click_classes.specs.Acts.{encapsulated, passed, ether_header};
+ghost use Rattle.std.specs.Prelude.{◌≡◌};
+ghost use Rattle.click_classes.specs.Fresh.{ether_encap, ether_header};
+ghost use Rattle.click_classes.specs.Acts.{encapsulated, passed};
 ghost use Rattle.click_classes.specs.declared.state.State.{State};
-ghost use Rattle.click_classes.specs.kept.Headers.{header_of};
 
 use crate::acting::Fate;
 use crate::arguments::Arguments;
@@ -34,9 +33,7 @@ pub fn make_ether_encap(arguments: &Arguments) -> Result<State, ArgFault>
     let source = ethernet(arguments.at(1))?;
     let destination = ethernet(arguments.at(2))?;
     Ok(State::EtherEncap {
-        ether_type: ether_type as u16,
-        source,
-        destination,
+        header: ether_header(ether_type as u16, source, destination),
     })
 }
 
@@ -55,35 +52,12 @@ fn ether_header(ether_type: u16, source: [u8; 6], destination: [u8; 6]) -> [u8; 
 }
 
 /// Puts a header before a packet; one that would be too long with it stays as it is and is dropped.
-pub fn encapsulate(header: &[u8], packet: &mut Packet) -> Fate
+#[inline(never)]
+pub fn encapsulate(header: &[u8; 14], packet: &mut Packet) -> Fate
     ensures { (state : State) → encapsulated state header.now packet.old ≡ passed state packet.new result }
 {
-    match packet.prepend(header) {
+    match packet.prepend(header.as_slice()) {
         Ok(()) => Fate::Onward,
         Err(_) => Fate::Dropped,
     }
-}
-
-/// Puts the header of an EtherEncap before a packet; zeros of another element.
-#[inline(never)]
-pub fn put_header(encap: &State, packet: &mut Packet) -> Fate
-    ensures { (state : State) → encapsulated state (header_of encap.now) packet.old ≡ passed state packet.new result }
-{
-    match encap {
-        State::EtherEncap {
-            ether_type,
-            source,
-            destination,
-        } => encapsulate(&ether_header(*ether_type, *source, *destination), packet),
-        _ => put_zeros(packet),
-    }
-}
-
-/// Puts fourteen zeros before a packet.
-#[cold]
-#[inline(never)]
-fn put_zeros(packet: &mut Packet) -> Fate
-    ensures { (state : State) → encapsulated state (replicate 14 0) packet.old ≡ passed state packet.new result }
-{
-    encapsulate(&[0; 14], packet)
 }

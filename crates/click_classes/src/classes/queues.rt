@@ -97,8 +97,9 @@ pub fn store(list: &mut PacketList, drops: &mut u64, highest: &mut usize, packet
         *drops = drops.saturating_add(1);
         return;
     }
+    let count = list.len() + 1;
+    *highest = count.max(*highest);
     list.push_back(packet);
-    *highest = list.len().max(*highest);
 }
 
 /// Stores a packet last; a full queue drops its first packet for it.

@@ -34,8 +34,8 @@ loop-connection-init c =
       all = c.in_ok-rows.rows.ok.0 ∙ sym (length-map c.in_ok-rows.rows.items (λ row. row.items)) ∙ ap length c.in_ok-rows.ensures ∙ length-replicate n [] ∙ ap length c.shapes.ensures.value;
     }
 
-pub returns : goal.returns
-returns c at number =
+pub returns-clause-table : goal.returns-clause-table
+returns-clause-table c at number =
     let xs = c.connections-connection-items.result.now in
     c.loop-connection.invariant.noted at number
     ∙ ap (λ cs. first_joined c.args.side c.args.other cs at number) (take_all c.loop-connection.connection-index xs c.loop-connection-test.false ∙ c.connections-connection-items.ensures.value)
