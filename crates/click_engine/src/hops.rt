@@ -69,7 +69,7 @@ fn act_at(elements: &mut [Element], at: usize, input: u16, packet: &mut Packet) 
 
 /// The input that a push at an output goes to, of an element that is in the table of first outputs.
 #[inline(always)]
-fn far_from(wires: &Wires, ahead: &[Port], at: usize, output: usize) -> Port
+fn far_from(wires: &Wires, ahead: &[Port], at: usize, output: u16) -> Port
     requires ahead { AreFirst ahead.now (wiring_of wires.now).target }
     requires there { at < length ahead.now }
     ensures { result ≡ far_of ((wiring_of wires.now).target at output) }
@@ -77,13 +77,13 @@ fn far_from(wires: &Wires, ahead: &[Port], at: usize, output: usize) -> Port
     if output == 0 {
         ahead[at]
     } else {
-        wires.target(at, output)
+        wires.target(at, output as usize)
     }
 }
 
 /// Pushes the packet of `sender` at an output, and on while just one output is to get it, by so many crossings at most. How many are left; none where one more was
-/// needed. The tables that a step needs stay in locals, and where the next step leads is looked up at the end of this one: most classes have one output, so that from
-/// there on nothing is to be tested.
+/// needed. The tables that a step needs stay in locals, and where the next step leads is looked up at the end of this one, with the output as the class gives it: most
+/// classes have one output, so that from there on nothing is to be tested.
 #[inline(always)]
 fn push_on(
     wires: &Wires,
@@ -99,22 +99,18 @@ fn push_on(
     ensures ends { (sender.new.count ≡ 0) ⊎ (1 < sender.new.count) }
 {
     let ahead = wires.ahead();
-    let mut at = at;
-    let mut output = output;
     let mut far = wires.target(at, output);
     let mut left = most;
     while left > 0 {
         left -= 1;
         let outputs = act_at(elements, far.element, far.port, &mut sender.packet);
-        at = far.element;
-        output = outputs.first as usize;
         if outputs.count != 1 {
-            sender.at = at;
-            sender.first = output;
+            sender.at = far.element;
+            sender.first = outputs.first as usize;
             sender.count = outputs.count as usize;
             return Some(left);
         }
-        far = far_from(wires, ahead, at, output);
+        far = far_from(wires, ahead, far.element, outputs.first);
     }
     sender.count = 0;
     None
