@@ -1,4 +1,4 @@
-//! The cases of `click_bench engine` in plain Rust: elements as boxed trait objects that are joined by index, packets from a
+//! The cases of `engine` of bench/drive in plain Rust: elements as boxed trait objects that are joined by index, packets from a
 //! pool that are handed on in their boxes, pushes and pulls as recursive virtual calls.
 
 mod elements;

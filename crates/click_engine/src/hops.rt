@@ -1,13 +1,12 @@
 //! One push or pull over a connection.
 ghost use Rattle.std.specs.Prelude.{◌≡◌, ℕ, ◌+◌, ◌<◌, ◌⊎◌, ◌≤◌, ◌^◌, length, MatchOption, IfSome, None, Some, true, false};
 ghost use Rattle.click_engine.specs.Wires.{world_of, wiring_of};
-ghost use Rattle.click_engine.specs.kept.Hops.{world_with, left_after, ActsIn, Along, Pushed, Reached};
+ghost use Rattle.click_engine.specs.kept.Hops.{world_with, left_after, Along, Pushed, Reached};
 ghost use Rattle.click_engine.specs.kept.Tables.{far_of, AreFirst};
 
 use crate::machine::Sender;
 use crate::wires::Wires;
-use crate::world::{Element, Port, Work};
-use click_classes::PortRange;
+use crate::world::{Element, Port, Work, act_at};
 use click_packet::Packet;
 
 /// What a pull led to: an answer, or inputs of an element that are asked in turn.
@@ -51,20 +50,6 @@ pub(crate) fn push_over(
     sender.at = far.element;
     sender.first = outputs.first as usize;
     sender.count = outputs.count as usize;
-}
-
-/// What an element does with a packet that is pushed into it; past all elements nothing is done.
-#[inline(always)]
-fn act_at(elements: &mut [Element], at: usize, input: u16, packet: &mut Packet) -> PortRange
-    ensures acts { ActsIn elements.old elements.new at input packet.old packet.new result }
-    ensures there { 0 < result.count → at < length elements.new }
-{
-    if at < elements.len() {
-        let element = &mut elements[at];
-        element.state.act(element.outputs, input, packet)
-    } else {
-        PortRange { first: 0, count: 0 }
-    }
 }
 
 /// The input that a push at an output goes to, of an element that is in the table of first outputs.

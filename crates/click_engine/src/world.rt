@@ -1,5 +1,6 @@
 //! What a run works on.
-ghost use Rattle.std.specs.Prelude.{◌≡◌, ℕ, ◌<◌, ◌≤◌, MatchOption, IfSome, None, Some, true, false};
+ghost use Rattle.std.specs.Prelude.{◌≡◌, ℕ, ◌<◌, ◌≤◌, length, MatchOption, IfSome, None, Some, true, false};
+ghost use Rattle.click_engine.specs.kept.Hops.{ActsIn};
 ghost use Rattle.click_classes.specs.Acts.{act, tries, stored, gives};
 
 use click_classes::{Class, Outcome, PortRange, State};
@@ -29,6 +30,25 @@ pub struct Work {
     pub overruns: u64,
 }
 
+/// What an element does with a packet that is pushed into it; past all elements nothing is done.
+#[inline(always)]
+pub(crate) fn act_at(
+    elements: &mut [Element],
+    at: usize,
+    input: u16,
+    packet: &mut Packet,
+) -> PortRange
+    ensures acts { ActsIn elements.old elements.new at input packet.old packet.new result }
+    ensures there { 0 < result.count → at < length elements.new }
+{
+    if at < elements.len() {
+        let element = &mut elements[at];
+        element.state.act(element.outputs, input, packet)
+    } else {
+        PortRange { first: 0, count: 0 }
+    }
+}
+
 impl Work {
     ghost use Rattle.std.specs.Prelude.{◌≡◌, ℕ, ◌<◌, ◌≤◌, ◌-◌, MatchOption, IfSome, None, Some, true, false};
     ghost use Rattle.click_classes.specs.Acts.{act, tries, stored, emission, burst_of, gives};
@@ -52,12 +72,7 @@ impl Work {
     pub(crate) fn act(&mut self, at: usize, input: u16, packet: &mut Packet) -> PortRange
         ensures { Acts (world_of self.old) (world_of self.new) at input packet.old packet.new result }
     {
-        if at < self.elements.len() {
-            let element = &mut self.elements[at];
-            element.state.act(element.outputs, input, packet)
-        } else {
-            PortRange { first: 0, count: 0 }
-        }
+        act_at(self.elements.as_mut_slice(), at, input, packet)
     }
 
     /// How many inputs the element has.

@@ -1,9 +1,9 @@
-use Rattle.std.proofs.Common.{arith}
-use Rattle.click_engine.specs.Wires.{world_of}
-use Rattle.click_engine.proofs.Past.{acts_past}
+use Rattle.std.proofs.Common.{◌∙◌, ap, sym, length}
+use Rattle.std.proofs.lemmas.List.{with_items_is}
 use Rattle.click_engine.proofs.world.Work.act.Goals as goal
 
-pub returns-else-at-len : goal.returns-else-at-len
-returns-else-at-len c =
-    let h = acts_past (world_of c.args.self.now) c.args.at (omega arith) c.args.input c.args.packet.now in
-    record { world = h.0; packet = h.1; outputs = h.2 }
+pub returns : goal.returns
+returns c =
+    let given = c.as_mut_slice.ensures.value in
+    let kept = with_items_is c.args.self.now.elements c.act_at.new.elements (c.act_at.auto.elements ∙ ap length given ∙ sym c.args.self.now.elements.ok.0) in
+    rw kept (rw given at (c.act_at.ensures.acts.acts c.args.self.now.left c.args.self.now.overruns))

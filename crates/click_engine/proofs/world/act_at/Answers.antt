@@ -1,7 +1,7 @@
 use Rattle.std.proofs.Common.{arith}
 use Rattle.click_engine.specs.kept.Hops.{world_with}
 use Rattle.click_engine.proofs.Past.{acts_past}
-use Rattle.click_engine.proofs.hops.act_at.Goals as goal
+use Rattle.click_engine.proofs.world.act_at.Goals as goal
 
 pub returns-else-at-elements-clause-acts : goal.returns-else-at-elements-clause-acts
 returns-else-at-elements-clause-acts c = record {
