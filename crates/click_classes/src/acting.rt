@@ -1,6 +1,6 @@
 //! What an element does with a packet. What a class does stands in the class's own file; here are the lists of the classes.
 
-ghost use Rattle.std.specs.Prelude.{◌≡◌, MatchOption, true, false, nat_lt, if◌then◌else◌};
+ghost use Rattle.std.specs.Prelude.{◌≡◌, MatchOption, None, true, false, nat_lt, if◌then◌else◌};
 ghost use Rattle.click_classes.specs.Acts.{after, range, side_output, pushed_to, copied_to, is_answer, is_active, pass, passed, act, sent, tries, stored, emission, burst_of, gives};
 
 use crate::classes::address::take_address;
@@ -70,16 +70,16 @@ fn side_output(outputs: u16) -> PortRange
 
 /// The outputs that get a packet that was pushed.
 #[inline(always)]
-fn pushed_to(outputs: u16, fate: Fate) -> PortRange
-    ensures { result ≡ pushed_to outputs fate }
+fn pushed_to(outputs: &u16, fate: Fate) -> PortRange
+    ensures { result ≡ pushed_to outputs.now fate }
 {
     match fate {
         Fate::Onward => OUTPUT_0,
         Fate::Copied => PortRange {
             first: 0,
-            count: if 1 < outputs { 2 } else { 1 },
+            count: if 1 < *outputs { 2 } else { 1 },
         },
-        Fate::Aside => side_output(outputs),
+        Fate::Aside => side_output(*outputs),
         Fate::Dropped => NONE,
     }
 }
@@ -145,7 +145,13 @@ impl State {
             }
             State::CheckIPHeader { refused } => header_fate(refused, packet),
             State::DecIPTTL => age(packet),
-            State::EtherEncap { header } => encapsulate(header, packet),
+            State::EtherEncap { header } => {
+                if encapsulate(header, packet) {
+                    Fate::Onward
+                } else {
+                    Fate::Dropped
+                }
+            }
             State::Queue { .. }
             | State::FrontDropQueue { .. }
             | State::Unqueue
@@ -167,11 +173,11 @@ impl State {
         }
     }
 
-    /// A packet is pushed into an input of an element with so many outputs: the outputs that get it, in order.
+    /// A packet is pushed into an input of an element with so many outputs: the outputs that get it, in order. How many there are is read where it is needed alone.
     #[tactic(auto, unfolding(crate::specs::Acts::act, crate::specs::Acts::pass))]
     #[inline(always)]
-    pub fn act(&mut self, outputs: u16, input: u16, packet: &mut Packet) -> PortRange
-        ensures { act outputs self.old input packet.old ≡ record { state = self.new; packet = packet.new; outputs = result } }
+    pub fn act(&mut self, outputs: &u16, input: u16, packet: &mut Packet) -> PortRange
+        ensures { act outputs.now self.old input packet.old ≡ record { state = self.new; packet = packet.new; outputs = result } }
     {
         match self {
             // What passes stands here again, since a second match, in `pass`, would cost as much as most of them do.
@@ -196,7 +202,13 @@ impl State {
             State::CheckLength { max } => pushed_to(outputs, length_fate(*max, packet)),
             State::CheckIPHeader { refused } => pushed_to(outputs, header_fate(refused, packet)),
             State::DecIPTTL => pushed_to(outputs, age(packet)),
-            State::EtherEncap { header } => pushed_to(outputs, encapsulate(header, packet)),
+            State::EtherEncap { header } => {
+                if encapsulate(header, packet) {
+                    OUTPUT_0
+                } else {
+                    NONE
+                }
+            }
             State::Queue {
                 list,
                 drops,
@@ -222,12 +234,12 @@ impl State {
             },
             State::RoundRobinSwitch { next } => {
                 let first = *next;
-                *next = after(outputs, first);
+                *next = after(*outputs, first);
                 PortRange { first, count: 1 }
             }
             State::Tee { .. } => PortRange {
                 first: 0,
-                count: outputs,
+                count: *outputs,
             },
             State::Suppressor { active } => {
                 if is_active(active, input) {
@@ -353,6 +365,7 @@ impl State {
 
     /// Makes `packet` the one that a source gives next, and counts it; false, and without change, where there is none.
     #[tactic(auto, unfolding(crate::specs::Acts::emission))]
+    #[inline(always)]
     pub fn emit(&mut self, packet: &mut Packet) -> bool
         ensures { MatchOption (emission self.old) ((result ≡ false) × (self.new ≡ self.old) × (packet.new ≡ packet.old))
             (λ s. (result ≡ true) × (s ≡ record { packet = packet.new; state = self.new })) }
@@ -376,12 +389,28 @@ impl State {
     }
 
     /// How many packets a source gives in one run of its task.
-    pub fn burst(&self) -> u8
+    #[inline(always)]
+    fn burst(&self) -> u8
         ensures { result ≡ burst_of self.now }
     {
         match self {
             State::InfiniteSource { burst, .. } => *burst,
             _ => 0,
+        }
+    }
+
+    /// A run of a source's task begins: makes `packet` the first that it gives, counts it, and tells how many packets one run gives at most; 0, and without change,
+    /// where it gives none.
+    #[inline(always)]
+    pub fn emit_first(&mut self, packet: &mut Packet) -> u8
+        ensures { MatchOption (if nat_lt 0 (burst_of self.old) then emission self.old else None) ((result ≡ 0) × (self.new ≡ self.old) × (packet.new ≡ packet.old))
+            (λ s. (result ≡ burst_of self.old) × (s ≡ record { packet = packet.new; state = self.new })) }
+    {
+        let most = self.burst();
+        if most > 0 && self.emit(packet) {
+            most
+        } else {
+            0
         }
     }
 

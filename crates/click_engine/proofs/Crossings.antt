@@ -7,11 +7,11 @@ use Rattle.click_classes.specs.declared.acting.PortRange.{PortRange}
 use Rattle.click_engine.specs.declared.world.Port.{Port}
 use Rattle.click_engine.specs.World.{Wiring, World, element_at, with_state, tries_at, spent, overrun, Acts}
 use Rattle.click_engine.specs.Run.{push, sent, Pulled, nothing, Answers}
-use Rattle.click_engine.specs.kept.Hops.{Along, Pushed, Reached}
+use Rattle.click_engine.specs.kept.Hops.{Along, Pushed, Reached, ReachesIn}
 use Rattle.click_engine.specs.kept.Tables.{far_of}
 use Rattle.click_engine.specs.declared.hops.Reply.{Reply}
 use Rattle.click_engine.proofs.Steps.{push-none, push-unconnected, push-made, pull-none, pull-unconnected, pull-asks, pull-held, stored-no, spread-zero}
-use Rattle.click_engine.proofs.Past.{acts_past}
+use Rattle.click_engine.proofs.Past.{acts_past, element_past, stored-blank, tries-blank}
 
 pub answers_whole : (r : Pulled) (w : World) (got : Bool) (p : Packet) → Answers r w got p → ◌≡◌ {A = Pulled} (record { world = w; packet = if got then Some p else None }) r
 answers_whole r w got p a = rw (a.world, ← a.answer) refl
@@ -120,6 +120,34 @@ module _ (net : Wiring) (w v : World) (at o : ℕ) where
           alone = λ k. held;
         }
 
+  -- what the far output leads to
+  pub reached_far : (p : Packet) (r : Reply) (far : Port) (w1 : World) → 0 < w.left → net.source at o ≡ Some far → w1 ≡ spent w → ReachesIn w1 v far p r → r.count < 65536 → Reached net w v at o p r
+  reached_far p r far w1 h t e reach few = go (stored (element_at w1 far.element).state) refl
+    where
+      go : (s : Option Stored) → stored (element_at w1 far.element).state ≡ s → Reached net w v at o p r
+      go (Some s) is =
+          let (held, none, packet, world) = rw is at reach.reached in
+          let left : v.left ≡ w.left - 1 = ap (λ (u : World). u.left) world ∙ ap (λ (u : World). u.left) e in
+          reached_held p r far w1 h t e (rw is (refl, packet, world)) left held none
+      go None is =
+          let (quiet, world, at_is, inputs_are, count_is, first_is) = rw is at reach.reached in
+          reached_asks p r far w1 h t e (tries_at w1 far.element far.port) (omega (arith, count_is, few)) (rw is (refl, world)) quiet at_is
+          (inputs_are ∙ ap (λ (u : World). (element_at u far.element).inputs) (sym world)) (ap (λ (u : World). tries_at u far.element far.port) (sym world)) count_is first_is
+
+  -- where the input is joined to nothing, the element past all of them has nothing to give
+  pub reached_on : (p : Packet) (r : Reply) (far : Port) (w1 : World) → 0 < w.left → far ≡ far_of (net.source at o) → length w.elements < 2 ^ 64 → w1 ≡ spent w → ReachesIn w1 v far p r → r.count < 65536
+      → Reached net w v at o p r
+  reached_on p r far w1 h is short e reach few = go (net.source at o) refl
+    where
+      go : (t : Option Port) → net.source at o ≡ t → Reached net w v at o p r
+      go (Some f) t = reached_far p r far w1 h (t ∙ ap Some (sym (is ∙ ap far_of t))) e reach few
+      go None t =
+          let nowhere_is : far.element ≡ 2 ^ 64 - 1 = ap (λ (f : Port). f.element) (is ∙ ap far_of t) in
+          let same : length w1.elements ≡ length w.elements = ap (λ (u : World). length u.elements) e in
+          let gone = element_past w1 far.element (omega (arith, nowhere_is, same, short)) in
+          let (quiet, world, at_is, inputs_are, count_is, first_is) = rw (gone, stored-blank) at reach.reached in
+          reached_unconnected p r h t (world ∙ e) quiet (count_is ∙ ap (λ (x : PortRange). x.count) (sym (tries-blank 0 far.port)))
+
 -- what an element gave out of itself changes no crossings
 pub stored-left : (o : Option Stored) (at : ℕ) (w v : World) (p : Packet) (held : Bool)
     → MatchOption o ((held ≡ false) × (v ≡ w)) (λ s. (held ≡ true) × (s.packet ≡ p) × (v ≡ with_state w at s.state)) → v.left ≡ w.left
@@ -147,6 +175,16 @@ along_next net w v u at first count p far next q to output (suc still) r over st
 pub along_one : (net : Wiring) (w v u : World) (at first count : ℕ) (p : Packet) (far next : ℕ) (q : Packet) (to output still : ℕ) (r : Packet)
     → Along net w v at first count p far next 1 q → Pushed net v u far next q to output still r → still ≡ 1 → Along net w u at first count p to output 1 r
 along_one net w v u at first count p far next q to output still r over step one = rw one at (along_next net w v u at first count p far next q to output still r over step)
+
+-- where no output is left, the element that had the packet last is of no account
+pub along_over : (net : Wiring) (w v : World) (at first count : ℕ) (p : Packet) (far next still : ℕ) (q : Packet) (far' next' : ℕ) → Along net w v at first count p far next still q → still ≡ 0
+    → Along net w v at first count p far' next' 0 q
+along_over net w v at first count p far next still q far' next' over none = record {
+  made = sym (spread-zero (λ u o. push net v.left u far o q) still next v none) ∙ over.made;
+  fewer = over.fewer;
+  falls = omega (arith, over.falls, none);
+  more = λ h e. absurd (omega arith);
+}
 
 -- the first step
 pub pushed_along : (net : Wiring) (w v : World) (at o : ℕ) (p : Packet) (far first still : ℕ) (q : Packet) → Pushed net w v at o p far first still q → Along net w v at o 1 p far first still q

@@ -61,6 +61,14 @@ module _ (net : Wiring) (w u v : World) (s t m : Asking) (q : Packet) (rep : Rep
     over = λ quiet none. absurd (omega (arith, more, none));
   }
 
+  -- it was the last
+  pub asked_all : rep.held ≡ false → rep.count ≡ 0 → m.count ≡ 0 → Asked net w v s m q rep
+  asked_all quiet none over_all = record {
+    follows = λ room h. rw none (moved_to none room h);
+    alone = over.alone;
+    over = λ _ _. over_all;
+  }
+
 -- an element that is asked further has room for its frame
 pub two_fit : (net : Wiring) (w v : World) (s t : Asking) (p : Packet) (rep : Reply) → Asked net w v s t p rep → (room : ℕ) → w.left < room → 0 < rep.count → 1 < room
 two_fit net w v s t p rep over room h more =

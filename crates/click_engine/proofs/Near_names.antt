@@ -1,13 +1,26 @@
 -- Names that are compared one after the other.
-use Rattle.std.proofs.Common.{◌≡◌, ℕ, zero, suc, ◌+◌, ◌<◌, sym, ap, ◌∙◌, Bool, true, false, cond, Some, List, [], ◌∷◌, ◌++◌, length, take, drop, get_or, arith}
+use Rattle.std.proofs.Common.{◌≡◌, ℕ, zero, suc, ◌+◌, ◌<◌, refl, sym, ap, ◌∙◌, Bool, true, false, cond, Some, List, [], ◌∷◌, ◌++◌, length, take, drop, get_or, arith}
 use Rattle.std.specs.Prelude.{position}
 use Rattle.std.specs.List.{position_from}
 use Rattle.std.specs.Str.{bytes_eq}
 use Rattle.std.specs.declared.vec.Vec.{Vec}
 use Rattle.std.specs.declared.alloc.Global.{Global}
-use Rattle.std.proofs.lemmas.List.{take-append-le, take_all, length-map, drop_more}
+use Rattle.std.proofs.lemmas.List.{take-append-le, take_all, length-map, drop_more, same_lists, get_or_default}
+use Rattle.std.proofs.lemmas.Slice.Eq.{bytes_eq-Decides}
 use Rattle.std.proofs.lemmas.Iterator.Adapters.{position_from-zero}
 use Rattle.click_engine.specs.kept.Tables.{texts}
+
+-- names that differ anywhere are two
+pub not_one : (xs ys : List ℕ) → (xs ≡ ys → ⊥) → false ≡ bytes_eq xs ys
+not_one xs ys h =
+    elim (bytes_eq xs ys) as (λ b. bytes_eq xs ys ≡ b → false ≡ b) [
+      | true ↦ λ e. absurd (h ((bytes_eq-Decides xs ys).0 e))
+      | false ↦ λ _. refl
+    ] refl
+
+-- names of one length whose bytes agree are one
+pub are_one : (xs ys : List ℕ) → length xs ≡ length ys → ((i : ℕ) → i < length xs → get_or xs i 0 ≡ get_or ys i 0) → true ≡ bytes_eq xs ys
+are_one xs ys long each = sym ((bytes_eq-Decides xs ys).1 (same_lists xs ys long (λ k d h. get_or_default xs k d 0 h ∙ each k h ∙ sym (get_or_default ys k d 0 (omega (arith, h, long))))))
 
 -- the place is found among the names from `at` on
 abbrev pub FoundFrom : List ℕ → List (List ℕ) → ℕ → Type 0

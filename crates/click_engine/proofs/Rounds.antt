@@ -1,5 +1,5 @@
 -- One task of a round.
-use Rattle.std.proofs.Common.{◌≡◌, ℕ, zero, suc, List, [], ◌∷◌, length, drop, get_or, ◌<◌, ◌+◌, ◌≤◌, min, refl, ap, sym, ◌∙◌, Bool, true, false, Option, None, Some, IfSome, IsSome, MatchOption, arith}
+use Rattle.std.proofs.Common.{◌≡◌, ℕ, zero, suc, List, [], ◌∷◌, length, drop, get_or, ◌<◌, ◌+◌, ◌-◌, ◌≤◌, min, nat_lt, if◌then◌else◌, refl, ap, sym, ◌∙◌, Bool, true, false, Option, None, Some, IfSome, IsSome, MatchOption, arith}
 use Rattle.std.proofs.Math.Seq.{drop-cons}
 use Rattle.std.proofs.lemmas.Bool.{false≢true}
 use Rattle.std.proofs.lemmas.Bool.Decides.{nat_tests}
@@ -13,6 +13,10 @@ use Rattle.click_classes.specs.Acts.{Stored, burst_of, emission}
 use Rattle.click_classes.specs.declared.class.Class.{Class}
 use Rattle.click_classes.specs.declared.class.Class.TheVariants as class
 use Rattle.click_ports.specs.declared.shape.Shape.{Shape}
+use Rattle.std.specs.Prelude.{option_map, is_some}
+use Rattle.std.proofs.lemmas.List.{get_or-map}
+use Rattle.click_engine.specs.kept.Tasks.{places_of, IsTaskIn}
+use Rattle.click_engine.specs.declared.tasks.Task.{Task}
 use Rattle.click_engine.specs.Rounds.{tasks, task, task_of, idle, unqueued, asks, bursts, sourced, state_at, Worked}
 
 pub tasks-none : (places : List ℕ) (v : Plant) → places ≡ [] → tasks places v ≡ idle v
@@ -72,6 +76,38 @@ pub bursts-zero : (n at : ℕ) (v : Plant) → n ≡ 0 → bursts n at v ≡ idl
 unfolding bursts
 bursts-zero n at v e = rw e refl
 
+-- the first packet of a source in a run of its task, of so many at most
+abbrev FirstEmitted : ℕ → ℕ → Plant → Plant → ℕ → Option Stored → Type 0
+FirstEmitted burst at v u most o = MatchOption o ((most ≡ 0) × (u ≡ v)) (λ e. (most ≡ burst) × (u ≡ sourced v at e))
+
+abbrev begun_by : ℕ → Plant → ℕ → Worked
+begun_by at u m = record { plant = (bursts m at u).plant; packets = 1 + (bursts m at u).packets }
+
+positive : (n : ℕ) → nat_lt 0 (suc n) ≡ true
+positive n = grind (arith, nat_tests)
+
+one_given : (n at : ℕ) (v u : Plant) (most : ℕ) (o : Option Stored) → FirstEmitted (suc n) at v u most o → 0 < most
+    → (burst_by n at v o ≡ record { plant = (bursts n at u).plant; packets = 1 + (bursts n at u).packets }) × (most ≡ suc n)
+one_given n at v u most None f some = absurd (omega (arith, f.0, some))
+one_given n at v u most (Some e) f some = (rw f.1 refl, f.0)
+
+no_one_given : (n at : ℕ) (v u : Plant) (most : ℕ) (o : Option Stored) → FirstEmitted (suc n) at v u most o → most ≡ 0 → burst_by n at v o ≡ idle u
+no_one_given n at v u most None f none = rw f.1 refl
+no_one_given n at v u most (Some e) f none = absurd (omega (arith, f.0, none))
+
+-- a burst that gave its first packet, or none
+pub burst_began : (burst at : ℕ) (v u : Plant) (most : ℕ) → FirstEmitted burst at v u most (if nat_lt 0 burst then emission (state_at v at) else None) → 0 < most
+    → (bursts burst at v ≡ record { plant = (bursts (most - 1) at u).plant; packets = 1 + (bursts (most - 1) at u).packets }) × (most ≡ burst)
+burst_began zero at v u most f some = absurd (omega (arith, f.0, some))
+burst_began (suc n) at v u most f some =
+    let (more, is) = one_given n at v u most (emission (state_at v at)) (rw (positive n) at f) some in
+    let less : n ≡ most - 1 = omega (arith, is) in
+    (burst-next (suc n) n at v refl ∙ more ∙ ap (begun_by at u) less, is)
+
+pub burst_gave_none : (burst at : ℕ) (v u : Plant) (most : ℕ) → FirstEmitted burst at v u most (if nat_lt 0 burst then emission (state_at v at) else None) → most ≡ 0 → bursts burst at v ≡ idle u
+burst_gave_none zero at v u most f none = bursts-zero 0 at v refl ∙ ap idle (sym f.1)
+burst_gave_none (suc n) at v u most f none = burst-next (suc n) n at v refl ∙ no_one_given n at v u most (emission (state_at v at)) (rw (positive n) at f) none
+
 -- a sum that stops at its top stops there in any order
 pub topped : (a b top : ℕ) → min (min a top + b) top ≡ min (a + b) top
 topped a b top = grind (arith, nat_tests)
@@ -116,3 +152,18 @@ task-keeps v at = go (slice_get v.net.shapes at)
 
 pub drop_next : (xs : List ℕ) (i d : ℕ) → i < length xs → drop i xs ≡ get_or xs i d ∷ drop (i + 1) xs
 drop_next xs i d h = let e : suc i ≡ i + 1 = omega arith in drop-cons xs i d h ∙ ap (λ j. get_or xs i d ∷ drop j xs) e
+
+-- the place of a task in the list
+pub place-at : (ts : List Task) (i : ℕ) (t : Task) → i < length ts → t ≡ get_or ts i t → t.at ≡ get_or (places_of ts) i t.at
+place-at ts i t inside is = ap (λ (u : Task). u.at) is ∙ sym (get_or-map (λ (u : Task). u.at) ts i t t.at inside)
+
+some_same : (a b : Class) → Some a ≡ Some b → a ≡ b
+some_same a b e = ap (λ (o : Option Class). elim o [ None ↦ a | Some c ↦ c ]) e
+
+-- the class of an element says what its task is
+pub task-by_class : (v : Plant) (t : Task) → IsTaskIn v.net.shapes t → task v t.at ≡ task_of t.class v t.at
+task-by_class v t is = go (slice_get v.net.shapes t.at) is
+  where
+    go : (o : Option Shape) → option_map (λ (s : Shape). s.class) o ≡ Some t.class → by_shape v t.at o ≡ task_of t.class v t.at
+    go None h = absurd (false≢true (ap is_some h))
+    go (Some s) h = ap (λ (c : Class). task_of c v t.at) (some_same s.class t.class h)

@@ -1,5 +1,7 @@
 -- The first frame of a run, and what the whole run made.
-use Rattle.std.proofs.Common.{◌≡◌, ℕ, ◌<◌, ◌≤◌, refl, sym, ap, ◌∙◌, Bool, true, false, if◌then◌else◌, Option, MatchOption, Some, None, IfSome, List, [], ◌∷◌, length, take, set, get_or, arith}
+use Rattle.std.proofs.Common.{◌≡◌, ℕ, ◌<◌, IsSome, IsTrue,  ◌≤◌, nat_lt, refl, sym, ap, ◌∙◌, Bool, true, false, if◌then◌else◌, Option, MatchOption, Some, None, IfSome, List, [], ◌∷◌, length, take, set, get_or, arith}
+use Rattle.std.proofs.lemmas.Bool.{false≢true}
+use Rattle.std.proofs.lemmas.Bool.Decides.{nat_tests}
 use Rattle.click_packet.specs.Packet.{Packet}
 use Rattle.click_classes.specs.Acts.{Stored}
 use Rattle.click_engine.specs.World.{Wiring, World}
@@ -19,6 +21,21 @@ use Rattle.click_engine.proofs.Slot_lists.{no_asks, no_senders, one_send, some_p
 pub last_set : (xs : List Sender) (s : Sender) (b : Bool) → 0 < length xs → last_of b (set xs 0 s) ≡ (if b then Some s.packet else None)
 last_set [] s b l = absurd (omega (arith, l))
 last_set (x ∷ xs) s b l = refl
+
+-- whether some are left
+pub some_left : (b : Bool) (n : ℕ) → b ≡ nat_lt 0 n → b ≡ true → 0 < n
+some_left b n e h = grind (arith, nat_tests)
+
+pub none_left : (b : Bool) (n : ℕ) → b ≡ nat_lt 0 n → b ≡ false → n ≡ 0
+none_left b n e h = grind (arith, nat_tests)
+
+-- the answer is there just where the flag says it
+pub answered_so : (xs : List Sender) (s : Sender) (b : Bool) → 0 < length xs → (IsTrue b → IsSome (last_of b (set xs 0 s))) × (IsSome (last_of b (set xs 0 s)) → IsTrue b)
+answered_so xs s b l = rw (last_set xs s b l) (go b)
+  where
+    go : (b : Bool) → (IsTrue b → IsSome (if b then Some s.packet else None)) × (IsSome (if b then Some s.packet else None) → IsTrue b)
+    go true = (λ _. refl, λ _. refl)
+    go false = (λ h. absurd (false≢true h), λ h. absurd (false≢true h))
 
 pub of_turn : (net : Wiring) (w v : World) (a b : Machine) → IsTurn net w a v b → Follows net w a v b
 of_turn net w v a b t = record { keeps = t.keeps; fewer = t.fewer; room = t.room; fits = t.fits; falls = omega (arith, t.falls) }
@@ -79,12 +96,25 @@ pub taken : (b : Bool) (q : Packet) (m : Machine) (room : ℕ) → m ≡ machine
 taken b q m room h w v X None f = (f.0, f.1, h ∙ rw f.0 refl)
 taken b q m room h w v X (Some s) f = (f.0, f.2, h ∙ rw (f.0, f.1) refl)
 
+-- the first packet of a run of a source's task is the answer
+pub taken_first : (most burst : ℕ) (some : Bool) → nat_lt 0 burst ≡ some → (q : Packet) (m : Machine) (room : ℕ) → m ≡ machine [] (if nat_lt 0 most then Some q else None) room
+    → (w v : World) (X : Stored → Type 0) (o : Option Stored)
+    → MatchOption (if some then o else None) ((most ≡ 0) × (v ≡ w)) (λ s. (most ≡ burst) × (s.packet ≡ q) × X s)
+    → MatchOption (if some then o else None) ((most ≡ 0) × (v ≡ w) × (m ≡ machine [] None room)) (λ s. (most ≡ burst) × X s × (m ≡ machine [] (Some s.packet) room))
+taken_first most burst false is q m room h w v X o f = (f.0, f.1, h ∙ rw f.0 refl)
+taken_first most burst true is q m room h w v X None f = (f.0, f.1, h ∙ rw f.0 refl)
+taken_first most burst true is q m room h w v X (Some s) f = (f.0, f.2, h ∙ rw (f.0, is, f.1) refl)
+
 module _ (net : Wiring) (w v : World) (m : Machine) (a : Option Packet) (r at : ℕ) where
   pub ran_push : (p : Packet) → m ≡ machine (Sends at 0 1 p ∷ []) None r → complete net w m ≡ left_with v a → v ≡ push net w.left w at 0 p
   ran_push p e f = let g : left_with (push net w.left w at 0 p) None ≡ left_with v a = rw e at f in sym (ap (λ (u : Pulled). u.world) g)
 
   pub ran_pull : m ≡ machine (Pulls at 0 ∷ []) None r → complete net w m ≡ left_with v a → pull net w.left w at 0 ≡ left_with v a
   ran_pull e f = rw e at f
+
+-- where no frame is left, the run is over
+pub ran_done : (net : Wiring) (v : World) (m : Machine) → m.frames ≡ [] → complete net v m ≡ left_with v m.last
+ran_done net v m none = rw none refl
 
 pub ran_answer : (net : Wiring) (w u v : World) (new : Machine) (a : Option Packet) (r at : ℕ) (o : Option Packet) → IfSome o (λ p. Follows net w (machine (Sends at 0 1 p ∷ []) None r) u new)
     → complete net u new ≡ left_with v a → (d : ℕ) → w.left ≤ d → IfSome o (λ p. v ≡ push net d w at 0 p)

@@ -1,9 +1,13 @@
 -- The places of the elements with a task, one element more at a time.
 use Rattle.std.proofs.Common.{◌≡◌, ℕ, ◌+◌, ◌<◌, sym, ap, subst, arith, List, [], ◌∷◌, ◌++◌, take, get_or, length, length-take-le}
-use Rattle.std.proofs.lemmas.List.{take_more}
+use Rattle.std.proofs.lemmas.List.{take_more, map-append}
+use Rattle.std.proofs.lemmas.Option.{slice_get-get_or}
+use Rattle.std.specs.Prelude.{option_map}
 use Rattle.click_ports.specs.Net.{Net}
 use Rattle.click_ports.specs.declared.shape.Shape.{Shape}
 use Rattle.click_engine.specs.Tasks.{HasTask, AreTasks, over, task, idle}
+use Rattle.click_engine.specs.kept.Tasks.{places_of, IsTaskIn}
+use Rattle.click_engine.specs.declared.tasks.Task.{Task}
 
 pub task_more : (net : Net) (at : ℕ) (ss : List Shape) (places : List ℕ) (s : Shape) (p : ℕ) → p ≡ at + length ss → HasTask net p s.class
     → AreTasks net at ss places → AreTasks net at (ss ++ s ∷ []) (places ++ p ∷ [])
@@ -35,3 +39,11 @@ module _ (net : Net) (at : ℕ) (ss xs : List Shape) (d : Shape) (places : List 
 
   pub next_idle : (HasTask net at (get_or xs at d).class → ⊥) → AreTasks net 0 (take at ss) places → AreTasks net 0 (take (at + 1) ss) places
   next_idle h r = subst (λ ys. AreTasks net 0 ys places) (sym next) (idle_more net 0 (take at ss) places (get_or xs at d) at place h r)
+
+-- a task more is its place more
+pub places-push : (tasks : List Task) (t : Task) → places_of (tasks ++ t ∷ []) ≡ places_of tasks ++ t.at ∷ []
+places-push tasks t = map-append (λ (u : Task). u.at) tasks (t ∷ [])
+
+-- the task of an element is of its class
+pub is_task_in : (ss xs : List Shape) (at : ℕ) (d : Shape) → xs ≡ ss → at < length xs → IsTaskIn ss (record { at = at; class = (get_or xs at d).class })
+is_task_in ss xs at d same inside = subst (λ ys. IsTaskIn ys (record { at = at; class = (get_or xs at d).class })) same (ap (λ o. option_map (λ (s : Shape). s.class) o) (slice_get-get_or xs at d inside))

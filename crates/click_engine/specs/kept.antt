@@ -4,3 +4,4 @@ pub mod Hops
 pub mod Slots
 pub mod Tables
 pub mod Taking
+pub mod Tasks

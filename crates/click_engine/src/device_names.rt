@@ -30,12 +30,28 @@ impl Model for DeviceNames {
     ghost invariant = { λ n. texts n.near.items ≡ take 8 n.all };
 }
 
+/// Whether the names are one. Most are short, so that a call would take longer than this.
+#[inline(always)]
+fn is_name(name: &[u8], other: &[u8]) -> bool
+    ensures { result ≡ bytes_eq name.now other.now }
+{
+    if name.len() != other.len() {
+        return false;
+    }
+    for at in 0..name.len() {
+        if name[at] != other[at] {
+            return false;
+        }
+    }
+    true
+}
+
 /// Where the name stands.
 fn near_place(names: &[Vec<u8>], name: &[u8]) -> Option<usize>
     ensures { result ≡ position (bytes_eq name.now) (texts names.now) }
 {
     for at in 0..names.len() {
-        if name == names[at].as_slice() {
+        if is_name(name, names[at].as_slice()) {
             return Some(at);
         }
     }

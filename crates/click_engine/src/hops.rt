@@ -1,7 +1,8 @@
 //! One push or pull over a connection.
-ghost use Rattle.std.specs.Prelude.{◌≡◌, ℕ, ◌+◌, ◌<◌, ◌⊎◌, ◌≤◌, ◌^◌, length, MatchOption, IfSome, None, Some, true, false};
+ghost use Rattle.std.specs.Prelude.{◌≡◌, ℕ, ◌+◌, ◌<◌, ◌⊎◌, ◌≤◌, ◌^◌, length, nat_lt, MatchOption, IfSome, None, Some, true, false};
+ghost use Rattle.click_engine.specs.World.{Wiring};
 ghost use Rattle.click_engine.specs.Wires.{world_of, wiring_of};
-ghost use Rattle.click_engine.specs.kept.Hops.{world_with, left_after, Along, Pushed, Reached};
+ghost use Rattle.click_engine.specs.kept.Hops.{world_with, world_after, Along, Pushed, Reached};
 ghost use Rattle.click_engine.specs.kept.Tables.{far_of, AreFirst};
 
 use crate::machine::Sender;
@@ -19,6 +20,15 @@ pub struct Reply {
     pub first: u16,
 }
 
+/// An answer.
+pub(crate) const HELD: Reply = Reply {
+    held: true,
+    at: 0,
+    inputs: 0,
+    count: 0,
+    first: 0,
+};
+
 /// No answer, and nobody else to ask.
 pub(crate) const NO_REPLY: Reply = Reply {
     held: false,
@@ -28,7 +38,25 @@ pub(crate) const NO_REPLY: Reply = Reply {
     first: 0,
 };
 
-/// Pushes the packet of `sender` over the connection at an output, and leaves in `sender` what goes on from there.
+/// Pushes the packet of `sender` into an input, and leaves in `sender` what goes on from there.
+#[inline(always)]
+fn push_into(work: &mut Work, far: Port, sender: &mut Sender)
+    ensures { (net : Wiring) (at output : ℕ) → far ≡ far_of (net.target at output)
+        → Pushed net (world_of work.old) (world_of work.new) at output sender.old.packet sender.new.at sender.new.first sender.new.count sender.new.packet }
+{
+    if work.left == 0 {
+        work.overrun();
+        sender.count = 0;
+        return;
+    }
+    work.spend();
+    let outputs = work.act(far.element, far.port, &mut sender.packet);
+    sender.at = far.element;
+    sender.first = outputs.first as usize;
+    sender.count = outputs.count as usize;
+}
+
+/// The same over the connection at an output.
 #[inline(always)]
 pub(crate) fn push_over(
     wires: &Wires,
@@ -39,17 +67,7 @@ pub(crate) fn push_over(
 )
     ensures { Pushed (wiring_of wires.now) (world_of work.old) (world_of work.new) at output sender.old.packet sender.new.at sender.new.first sender.new.count sender.new.packet }
 {
-    if work.left == 0 {
-        work.overrun();
-        sender.count = 0;
-        return;
-    }
-    work.spend();
-    let far = wires.target(at, output);
-    let outputs = work.act(far.element, far.port, &mut sender.packet);
-    sender.at = far.element;
-    sender.first = outputs.first as usize;
-    sender.count = outputs.count as usize;
+    push_into(work, wires.target(at, output), sender);
 }
 
 /// The input that a push at an output goes to, of an element that is in the table of first outputs.
@@ -66,82 +84,81 @@ fn far_from(wires: &Wires, ahead: &[Port], at: usize, output: u16) -> Port
     }
 }
 
-/// Pushes the packet of `sender` at an output, and on while just one output is to get it, by so many crossings at most. How many are left; none where one more was
-/// needed. The tables that a step needs stay in locals, and where the next step leads is looked up at the end of this one, with the output as the class gives it: most
-/// classes have one output, so that from there on nothing is to be tested.
+/// Pushes the packet of `sender` into an input, and on while just one output is to get it, by as many crossings as are left. Whether these were enough. The tables
+/// that a step needs stay in locals, and the crossings left where they are kept, so that a step counts them there by one instruction. Where the next step leads is
+/// looked up at the end of this one, with the output as the class gives it: most classes have one output, so that from there on nothing is to be tested.
 #[inline(always)]
 fn push_on(
     wires: &Wires,
     elements: &mut [Element],
-    most: usize,
-    at: usize,
-    output: usize,
+    left: &mut usize,
+    first: Port,
     sender: &mut Sender,
-) -> Option<usize>
+) -> bool
     requires { length elements.old ≤ length wires.now.shapes }
-    ensures along { (lost : ℕ) → Along (wiring_of wires.now) (world_with elements.old most lost) (left_after elements.new result lost) at output 1 sender.old.packet
+    ensures along { (at output lost : ℕ) → first ≡ far_of ((wiring_of wires.now).target at output)
+        → Along (wiring_of wires.now) (world_with elements.old left.old lost) (world_after result elements.new left.new lost) at output 1 sender.old.packet
         sender.new.at sender.new.first sender.new.count sender.new.packet }
     ensures ends { (sender.new.count ≡ 0) ⊎ (1 < sender.new.count) }
+    ensures lost { result ≡ false → sender.new.count ≡ 0 }
 {
     let ahead = wires.ahead();
-    let mut far = wires.target(at, output);
-    let mut left = most;
-    while left > 0 {
-        left -= 1;
+    let mut far = first;
+    while *left > 0 {
         let outputs = act_at(elements, far.element, far.port, &mut sender.packet);
         if outputs.count != 1 {
+            *left -= 1;
+            if outputs.count == 0 {
+                sender.count = 0;
+                return true;
+            }
             sender.at = far.element;
             sender.first = outputs.first as usize;
             sender.count = outputs.count as usize;
-            return Some(left);
+            return true;
         }
         far = far_from(wires, ahead, far.element, outputs.first);
+        *left -= 1;
     }
     sender.count = 0;
-    None
+    false
 }
 
 /// The same step by step, whatever elements there are.
 #[cold]
 #[inline(never)]
-fn push_slowly(wires: &Wires, work: &mut Work, sender: &mut Sender, at: usize, output: usize)
-    ensures along { Along (wiring_of wires.now) (world_of work.old) (world_of work.new) at output 1 sender.old.packet
-        sender.new.at sender.new.first sender.new.count sender.new.packet }
+fn push_slowly(wires: &Wires, work: &mut Work, first: Port, sender: &mut Sender)
+    ensures along { (at output : ℕ) → first ≡ far_of ((wiring_of wires.now).target at output) → Along (wiring_of wires.now) (world_of work.old) (world_of work.new)
+        at output 1 sender.old.packet sender.new.at sender.new.first sender.new.count sender.new.packet }
     ensures ends { (sender.new.count ≡ 0) ⊎ (1 < sender.new.count) }
 {
-    push_over(wires, work, at, output, sender);
+    push_into(work, first, sender);
     while sender.count == 1 {
         let (at, output) = (sender.at, sender.first);
         push_over(wires, work, at, output, sender);
     }
 }
 
-/// Pushes the packet of `sender` at an output, and on while just one output is to get it. It is a call: what a step needs stays in registers, whatever its caller keeps there.
+/// Pushes the packet of `sender` into an input, and on while just one output is to get it. Whether several are then to get it. It is a call: what a step needs stays in
+/// registers, whatever its caller keeps there.
 #[inline(never)]
-pub(crate) fn push_slot(
-    wires: &Wires,
-    work: &mut Work,
-    sender: &mut Sender,
-    at: usize,
-    output: usize,
-)
-    ensures along { Along (wiring_of wires.now) (world_of work.old) (world_of work.new) at output 1 sender.old.packet
-        sender.new.at sender.new.first sender.new.count sender.new.packet }
+pub(crate) fn push_slot(wires: &Wires, work: &mut Work, first: Port, sender: &mut Sender) -> bool
+    ensures along { (at output : ℕ) → first ≡ far_of ((wiring_of wires.now).target at output) → Along (wiring_of wires.now) (world_of work.old) (world_of work.new)
+        at output 1 sender.old.packet sender.new.at sender.new.first sender.new.count sender.new.packet }
     ensures ends { (sender.new.count ≡ 0) ⊎ (1 < sender.new.count) }
+    ensures several { result ≡ nat_lt 0 sender.new.count }
 {
     // (a plant has as many elements as its net)
     if wires.len() < work.elements.len() {
-        push_slowly(wires, work, sender, at, output);
-        return;
+        push_slowly(wires, work, first, sender);
+        return sender.count > 0;
     }
     let elements = work.elements.as_mut_slice();
-    match push_on(wires, elements, work.left, at, output, sender) {
-        Some(left) => work.left = left,
-        None => {
-            work.left = 0;
-            work.overrun();
-        }
+    if push_on(wires, elements, &mut work.left, first, sender) {
+        return sender.count > 0;
     }
+    work.overrun();
+    false
 }
 
 /// Pushes the packet of `sender` on while just one output is to get it.
@@ -153,8 +170,8 @@ pub(crate) fn push_along(wires: &Wires, work: &mut Work, sender: &mut Sender)
     ensures none { sender.old.count ≡ 0 → sender.new.count ≡ 0 }
 {
     if sender.count == 1 {
-        let (at, output) = (sender.at, sender.first);
-        push_slot(wires, work, sender, at, output);
+        let far = wires.target(sender.at, sender.first);
+        let _several = push_slot(wires, work, far, sender);
     }
 }
 
@@ -191,25 +208,21 @@ pub(crate) fn pull_over(
         return NO_REPLY;
     }
     work.spend();
-    let Some(far) = wires.source(at, input) else {
+    match wires.source(at, input) {
+        Some(far) => work.reach(far, packet),
+        None => NO_REPLY,
+    }
+}
+
+/// The same at the first input, which is found in a table of its own.
+#[inline(always)]
+pub(crate) fn pull_first(wires: &Wires, work: &mut Work, at: usize, packet: &mut Packet) -> Reply
+    ensures { Reached (wiring_of wires.now) (world_of work.old) (world_of work.new) at 0 packet.new result }
+{
+    if work.left == 0 {
+        work.overrun();
         return NO_REPLY;
-    };
-    let held = work.take_stored(far.element, packet);
-    if held {
-        return Reply {
-            held,
-            at: 0,
-            inputs: 0,
-            count: 0,
-            first: 0,
-        };
     }
-    let tries = work.tries(far.element, far.port);
-    Reply {
-        held,
-        at: far.element,
-        inputs: work.inputs(far.element),
-        count: tries.count,
-        first: tries.first,
-    }
+    work.spend();
+    work.reach(wires.first_source(at), packet)
 }

@@ -3,7 +3,7 @@ ghost use Rattle.std.specs.Prelude.{◌≡◌, ℕ, ◌+◌, ◌-◌, ◌<◌, �
 
 use crate::asking::{Asking, ask_along, waits};
 use crate::copies::serve_above;
-use crate::hops::{Reply, pull_over, push_along, push_over, push_slot};
+use crate::hops::{Reply, pull_first, pull_over, push_along, push_over, push_slot};
 use crate::slots::{copy_up, make_above, tries};
 use crate::wires::Wires;
 use crate::world::Work;
@@ -69,11 +69,11 @@ impl Model for Machine {
 }
 
 impl Machine {
-    ghost use Rattle.std.specs.Prelude.{◌≡◌, ℕ, ◌+◌, ◌-◌, ◌<◌, ◌≤◌, ◌^◌, List, [], ◌∷◌, ◌++◌, length, IfOk, IfSome, IsSome, IsTrue, ◌↔◌, None, Some, true, false};
+    ghost use Rattle.std.specs.Prelude.{◌≡◌, ℕ, ◌+◌, ◌-◌, ◌<◌, ◌≤◌, ◌^◌, List, [], ◌∷◌, ◌++◌, length, IfOk, IfSome, IsSome, IsTrue, ◌↔◌, None, Some, true, false, nat_lt, option_map, if◌then◌else◌};
     ghost use Rattle.click_engine.specs.Frames.{Frame, Sends, Pulls, Asks, IsTurn, Follows, sends_first};
     ghost use Rattle.click_engine.specs.Wires.{world_of, wiring_of};
     ghost use Rattle.click_engine.specs.World.{element_at, with_state};
-    ghost use Rattle.click_classes.specs.Acts.{emission};
+    ghost use Rattle.click_classes.specs.Acts.{burst_of, emission};
     ghost use Rattle.std.specs.Prelude.{MatchOption};
 
     /// No frames, with room for so many.
@@ -125,14 +125,15 @@ impl Machine {
         }
     }
 
-    /// Makes `packet` the last pull's answer; false, and without change, where there is none.
-    pub(crate) fn copy_answer(&self, packet: &mut Packet) -> bool
-        ensures { MatchOption self.now.last ((result ≡ false) × (packet.new ≡ packet.old)) (λ p. (result ≡ true) × (packet.new ≡ p)) }
+    /// The last pull's answer, where it lies.
+    pub(crate) fn lent_answer(&self) -> Option<&Packet>
+        ensures { option_map (λ p. p.now) result ≡ self.now.last }
     {
         if self.answered {
-            packet.copy_from(&self.senders[0].packet);
+            Some(&self.senders[0].packet)
+        } else {
+            None
         }
-        self.answered
     }
 
     /// Whether the last pull was answered.
@@ -152,58 +153,83 @@ impl Machine {
         self.answered = true;
     }
 
-    /// Begins with a push of the last pull's answer at output 0 of an element, and pushes it on as far as no copy has several ways to go.
+    /// Begins with a push of the last pull's answer at output 0 of an element, and pushes it on as far as no copy has several ways to go. Whether frames may be left.
     #[inline(always)]
-    pub(crate) fn push_answer(&mut self, wires: &Wires, work: &mut Work, at: usize)
+    pub(crate) fn push_answer(&mut self, wires: &Wires, work: &mut Work, at: usize) -> bool
         requires done { self.old.frames ≡ [] }
         requires room { work.old.left < self.old.room }
-        ensures { IfSome self.old.last (λ p. Follows (wiring_of wires.now) (world_of work.old) (record { frames = Sends at 0 1 p ∷ []; last = None; room = self.old.room })
+        ensures follows { IfSome self.old.last (λ p. Follows (wiring_of wires.now) (world_of work.old) (record { frames = Sends at 0 1 p ∷ []; last = None; room = self.old.room })
             (world_of work.new) self.new) }
+        ensures over { result ≡ false → self.new.frames ≡ [] }
     {
         self.answered = false;
         let sender = &mut self.senders[0];
-        push_slot(wires, work, sender, at, 0);
-        if sender.count > 0 {
+        let several = push_slot(wires, work, wires.target(at, 0), sender);
+        if several {
             self.sending = 1;
         }
+        several
     }
 
-    /// Begins with a pull at input 0 of an element, and asks at once what that leads to: mostly a queue is there, and nothing is left to do.
+    /// Begins with a pull at input 0 of an element, and asks at once what that leads to: mostly a queue is there, and nothing is left to do. Whether it was answered,
+    /// if that is all. `apart`: inputs of an element that it leads to are asked in a call of its own, which is for callers that find a queue there.
     #[inline(always)]
-    pub(crate) fn start_pull(&mut self, wires: &Wires, work: &mut Work, at: usize)
+    pub(crate) fn start_pull(&mut self, wires: &Wires, work: &mut Work, at: usize, apart: bool) -> Option<bool>
         requires done { self.old.frames ≡ [] }
         requires room { work.old.left < self.old.room }
-        ensures { Follows (wiring_of wires.now) (world_of work.old) (record { frames = Pulls at 0 ∷ []; last = None; room = self.old.room })
+        ensures follows { Follows (wiring_of wires.now) (world_of work.old) (record { frames = Pulls at 0 ∷ []; last = None; room = self.old.room })
             (world_of work.new) self.new }
+        ensures over { IfSome result (λ answered. (self.new.frames ≡ []) × (IsTrue answered ↔ IsSome self.new.last)) }
     {
         let sender = &mut self.senders[0];
-        let reply = pull_over(wires, work, at, 0, &mut sender.packet);
+        let reply = pull_first(wires, work, at, &mut sender.packet);
         if reply.count == 0 {
             self.answered = reply.held;
-            return;
+            return Some(reply.held);
         }
-        self.ask_on(wires, work, reply);
+        let Reply {
+            at,
+            inputs,
+            count,
+            first,
+            ..
+        } = reply;
+        if apart {
+            self.ask_apart(wires, work, at, inputs, count, first);
+        } else {
+            self.ask_on(wires, work, at, inputs, count, first);
+        }
+        None
     }
 
-    /// Asks the inputs of an element that a pull led to. Only an element further on that asks inputs of its own takes frames.
+    /// Asks inputs of an element that a pull led to, of which there are some. Only an element further on that asks inputs of its own takes frames.
     #[inline(always)]
-    fn ask_on(&mut self, wires: &Wires, work: &mut Work, reply: Reply)
+    fn ask_on(
+        &mut self,
+        wires: &Wires,
+        work: &mut Work,
+        at: usize,
+        inputs: u16,
+        count: u16,
+        first: u16,
+    )
         requires done { self.old.frames ≡ [] }
         requires room { work.old.left < self.old.room }
+        requires some { 0 < count }
         ensures { Follows (wiring_of wires.now) (world_of work.old)
-            (record { frames = Asks reply.at reply.inputs reply.count reply.first 0 ∷ []; last = None; room = self.old.room }) (world_of work.new) self.new }
+            (record { frames = Asks at inputs count first 0 ∷ []; last = None; room = self.old.room }) (world_of work.new) self.new }
     {
         let mut asking = Asking {
-            at: reply.at,
-            inputs: reply.inputs,
-            count: reply.count,
-            input: reply.first,
+            at,
+            inputs: inputs as usize,
+            count: count as usize,
+            input: first as usize,
             back: 0,
         };
         let sender = &mut self.senders[0];
         let further = ask_along(wires, work, &mut asking, &mut sender.packet);
         if further.held {
-            let given = work.gives(asking.at, asking.back, &mut sender.packet);
+            let given = work.gives(asking.at, asking.back as u16, &mut sender.packet);
             self.answered = given.answers;
             if given.copies.count > 0 {
                 sender.at = asking.at;
@@ -218,6 +244,42 @@ impl Machine {
             let _waiting = self.asks.push(waits(asking));
             let _made = self.asks.push(tries(further));
         }
+    }
+
+    #[inline(never)]
+    fn ask_apart(
+        &mut self,
+        wires: &Wires,
+        work: &mut Work,
+        at: usize,
+        inputs: u16,
+        count: u16,
+        first: u16,
+    )
+        requires done { self.old.frames ≡ [] }
+        requires room { work.old.left < self.old.room }
+        requires some { 0 < count }
+        ensures { Follows (wiring_of wires.now) (world_of work.old)
+            (record { frames = Asks at inputs count first 0 ∷ []; last = None; room = self.old.room }) (world_of work.new) self.new }
+    {
+        self.ask_on(wires, work, at, inputs, count, first);
+    }
+
+    /// The answer becomes the first packet that a source gives in a run of its task, and how many packets one run gives at most is told; 0, and there is no answer,
+    /// where it gives none.
+    #[inline(always)]
+    pub(crate) fn take_first_emission(&mut self, work: &mut Work, at: usize) -> u8
+        requires done { self.old.frames ≡ [] }
+        ensures left { work.new.left ≡ work.old.left }
+        ensures emitted { (let s = (element_at (world_of work.old) at).state in MatchOption (if nat_lt 0 (burst_of s) then emission s else None)
+            ((result ≡ 0) × (world_of work.new ≡ world_of work.old) × (self.new ≡ record { frames = []; last = None; room = self.old.room }))
+            (λ e. (result ≡ burst_of s) × (world_of work.new ≡ with_state (world_of work.old) at e.state)
+            × (self.new ≡ record { frames = []; last = Some e.packet; room = self.old.room }))) }
+    {
+        let sender = &mut self.senders[0];
+        let most = work.emit_first(at, &mut sender.packet);
+        self.answered = most > 0;
+        most
     }
 
     /// The answer becomes the packet that a source gives next; false, and there is none, where it gives none.

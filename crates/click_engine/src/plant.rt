@@ -6,7 +6,7 @@ use crate::devices::{Devices, Way};
 use crate::element_names::ElementNames;
 use crate::machine::Machine;
 use crate::runs::{pull_packet, push_answer, push_packet};
-use crate::tasks::tasks_of;
+use crate::tasks::{Task, tasks_of};
 use crate::wires::Wires;
 use crate::world::{Element, Work};
 use click_classes::{Class, Side, State};
@@ -24,7 +24,7 @@ pub const CROSSINGS: usize = 256;
 pub struct Plant {
     wires: Wires,
     names: ElementNames,
-    tasks: Vec<usize>,
+    tasks: Vec<Task>,
     sources: Devices,
     sinks: Devices,
     work: Work,
@@ -32,23 +32,25 @@ pub struct Plant {
 }
 
 impl Model for Plant {
-    ghost use Rattle.std.specs.Prelude.{◌≡◌, ℕ, ◌+◌, [], length};
+    ghost use Rattle.std.specs.Prelude.{◌≡◌, ℕ, ◌+◌, [], length, All};
     ghost use Rattle.click_engine.specs.Plant.{Plant as Seen};
     ghost use Rattle.click_engine.specs.declared.plant.TheConstants.{CROSSINGS};
     ghost use Rattle.click_engine.specs.kept.Tables.{FindsFirst};
+    ghost use Rattle.click_engine.specs.kept.Tasks.{places_of, IsTaskIn};
 
     ghost Value = { Seen };
 
     ghost view = { λ p. record {
       net = p.wires;
-      tasks = p.tasks.items;
+      tasks = places_of p.tasks.items;
       sources = p.sources;
       sinks = p.sinks;
       elements = p.work.elements.items;
       overruns = p.work.overruns;
     } };
 
-    ghost invariant = { λ p. (p.machine.frames ≡ []) × (p.machine.room ≡ CROSSINGS + 1) × FindsFirst p.names p.wires.names };
+    ghost invariant = { λ p. (p.machine.frames ≡ []) × (p.machine.room ≡ CROSSINGS + 1) × FindsFirst p.names p.wires.names
+        × All (IsTaskIn p.wires.shapes) p.tasks.items };
 }
 
 /// Elements of the net with these states.
@@ -70,13 +72,15 @@ fn elements_of(alloc: Global, net: &Net, states: Vec<State>) -> Result<Vec<Eleme
 }
 
 impl Plant {
-    ghost use Rattle.std.specs.Prelude.{◌≡◌, ℕ, ◌<◌, ◌≤◌, ◌+◌, IsTrue, ◌↔◌, IsSome, option_map, slice_index_or, slice_set, length, IfOk, MatchOption, min, ◌-◌, ◌^◌, true, false, vec_len};
+    ghost use Rattle.std.specs.Prelude.{◌≡◌, ℕ, ◌<◌, ◌≤◌, ◌+◌, IsTrue, ◌↔◌, IsSome, option_map, slice_index_or, slice_set, length, IfOk, MatchOption, min, ◌-◌, ◌^◌, true, false, vec_len, nat_lt, None, Some, if◌then◌else◌};
+    ghost use Rattle.std.specs.Fn.{FnOnceReturnsAt};
     ghost use Rattle.click_classes.specs.Acts.{burst_of, emission};
     ghost use Rattle.click_engine.specs.Plant.{Plant as Seen, IsStarted};
-    ghost use Rattle.click_engine.specs.Rounds.{arrive, transmit, transmitted, source_of, sink_of, round, task, bursts, sourced, state_at, unqueued, discarded, Worked};
+    ghost use Rattle.click_engine.specs.Rounds.{arrive, transmit, transmitted, source_of, sink_of, round, task as ran, bursts, sourced, state_at, unqueued, discarded, Worked};
     ghost use Rattle.click_engine.specs.declared.world.Element.{Element};
     ghost use Rattle.click_engine.specs.TakeOver.{place_of, taken};
     ghost use Rattle.click_engine.specs.kept.Taking.{taken_at, IsKeptBefore};
+    ghost use Rattle.click_engine.specs.kept.Tasks.{IsTaskIn};
     ghost use Rattle.click_engine.specs.World.{blank};
 
     /// The plant of a net whose elements begin with these states, one for each, in flat order. It takes all the memory that a run will need.
@@ -177,21 +181,21 @@ impl Plant {
     {
         let at = self.sinks.element(device)?;
         self.work.left = CROSSINGS;
-        pull_packet(&self.wires, &mut self.work, &mut self.machine, at);
+        let _answered = pull_packet(&self.wires, &mut self.work, &mut self.machine, at, false);
         self.machine.answer()
     }
 
-    /// Makes `packet` what a device takes, and moves no packet by value; false, and `packet` without change, where the device gets none.
-    pub fn pull_into(&mut self, device: &[u8], packet: &mut Packet) -> bool
+    /// Hands what a device takes to `f`, where it lies, and tells what `f` answers; None where the device gets none. The packet is not copied.
+    pub fn pull_with<R, F: FnOnce(&Packet) -> R>(&mut self, device: &[u8], f: F) -> Option<R>
+        requires { F.IsAlwaysCallable f }
         ensures plant { self.new ≡ transmit self.old device.now }
-        ensures packet { MatchOption (transmitted self.old device.now) ((result ≡ false) × (packet.new ≡ packet.old)) (λ p. (result ≡ true) × (packet.new ≡ p)) }
+        ensures packet { MatchOption (transmitted self.old device.now) (result ≡ None) (λ p. (r : R) × (result ≡ Some r) × FnOnceReturnsAt F.FnOnce f p r) }
     {
-        let Some(at) = self.sinks.element(device) else {
-            return false;
-        };
+        let at = self.sinks.element(device)?;
         self.work.left = CROSSINGS;
-        pull_packet(&self.wires, &mut self.work, &mut self.machine, at);
-        self.machine.copy_answer(packet)
+        let _answered = pull_packet(&self.wires, &mut self.work, &mut self.machine, at, false);
+        let packet = self.machine.lent_answer()?;
+        Some(f(packet))
     }
 
     /// Runs each task once in flat order, and tells how many packets sources gave and Unqueues and Discards pulled, at most 2^64 - 1.
@@ -201,23 +205,23 @@ impl Plant {
     {
         let mut packets: u64 = 0;
         for place in 0..self.tasks.len() {
-            let at = self.tasks[place];
-            packets = packets.saturating_add(self.task(at));
+            let task = self.tasks[place];
+            packets = packets.saturating_add(self.run(task));
         }
         packets
     }
 
-    fn task(&mut self, at: usize) -> u64
-        ensures plant { self.new ≡ (task self.old at).plant }
-        ensures packets { result ≡ (task self.old at).packets }
+    /// Runs a task.
+    #[inline(always)]
+    fn run(&mut self, task: Task) -> u64
+        requires { IsTaskIn self.old.net.shapes task }
+        ensures plant { self.new ≡ (ran self.old task.at).plant }
+        ensures packets { result ≡ (ran self.old task.at).packets }
     {
-        let Some(shape) = self.wires.net().shapes().get(at) else {
-            return 0;
-        };
-        match shape.class {
-            Class::InfiniteSource => self.give_burst(at),
-            Class::Unqueue => self.unqueue(at),
-            Class::Discard => self.discard(at),
+        match task.class {
+            Class::InfiniteSource => self.give_burst(task.at),
+            Class::Unqueue => self.unqueue(task.at),
+            Class::Discard => self.discard(task.at),
             _ => 0,
         }
     }
@@ -227,14 +231,32 @@ impl Plant {
         ensures plant { self.new ≡ (bursts (burst_of (state_at self.old at)) at self.old).plant }
         ensures packets { result ≡ (bursts (burst_of (state_at self.old at)) at self.old).packets }
     {
-        let mut packets = 0;
-        for _packet in 0..self.work.burst(at) {
+        let most = self.emit_first(at);
+        if most == 0 {
+            return 0;
+        }
+        let mut packets = 1;
+        for _packet in 1..most {
             if !self.emit(at) {
                 return packets;
             }
             packets += 1;
         }
         packets
+    }
+
+    /// The first packet of a source in a run of its task. How many packets one run gives at most; 0 where it gives none.
+    #[inline(always)]
+    fn emit_first(&mut self, at: usize) -> u8
+        ensures { (let most = burst_of (state_at self.old at) in MatchOption (if nat_lt 0 most then emission (state_at self.old at) else None)
+            ((result ≡ 0) × (self.new ≡ self.old)) (λ e. (result ≡ most) × (self.new ≡ sourced self.old at e))) }
+    {
+        self.work.left = CROSSINGS;
+        let most = self.machine.take_first_emission(&mut self.work, at);
+        if most > 0 {
+            push_answer(&self.wires, &mut self.work, &mut self.machine, at);
+        }
+        most
     }
 
     /// One packet of a source.
@@ -250,14 +272,14 @@ impl Plant {
         true
     }
 
+    #[inline(always)]
     fn unqueue(&mut self, at: usize) -> u64
         ensures plant { self.new ≡ (unqueued self.old at).plant }
         ensures packets { result ≡ (unqueued self.old at).packets }
         ensures few { result ≤ 1 }
     {
         self.work.left = CROSSINGS;
-        pull_packet(&self.wires, &mut self.work, &mut self.machine, at);
-        if !self.machine.is_answered() {
+        if !pull_packet(&self.wires, &mut self.work, &mut self.machine, at, true) {
             return 0;
         }
         push_answer(&self.wires, &mut self.work, &mut self.machine, at);
@@ -270,8 +292,8 @@ impl Plant {
         ensures few { result ≤ 1 }
     {
         self.work.left = CROSSINGS;
-        pull_packet(&self.wires, &mut self.work, &mut self.machine, at);
-        u64::from(self.machine.is_answered())
+        let answered = pull_packet(&self.wires, &mut self.work, &mut self.machine, at, true);
+        u64::from(answered)
     }
 
     /// Hands the element at a place of flat order to `f`, and keeps the one that it answers.

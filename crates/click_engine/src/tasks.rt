@@ -1,10 +1,18 @@
 //! Which elements have something to do in each round.
-ghost use Rattle.std.specs.Prelude.{◌≡◌, ◌<◌, IfOk, IsTrue, ◌↔◌};
+ghost use Rattle.std.specs.Prelude.{◌≡◌, ◌<◌, All, IfOk, IsTrue, ◌↔◌};
+ghost use Rattle.click_engine.specs.kept.Tasks.{places_of, IsTaskIn};
 ghost use Rattle.click_engine.specs.Tasks.{AreTasks, HasTask};
 
 use click_classes::{Class, Side};
 use click_ports::Net;
 use std::alloc::{AllocError, Global};
+
+/// The task of an element: its place in flat order, and its class.
+#[derive(Clone, Copy)]
+pub struct Task {
+    pub at: usize,
+    pub class: Class,
+}
 
 /// Whether the element of that class has a task.
 fn has_task(net: &Net, at: usize, class: Class) -> bool
@@ -20,16 +28,18 @@ fn has_task(net: &Net, at: usize, class: Class) -> bool
     }
 }
 
-/// The places of the elements with a task.
-pub(crate) fn tasks_of(alloc: Global, net: &Net) -> Result<Vec<usize>, AllocError>
-    ensures { IfOk result (λ places. AreTasks net.now 0 net.now.shapes places.items) }
+/// The tasks of a net's elements.
+pub(crate) fn tasks_of(alloc: Global, net: &Net) -> Result<Vec<Task>, AllocError>
+    ensures places { IfOk result (λ tasks. AreTasks net.now 0 net.now.shapes (places_of tasks.items)) }
+    ensures classes { IfOk result (λ tasks. All (IsTaskIn net.now.shapes) tasks.items) }
 {
-    let mut places = Vec::new(alloc);
+    let mut tasks = Vec::new(alloc);
     for at in 0..net.shapes().len() {
-        if !has_task(net, at, net.shapes()[at].class) {
+        let class = net.shapes()[at].class;
+        if !has_task(net, at, class) {
             continue;
         }
-        places.push(at)?;
+        tasks.push(Task { at, class })?;
     }
-    Ok(places)
+    Ok(tasks)
 }

@@ -18,6 +18,8 @@ pub struct Wires {
     sources: Vec<Vec<Option<Port>>>,
     /// Where a push at the first output of each element goes: mostly there is no other.
     ahead: Vec<Port>,
+    /// Which output a pull at the first input of each element asks.
+    behind: Vec<Port>,
 }
 
 /// Past all elements, in the place of none.
@@ -38,7 +40,7 @@ impl Model for Wires {
 
     ghost invariant = { λ w. IsTable (rows_of w.targets.items) (target_in w.net.connections)
         × IsTable (rows_of w.sources.items) (source_in w.net.connections) × AreFirst w.ahead.items (target_in w.net.connections)
-        × (length w.ahead.items ≡ length w.net.shapes) };
+        × (length w.ahead.items ≡ length w.net.shapes) × AreFirst w.behind.items (source_in w.net.connections) };
 }
 
 /// The connection's port at a side: the output that it leaves, or the input that it comes to.
@@ -188,11 +190,13 @@ impl Wires {
         let targets = joined(alloc, &net, Side::Output, Side::Input)?;
         let sources = joined(alloc, &net, Side::Input, Side::Output)?;
         let ahead = firsts(alloc, targets.as_slice())?;
+        let behind = firsts(alloc, sources.as_slice())?;
         Ok(Wires {
             net,
             targets,
             sources,
             ahead,
+            behind,
         })
     }
 
@@ -231,7 +235,16 @@ impl Wires {
         far_of(look_up(self.targets.as_slice(), at, output))
     }
 
+    /// The output that a pull at the first input asks.
+    #[inline(always)]
+    pub(crate) fn first_source(&self, at: usize) -> Port
+        ensures { result ≡ far_of ((wiring_of self.now).source at 0) }
+    {
+        near(self.behind.as_slice(), at)
+    }
+
     /// The output that a pull at an input asks.
+    #[inline(always)]
     pub(crate) fn source(&self, at: usize, input: usize) -> Option<Port>
         ensures { result ≡ (wiring_of self.now).source at input }
     {

@@ -4,13 +4,15 @@ ghost use Rattle.click_engine.specs.kept.Hops.{ActsIn};
 ghost use Rattle.click_classes.specs.Acts.{act, tries, stored, gives};
 
 use click_classes::{Class, Outcome, PortRange, State};
+use crate::hops::{HELD, Reply};
 use click_packet::Packet;
 
 /// One end of a connection: an element by its place in flat order, and one of its inputs or outputs.
 #[derive(Clone, Copy)]
 pub struct Port {
-    pub element: usize,
+    // (in this order a look-up needs no further register)
     pub port: u16,
+    pub element: usize,
 }
 
 /// An element as handlers see it: its class, how many ports it has, and its state.
@@ -43,7 +45,7 @@ pub(crate) fn act_at(
 {
     if at < elements.len() {
         let element = &mut elements[at];
-        element.state.act(element.outputs, input, packet)
+        element.state.act(&element.outputs, input, packet)
     } else {
         PortRange { first: 0, count: 0 }
     }
@@ -52,7 +54,8 @@ pub(crate) fn act_at(
 impl Work {
     ghost use Rattle.std.specs.Prelude.{◌≡◌, ℕ, ◌<◌, ◌≤◌, ◌-◌, MatchOption, IfSome, None, Some, true, false};
     ghost use Rattle.click_classes.specs.Acts.{act, tries, stored, emission, burst_of, gives};
-    ghost use Rattle.click_engine.specs.World.{element_at, with_state, tries_at, overrun, spent, Acts, GivesOut};
+    ghost use Rattle.click_engine.specs.World.{element_at, with_state, overrun, spent, Acts, GivesOut};
+    ghost use Rattle.click_engine.specs.kept.Hops.{EmitsFirst, ReachesIn};
     ghost use Rattle.click_engine.specs.Wires.{world_of};
 
     pub(crate) fn overrun(&mut self)
@@ -75,38 +78,47 @@ impl Work {
         act_at(self.elements.as_mut_slice(), at, input, packet)
     }
 
-    /// How many inputs the element has.
-    pub(crate) fn inputs(&self, at: usize) -> u16
-        ensures { result ≡ (element_at (world_of self.now) at).inputs }
-    {
-        match self.elements.get(at) {
-            Some(element) => element.inputs,
-            None => 0,
-        }
-    }
-
-    pub(crate) fn tries(&self, at: usize, output: u16) -> PortRange
-        ensures { result ≡ tries_at (world_of self.now) at output }
-    {
-        if at < self.elements.len() {
-            let element = &self.elements[at];
-            element.state.tries(element.inputs, output)
-        } else {
-            PortRange { first: 0, count: 0 }
-        }
-    }
-
+    /// What a pull at an output leads to: what the element has stored, which `packet` becomes, or the inputs that it asks.
     #[inline(always)]
-    pub(crate) fn take_stored(&mut self, at: usize, packet: &mut Packet) -> bool
-        ensures { MatchOption (stored (element_at (world_of self.old) at).state)
-            ((result ≡ false) × (world_of self.new ≡ world_of self.old))
-            (λ s. (result ≡ true) × (s.packet ≡ packet.new) × (world_of self.new ≡ with_state (world_of self.old) at s.state)) }
+    pub(crate) fn reach(&mut self, far: Port, packet: &mut Packet) -> Reply
+        ensures { ReachesIn (world_of self.old) (world_of self.new) far packet.new result }
+    {
+        if far.element < self.elements.len() {
+            let element = &mut self.elements[far.element];
+            if element.state.take_stored(packet) {
+                return HELD;
+            }
+            let tries = element.state.tries(element.inputs, far.port);
+            Reply {
+                held: false,
+                at: far.element,
+                inputs: element.inputs,
+                count: tries.count,
+                first: tries.first,
+            }
+        } else {
+            Reply {
+                held: false,
+                at: far.element,
+                inputs: 0,
+                count: 0,
+                first: 0,
+            }
+        }
+    }
+
+    /// A run of a source's task begins: makes `packet` the first that it gives, and tells how many packets one run gives at most; 0, and without change, where it
+    /// gives none.
+    #[inline(always)]
+    pub(crate) fn emit_first(&mut self, at: usize, packet: &mut Packet) -> u8
+        ensures left { self.new.left ≡ self.old.left }
+        ensures emitted { EmitsFirst (world_of self.old) (world_of self.new) at packet.new result }
     {
         if at < self.elements.len() {
             let element = &mut self.elements[at];
-            element.state.take_stored(packet)
+            element.state.emit_first(packet)
         } else {
-            false
+            0
         }
     }
 
@@ -122,16 +134,6 @@ impl Work {
             element.state.emit(packet)
         } else {
             false
-        }
-    }
-
-    /// How many packets a source gives in one run of its task.
-    pub(crate) fn burst(&self, at: usize) -> u8
-        ensures { result ≡ burst_of (element_at (world_of self.now) at).state }
-    {
-        match self.elements.get(at) {
-            Some(element) => element.state.burst(),
-            None => 0,
         }
     }
 

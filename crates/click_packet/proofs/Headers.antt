@@ -44,6 +44,10 @@ header_good-fields bytes refused e v t l s =
     let n4 : (ones_sum (sum_of_words (header bytes)) == 65535) ≡ true = (Decides-eqb (ones_sum (sum_of_words (header bytes))) 65535).1 s in
     simp (e, n1, n2, n3, n4)
 
+-- nobody is refused where the list is empty
+pub nobody_refused : (bytes : List ℕ) (refused : List (List ℕ)) → refused ≡ [] → not (list_any (λ address. bytes_eq address (source bytes)) refused) ≡ true
+nobody_refused bytes refused none = rw none refl
+
 decides_le : (a b : ℕ) → Decides (nat_le a b) (a ≤ b)
 decides_le a b = (λ e. grind (arith, nat_tests), λ h. grind (arith, nat_tests))
 

@@ -16,7 +16,7 @@ fn quad(header: &[u8], at: usize) -> u64
     u64::from(u32::from_be_bytes(word))
 }
 
-/// The sum of the 32-bit words of a header's options, which follow its first 20 bytes. Most headers have none.
+/// The sum of the 32-bit words of a header's options, which follow its first 20 bytes.
 #[tactic(auto, using(crate::proofs::Quads::quad_steps))]
 fn sum_of_options(header: &[u8]) -> u64
     requires whole { length header.now % 4 ≡ 0 }
@@ -32,35 +32,6 @@ fn sum_of_options(header: &[u8]) -> u64
     sum
 }
 
-/// The same as a call: what only a rare header needs takes no registers from the others.
-#[cold]
-#[inline(never)]
-fn sum_of_some(header: &[u8]) -> u64
-    requires whole { length header.now % 4 ≡ 0 }
-    requires long { 20 ≤ length header.now }
-    requires short { length header.now ≤ 60 }
-    ensures value { result ≡ quads (drop 20 header.now) }
-    ensures fits { result < 68719476736 }
-{
-    sum_of_options(header)
-}
-
-/// The same, at once where there are none.
-#[inline(always)]
-fn sum_of_rare(header: &[u8]) -> u64
-    requires whole { length header.now % 4 ≡ 0 }
-    requires long { 20 ≤ length header.now }
-    requires short { length header.now ≤ 60 }
-    ensures value { result ≡ quads (drop 20 header.now) }
-    ensures fits { result < 68719476736 }
-{
-    if header.len() == 20 {
-        0
-    } else {
-        sum_of_some(header)
-    }
-}
-
 /// Whether the ones' complement sum of a header's 16-bit words is ffff, as it is where its checksum is right.
 pub fn sums_to_ones(header: &[u8]) -> bool
     requires whole { length header.now % 4 ≡ 0 }
@@ -69,7 +40,7 @@ pub fn sums_to_ones(header: &[u8]) -> bool
     requires begun { 0 < slice_index header.now 0 }
     ensures { IsTrue result ↔ (ones_sum (sum_of_words header.now) ≡ 65535) }
 {
-    let total = sum_of_rare(header)
+    let total = sum_of_options(header)
         + quad(header, 0)
         + quad(header, 4)
         + quad(header, 8)

@@ -1,5 +1,5 @@
 //! The internet header at the front of a packet's bytes (RFC 791, section 3.1).
-ghost use Rattle.std.specs.Prelude.{◌≡◌, ◌-◌, ◌≤◌, length, true, false, not, nat_lt, if◌then◌else◌, IfSome, MatchOption};
+ghost use Rattle.std.specs.Prelude.{◌≡◌, ◌-◌, ◌≤◌, length, true, false, not, nat_lt, if◌then◌else◌, IfSome, MatchOption, slice_index};
 ghost use Rattle.std.specs.List.{list_any};
 ghost use Rattle.std.specs.Str.{bytes_eq};
 ghost use Rattle.click_packet.specs.Header.{source, stated_len, header_len, header_good, ttl, with_ttl};
@@ -25,8 +25,28 @@ pub fn header_len(bytes: &[u8]) -> Option<usize>
 }
 
 /// Whether a whole header of version 4 is there, whose total length lies between its own and the number of bytes, whose
-/// words sum to ffff, and whose source address is none of `refused`.
+/// words sum to ffff, and whose source address is none of `refused`. Most headers have no options, and mostly nobody is refused.
+#[inline(always)]
 pub fn is_good(bytes: &[u8], refused: &[[u8; 4]]) -> bool
+    ensures { result ≡ header_good bytes.now refused.now }
+{
+    if bytes.len() < 20 {
+        return false;
+    }
+    if bytes[0] != 0x45 || !refused.is_empty() {
+        return is_good_of_any_length(bytes, refused);
+    }
+    let total = usize::from(bytes[2]) * 256 + usize::from(bytes[3]);
+    if total < 20 || bytes.len() < total {
+        return false;
+    }
+    sums_to_ones(&bytes[..20])
+}
+
+/// The same for a header of any length. It is a call of its own, so that what only a rare header needs takes no registers from the others.
+#[cold]
+#[inline(never)]
+fn is_good_of_any_length(bytes: &[u8], refused: &[[u8; 4]]) -> bool
     ensures { result ≡ header_good bytes.now refused.now }
 {
     if bytes.len() < 20 {
@@ -45,25 +65,13 @@ pub fn is_good(bytes: &[u8], refused: &[[u8; 4]]) -> bool
     is_welcome(bytes, refused)
 }
 
-/// Whether the source address of a header is none of `refused`. Mostly nobody is, and then no address is read.
+/// Whether the source address of a header is none of `refused`.
 fn is_welcome(bytes: &[u8], refused: &[[u8; 4]]) -> bool
     requires { 16 ≤ length bytes.now }
     ensures { result ≡ not (list_any (λ address. bytes_eq address (source bytes.now)) refused.now) }
 {
-    if refused.is_empty() {
-        return true;
-    }
-    !is_from(bytes, refused)
-}
-
-/// Whether the source address of a header is one of these.
-#[inline(never)]
-fn is_from(bytes: &[u8], addresses: &[[u8; 4]]) -> bool
-    requires { 16 ≤ length bytes.now }
-    ensures { result ≡ list_any (λ address. bytes_eq address (source bytes.now)) addresses.now }
-{
     let source = [bytes[12], bytes[13], bytes[14], bytes[15]];
-    addresses.contains(&source)
+    !refused.contains(&source)
 }
 
 /// Sets byte 8 and the checksum that goes with it.
@@ -92,9 +100,46 @@ pub fn set_ttl(bytes: &mut [u8], ttl: u8) -> bool
     true
 }
 
+/// Makes byte 8 of a header less by one, with the checksum that goes with it, where it is above 1, and says whether that is so.
+#[inline(always)]
+fn count_down_in(bytes: &mut [u8], len: usize) -> bool
+    requires stated { len ≡ stated_len bytes.old }
+    requires long { 20 ≤ len }
+    requires there { len ≤ length bytes.old }
+    ensures passes { result ≡ nat_lt 1 (slice_index bytes.old 8) }
+    ensures counted { bytes.new ≡ (if nat_lt 1 (slice_index bytes.old 8) then with_ttl bytes.old (slice_index bytes.old 8 - 1) else bytes.old) }
+{
+    let hops = bytes[8];
+    if hops <= 1 {
+        return false;
+    }
+    write_ttl(bytes, len, hops - 1);
+    true
+}
+
 /// Makes byte 8 less by one, with the checksum that goes with it, where there is a header and that byte is above 1, and
-/// says whether that is so.
+/// says whether that is so. Most headers have no options.
+#[tactic(auto, using(crate::proofs::Headers::header_lens))]
+#[inline(always)]
 pub fn count_down(bytes: &mut [u8]) -> bool
+    ensures { MatchOption (ttl bytes.old)
+        ((result ≡ false) × (bytes.new ≡ bytes.old))
+        (λ hops. (result ≡ nat_lt 1 hops)
+        × (bytes.new ≡ (if nat_lt 1 hops then with_ttl bytes.old (hops - 1) else bytes.old))) }
+{
+    if bytes.len() < 20 {
+        return false;
+    }
+    if bytes[0] % 16 != 5 {
+        return count_down_at_any_length(bytes);
+    }
+    count_down_in(bytes, 20)
+}
+
+/// The same for a header of any length.
+#[cold]
+#[inline(never)]
+fn count_down_at_any_length(bytes: &mut [u8]) -> bool
     ensures { MatchOption (ttl bytes.old)
         ((result ≡ false) × (bytes.new ≡ bytes.old))
         (λ hops. (result ≡ nat_lt 1 hops)
@@ -103,10 +148,5 @@ pub fn count_down(bytes: &mut [u8]) -> bool
     let Some(len) = header_len(bytes) else {
         return false;
     };
-    let hops = bytes[8];
-    if hops <= 1 {
-        return false;
-    }
-    write_ttl(bytes, len, hops - 1);
-    true
+    count_down_in(bytes, len)
 }

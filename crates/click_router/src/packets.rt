@@ -69,11 +69,9 @@ impl Running {
         if !self.plant.has_sink(device) {
             return Recorded::of(Kept::NoDevice);
         }
-        let mut whole = Packet::empty();
-        if self.plant.pull_into(device, &mut whole) {
-            Recorded::of(Kept::Sent(room.keep(&whole)))
-        } else {
-            Recorded::of(Kept::SentNone)
+        match self.plant.pull_with(device, |packet| room.keep(packet)) {
+            Some(kept) => Recorded::of(Kept::Sent(kept)),
+            None => Recorded::of(Kept::SentNone),
         }
     }
 }

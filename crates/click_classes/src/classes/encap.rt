@@ -1,11 +1,11 @@
 //! Elements that put a header before packets.
 
-ghost use Rattle.std.specs.Prelude.{◌≡◌};
+ghost use Rattle.std.specs.Prelude.{◌≡◌, if◌then◌else◌};
 ghost use Rattle.click_classes.specs.Fresh.{ether_encap, ether_header};
 ghost use Rattle.click_classes.specs.Acts.{encapsulated, passed};
 ghost use Rattle.click_classes.specs.declared.state.State.{State};
+ghost use Rattle.click_classes.specs.declared.acting.Fate.TheVariants as Fate;
 
-use crate::acting::Fate;
 use crate::arguments::Arguments;
 use crate::fault::ArgFault;
 use crate::state::State;
@@ -51,13 +51,12 @@ fn ether_header(ether_type: u16, source: [u8; 6], destination: [u8; 6]) -> [u8; 
     ]
 }
 
-/// Puts a header before a packet; one that would be too long with it stays as it is and is dropped.
-#[inline(never)]
-pub fn encapsulate(header: &[u8; 14], packet: &mut Packet) -> Fate
-    ensures { (state : State) → encapsulated state header.now packet.old ≡ passed state packet.new result }
+/// Puts a header before a packet, and says whether it fits; a packet that would be too long with it stays as it is.
+#[inline(always)]
+pub fn encapsulate(header: &[u8; 14], packet: &mut Packet) -> bool
+    ensures { (state : State) → encapsulated state header.now packet.old ≡ passed state packet.new (if result then Fate.Onward else Fate.Dropped) }
 {
-    match packet.prepend(header.as_slice()) {
-        Ok(()) => Fate::Onward,
-        Err(_) => Fate::Dropped,
-    }
+    // (a copy lies apart from the packet, so that whether they overlap is not tested)
+    let front = *header;
+    packet.prepend(front.as_slice()).is_ok()
 }

@@ -94,7 +94,7 @@ pub fn make_dec_ip_ttl(arguments: &Arguments) -> Result<State, ArgFault>
 }
 
 /// Where a packet goes after a CheckIPHeader: one whose header is bad goes aside.
-#[inline(never)]
+#[inline(always)]
 pub fn header_fate(refused: &Sequence<[u8; 4]>, packet: &Packet) -> Fate
     ensures { result ≡ (if header_good packet.now.bytes refused.now then Fate.Onward else Fate.Aside) }
 {
@@ -106,7 +106,7 @@ pub fn header_fate(refused: &Sequence<[u8; 4]>, packet: &Packet) -> Fate
 }
 
 /// Makes a packet's time to live less by one; a packet with a time to live of 0 or 1, or without a header, stays as it is and goes aside.
-#[inline(never)]
+#[inline(always)]
 pub fn age(packet: &mut Packet) -> Fate
     ensures { aged packet.old (ttl packet.old.bytes) ≡ record { state = State.DecIPTTL; packet = packet.new; fate = result } }
 {

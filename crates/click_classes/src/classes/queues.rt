@@ -98,7 +98,9 @@ pub fn store(list: &mut PacketList, drops: &mut u64, highest: &mut usize, packet
         return;
     }
     let count = list.len() + 1;
-    *highest = count.max(*highest);
+    if *highest < count {
+        *highest = count;
+    }
     list.push_back(packet);
 }
 

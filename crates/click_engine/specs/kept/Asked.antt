@@ -6,6 +6,10 @@ use Rattle.click_engine.specs.Frames.{Frame, Asks, Follows}
 use Rattle.click_engine.specs.declared.asking.Asking.{Asking}
 use Rattle.click_engine.specs.declared.hops.Reply.{Reply}
 
+-- its numbers fit 16 bits
+abbrev pub IsSmall : Asking → Type 0
+IsSmall a = (a.inputs < 65536) × (a.count < 65536) × (a.input < 65536) × (a.back < 65536)
+
 abbrev pub asks_now : Asking → Frame
 asks_now a = Asks a.at a.inputs a.count a.input a.back
 

@@ -7,8 +7,8 @@ use Rattle.click_engine.proofs.device_names.near_place.Goals as goal
 pub loop-at-init : goal.loop-at-init
 loop-at-init c = found_first c.args.name.now (texts c.args.names.now)
 
-pub returns-then-eq : goal.returns-then-eq
-returns-then-eq c =
+pub returns-then-is_name : goal.returns-then-is_name
+returns-then-is_name c =
     let same : bytes_eq c.args.name.now c.index-names-at.result.items ≡ true = search rules in
     found_here _ _ _ _ c.loop-at-test.true c.index-names-at.is c.loop-at.invariant same
 

@@ -1,4 +1,4 @@
-use Rattle.std.proofs.Common.{◌≡◌, ℕ}
+use Rattle.std.proofs.Common.{◌≡◌, ◌≤◌, ℕ, length}
 use Rattle.click_engine.specs.Wires.{wiring_of}
 use Rattle.click_engine.specs.kept.Hops.{world_with, Along}
 use Rattle.click_engine.specs.kept.Tables.{far_of}
@@ -8,8 +8,9 @@ use Rattle.click_engine.proofs.hops.push_on.Given as goal
 abbrev pub invariant-loop-left : goal.invariant-loop-left
 invariant-loop-left l =
     let i = l.initial in
-    (at : ℕ) × (output : ℕ) × (l.far ≡ far_of ((wiring_of l.wires).target at output))
-    × ((lost : ℕ) → Along (wiring_of l.wires) (world_with i.elements i.most lost) (world_with l.elements l.left lost) i.at i.output 1 i.sender.packet at output 1 l.sender.packet)
+    (at : ℕ) (output : ℕ) (lost : ℕ) → i.far ≡ far_of ((wiring_of l.wires).target at output)
+    → (near : ℕ) × (by : ℕ) × (l.far ≡ far_of ((wiring_of l.wires).target near by))
+    × Along (wiring_of l.wires) (world_with i.elements i.left lost) (world_with l.elements l.left lost) at output 1 i.sender.packet near by 1 l.sender.packet
 
 abbrev pub decreases-loop-left : goal.decreases-loop-left
 decreases-loop-left l = l.left

@@ -1,9 +1,17 @@
-use Rattle.std.proofs.Common.{◌∙◌, ap, sym, length}
+use Rattle.std.proofs.Common.{◌≡◌, ◌∙◌, true, false, ap, sym, refl, length, if◌then◌else◌}
+use Rattle.std.specs.Vec.{with_items}
 use Rattle.std.proofs.lemmas.List.{with_items_is}
+use Rattle.click_engine.specs.World.{overrun}
 use Rattle.click_engine.proofs.hops.push_slot.Goals as goal
 
-pub returns-in-Some-clause-along : goal.returns-in-Some-clause-along
-returns-in-Some-clause-along c =
+pub returns-then-push_on-clause-along : goal.returns-then-push_on-clause-along
+returns-then-push_on-clause-along c = λ at output joined.
     let given = c.as_mut_slice-elements.ensures.value in
     let kept = with_items_is c.args.work.now.elements c.push_on.new.elements (c.push_on.auto.elements ∙ ap length given ∙ sym c.args.work.now.elements.ok.0) in
-    rw kept (rw (c.in-Some.is, given) at (c.push_on.ensures.along c.args.work.now.overruns))
+    rw kept (rw (c.if-push_on.true, given) at (c.push_on.ensures.along at output c.args.work.now.overruns joined))
+
+pub returns-clause-along : goal.returns-clause-along
+returns-clause-along c = λ at output joined.
+    let given = c.as_mut_slice-elements.ensures.value in
+    let kept = with_items_is c.args.work.now.elements c.push_on.new.elements (c.push_on.auto.elements ∙ ap length given ∙ sym c.args.work.now.elements.ok.0) in
+    rw (c.overrun.ensures, kept) (rw (c.if-push_on.false, given) at (c.push_on.ensures.along at output c.args.work.now.overruns joined))

@@ -8,27 +8,27 @@ pub returns-then-given-gt0 : goal.returns-then-given-gt0
 returns-then-given-gt0 c =
     let m = c.self.inside in
     asked_sends _ m.sending m.senders.items m.asks.items m.answered m.room c.self.view_is c.requires.done (omega (arith, c.self.invariant.0, m.senders.ok.0)) (omega (arith, c.self.invariant.1, m.senders.ok.0))
-    _ _ _ _ _ _ _ c.ask_along-further.ensures c.requires.room _ c.if-further.true _ c.gives-given.result.copies c.gives-given.result.answers c.gives-given.ensures (omega arith) refl refl refl
+    _ _ _ _ _ _ _ c.ask_along-further.ensures.asked c.requires.room _ c.if-further.true _ c.gives-given.result.copies c.gives-given.result.answers c.gives-given.ensures (omega arith) refl refl refl
 
 pub returns-else-given-gt0 : goal.returns-else-given-gt0
 returns-else-given-gt0 c =
     let m = c.self.inside in
     asked_gives _ m.sending m.senders.items m.asks.items m.answered m.room c.self.view_is c.requires.done (omega (arith, c.self.invariant.0, m.senders.ok.0)) (omega (arith, c.self.invariant.1, m.senders.ok.0))
-    _ _ _ _ _ _ _ c.ask_along-further.ensures c.requires.room _ c.if-further.true _ c.gives-given.result.copies c.gives-given.result.answers c.gives-given.ensures (omega arith)
+    _ _ _ _ _ _ _ c.ask_along-further.ensures.asked c.requires.room _ c.if-further.true _ c.gives-given.result.copies c.gives-given.result.answers c.gives-given.ensures (omega arith)
 
 pub returns-then-further-gt0 : goal.returns-then-further-gt0
 returns-then-further-gt0 c =
     let m = c.self.inside in
     let none = no_asks (take m.sending m.senders.items) m.asks.items (ap (λ (s : Machine). s.frames) c.self.view_is ∙ c.requires.done) in
-    let two = two_fit _ _ _ _ _ _ _ c.ask_along-further.ensures _ c.requires.room (omega (arith, c.if-further-gt0.true)) in
+    let two = two_fit _ _ _ _ _ _ _ c.ask_along-further.ensures.asked _ c.requires.room (omega (arith, c.if-further-gt0.true)) in
     let room : 1 < vec_capacity m.asks = omega (arith, two, c.self.invariant.3, ap (λ (s : Machine). s.room) c.self.view_is) in
     let one : vec_len m.asks ≡ 0 = m.asks.ok.0 ∙ ap length none in
     let pushed : c.push-made.new.self.items ≡ (m.asks.items ++ c.waits.result ∷ []) ++ c.tries.result ∷ [] = search rules in
     asked_waits _ m.sending m.senders.items m.asks.items m.answered m.room c.self.view_is c.requires.done (omega (arith, c.self.invariant.0, m.senders.ok.0)) (omega (arith, c.self.invariant.1, m.senders.ok.0))
-    _ _ _ _ _ _ _ c.ask_along-further.ensures c.requires.room _ (omega (arith, c.if-further-gt0.true)) _ _ _ pushed c.waits.ensures c.tries.ensures
+    _ _ _ _ _ _ _ c.ask_along-further.ensures.asked c.requires.room _ (omega (arith, c.if-further-gt0.true)) _ _ _ pushed c.waits.ensures c.tries.ensures
 
 pub returns-else-further-gt0 : goal.returns-else-further-gt0
 returns-else-further-gt0 c =
     let m = c.self.inside in
     asked_nothing _ m.sending m.senders.items m.asks.items m.answered m.room c.self.view_is c.requires.done (omega (arith, c.self.invariant.0, m.senders.ok.0)) (omega (arith, c.self.invariant.1, m.senders.ok.0))
-    _ _ _ _ _ _ _ c.ask_along-further.ensures c.requires.room _ c.if-further.false (omega (arith, c.if-further-gt0.false))
+    _ _ _ _ _ _ _ c.ask_along-further.ensures.asked c.requires.room _ c.if-further.false (omega (arith, c.if-further-gt0.false))

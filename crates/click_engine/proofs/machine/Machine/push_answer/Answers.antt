@@ -1,15 +1,20 @@
 use Rattle.std.proofs.Common.{arith}
-use Rattle.click_engine.proofs.Starts.{answer_ended, answer_pushed}
+use Rattle.click_engine.proofs.Starts.{answer_ended, answer_pushed, none_left, some_left, still_done}
 use Rattle.click_engine.proofs.machine.Machine.push_answer.Goals as goal
 
-pub returns-then-sender-gt0 : goal.returns-then-sender-gt0
-returns-then-sender-gt0 c =
+pub returns-then-several-clause-follows : goal.returns-then-several-clause-follows
+returns-then-several-clause-follows c =
     let m = c.self.inside in
-    answer_pushed _ m.sending m.senders.items m.asks.items m.answered m.room c.self.view_is c.requires.done _ _ _ _ _ _ c.index_mut-sender.ensures.value c.push_slot.ensures.along c.requires.room
-    (omega (arith, c.self.invariant.0, m.senders.ok.0)) (omega (arith, c.self.invariant.1, m.senders.ok.0)) (omega (arith, c.if-sender-gt0.true))
+    answer_pushed _ m.sending m.senders.items m.asks.items m.answered m.room c.self.view_is c.requires.done _ _ _ _ _ _ c.index_mut-sender.ensures.value (c.push_slot-several.ensures.along c.args.at 0 c.target.ensures) c.requires.room
+    (omega (arith, c.self.invariant.0, m.senders.ok.0)) (omega (arith, c.self.invariant.1, m.senders.ok.0)) (some_left _ _ c.push_slot-several.ensures.several c.if-several.true)
 
-pub returns-else-sender-gt0 : goal.returns-else-sender-gt0
-returns-else-sender-gt0 c =
+pub returns-else-several-clause-follows : goal.returns-else-several-clause-follows
+returns-else-several-clause-follows c =
     let m = c.self.inside in
-    answer_ended _ m.sending m.senders.items m.asks.items m.answered m.room c.self.view_is c.requires.done _ _ _ _ _ _ c.index_mut-sender.ensures.value c.push_slot.ensures.along c.requires.room
-    (omega (arith, c.self.invariant.0, m.senders.ok.0)) (omega (arith, c.self.invariant.1, m.senders.ok.0)) (omega (arith, c.if-sender-gt0.false))
+    answer_ended _ m.sending m.senders.items m.asks.items m.answered m.room c.self.view_is c.requires.done _ _ _ _ _ _ c.index_mut-sender.ensures.value (c.push_slot-several.ensures.along c.args.at 0 c.target.ensures) c.requires.room
+    (omega (arith, c.self.invariant.0, m.senders.ok.0)) (omega (arith, c.self.invariant.1, m.senders.ok.0)) (none_left _ _ c.push_slot-several.ensures.several c.if-several.false)
+
+pub returns-else-several-clause-over : goal.returns-else-several-clause-over
+returns-else-several-clause-over c = λ none.
+    let m = c.self.inside in
+    still_done _ m.sending m.senders.items m.asks.items m.answered m.room c.self.view_is c.requires.done (omega (arith, c.self.invariant.0, m.senders.ok.0)) _

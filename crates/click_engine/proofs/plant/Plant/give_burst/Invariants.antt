@@ -5,7 +5,7 @@ use Rattle.click_engine.proofs.plant.Plant.give_burst.Given as goal
 -- the packets that are left are still to come, on the plant as it is
 abbrev pub invariant-loop-packet : goal.invariant-loop-packet
 invariant-loop-packet l = record {
-  plant : (bursts (l._packet-end - l._packet) l.at l.self).plant ≡ (bursts l._packet-end l.at l.initial.self).plant;
-  packets : l.packets + (bursts (l._packet-end - l._packet) l.at l.self).packets ≡ (bursts l._packet-end l.at l.initial.self).packets;
+  plant : (bursts (l.most - l._packet) l.at l.self).plant ≡ (bursts l.most l.at l.fn.self).plant;
+  packets : l.packets + (bursts (l.most - l._packet) l.at l.self).packets ≡ (bursts l.most l.at l.fn.self).packets;
   few : l.packets ≡ l._packet;
 }
