@@ -1,5 +1,5 @@
 //! One push or pull over a connection.
-ghost use Rattle.std.specs.Prelude.{◌≡◌, ℕ, ◌+◌, ◌<◌, ◌⊎◌, ◌≤◌, ◌^◌, length, nat_lt, MatchOption, IfSome, None, Some, true, false};
+ghost use Rattle.std.specs.Prelude.{◌≡◌, ℕ, ◌+◌, ◌<◌, ◌⊎◌, ◌≤◌, ◌^◌, length, vec_len, nat_lt, MatchOption, IfSome, None, Some, true, false};
 ghost use Rattle.click_engine.specs.World.{Wiring};
 ghost use Rattle.click_engine.specs.Wires.{world_of, wiring_of};
 ghost use Rattle.click_engine.specs.kept.Hops.{world_with, world_after, Along, Pushed, Reached};
@@ -92,8 +92,8 @@ fn push_on(
     wires: &Wires,
     elements: &mut [Element],
     left: &mut usize,
-    first: Port,
     sender: &mut Sender,
+    first: Port,
 ) -> bool
     requires { length elements.old ≤ length wires.now.shapes }
     ensures along { (at output lost : ℕ) → first ≡ far_of ((wiring_of wires.now).target at output)
@@ -127,38 +127,50 @@ fn push_on(
 /// The same step by step, whatever elements there are.
 #[cold]
 #[inline(never)]
-fn push_slowly(wires: &Wires, work: &mut Work, first: Port, sender: &mut Sender)
+fn push_slowly(wires: &Wires, work: &mut Work, sender: &mut Sender, first: Port) -> bool
     ensures along { (at output : ℕ) → first ≡ far_of ((wiring_of wires.now).target at output) → Along (wiring_of wires.now) (world_of work.old) (world_of work.new)
         at output 1 sender.old.packet sender.new.at sender.new.first sender.new.count sender.new.packet }
     ensures ends { (sender.new.count ≡ 0) ⊎ (1 < sender.new.count) }
+    ensures several { result ≡ nat_lt 0 sender.new.count }
 {
     push_into(work, first, sender);
     while sender.count == 1 {
         let (at, output) = (sender.at, sender.first);
         push_over(wires, work, at, output, sender);
     }
+    sender.count > 0
 }
 
-/// Pushes the packet of `sender` into an input, and on while just one output is to get it. Whether several are then to get it. It is a call: what a step needs stays in
+/// The same of a plant that has no more elements than its net, as each has. Whether several outputs are then to get the packet. It is a call: what a step needs stays in
 /// registers, whatever its caller keeps there.
 #[inline(never)]
-pub(crate) fn push_slot(wires: &Wires, work: &mut Work, first: Port, sender: &mut Sender) -> bool
+fn push_fast(wires: &Wires, work: &mut Work, sender: &mut Sender, first: Port) -> bool
+    requires { vec_len work.old.elements ≤ length wires.now.shapes }
     ensures along { (at output : ℕ) → first ≡ far_of ((wiring_of wires.now).target at output) → Along (wiring_of wires.now) (world_of work.old) (world_of work.new)
         at output 1 sender.old.packet sender.new.at sender.new.first sender.new.count sender.new.packet }
     ensures ends { (sender.new.count ≡ 0) ⊎ (1 < sender.new.count) }
     ensures several { result ≡ nat_lt 0 sender.new.count }
 {
-    // (a plant has as many elements as its net)
-    if wires.len() < work.elements.len() {
-        push_slowly(wires, work, first, sender);
-        return sender.count > 0;
-    }
     let elements = work.elements.as_mut_slice();
-    if push_on(wires, elements, &mut work.left, first, sender) {
+    if push_on(wires, elements, &mut work.left, sender, first) {
         return sender.count > 0;
     }
     work.overrun();
     false
+}
+
+/// Pushes the packet of `sender` into an input, and on while just one output is to get it. Whether several are then to get it.
+#[inline(always)]
+pub(crate) fn push_slot(wires: &Wires, work: &mut Work, sender: &mut Sender, first: Port) -> bool
+    ensures along { (at output : ℕ) → first ≡ far_of ((wiring_of wires.now).target at output) → Along (wiring_of wires.now) (world_of work.old) (world_of work.new)
+        at output 1 sender.old.packet sender.new.at sender.new.first sender.new.count sender.new.packet }
+    ensures ends { (sender.new.count ≡ 0) ⊎ (1 < sender.new.count) }
+    ensures several { result ≡ nat_lt 0 sender.new.count }
+{
+    if wires.len() < work.elements.len() {
+        return push_slowly(wires, work, sender, first);
+    }
+    push_fast(wires, work, sender, first)
 }
 
 /// Pushes the packet of `sender` on while just one output is to get it.
@@ -171,7 +183,7 @@ pub(crate) fn push_along(wires: &Wires, work: &mut Work, sender: &mut Sender)
 {
     if sender.count == 1 {
         let far = wires.target(sender.at, sender.first);
-        let _several = push_slot(wires, work, far, sender);
+        let _several = push_slot(wires, work, sender, far);
     }
 }
 

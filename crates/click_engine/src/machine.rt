@@ -164,7 +164,7 @@ impl Machine {
     {
         self.answered = false;
         let sender = &mut self.senders[0];
-        let several = push_slot(wires, work, wires.target(at, 0), sender);
+        let several = push_slot(wires, work, sender, wires.target(at, 0));
         if several {
             self.sending = 1;
         }
@@ -196,13 +196,16 @@ impl Machine {
         } = reply;
         if apart {
             self.ask_apart(wires, work, at, inputs, count, first);
-        } else {
-            self.ask_on(wires, work, at, inputs, count, first);
+            return None;
         }
-        None
+        if self.ask_on(wires, work, at, inputs, count, first) {
+            return None;
+        }
+        Some(self.is_answered())
     }
 
-    /// Asks inputs of an element that a pull led to, of which there are some. Only an element further on that asks inputs of its own takes frames.
+    /// Asks inputs of an element that a pull led to, of which there are some. Only an element further on that asks inputs of its own takes frames. Whether frames may
+    /// be left.
     #[inline(always)]
     fn ask_on(
         &mut self,
@@ -212,12 +215,13 @@ impl Machine {
         inputs: u16,
         count: u16,
         first: u16,
-    )
+    ) -> bool
         requires done { self.old.frames ≡ [] }
         requires room { work.old.left < self.old.room }
         requires some { 0 < count }
-        ensures { Follows (wiring_of wires.now) (world_of work.old)
+        ensures follows { Follows (wiring_of wires.now) (world_of work.old)
             (record { frames = Asks at inputs count first 0 ∷ []; last = None; room = self.old.room }) (world_of work.new) self.new }
+        ensures over { result ≡ false → self.new.frames ≡ [] }
     {
         let mut asking = Asking {
             at,
@@ -236,14 +240,17 @@ impl Machine {
                 sender.first = given.copies.first as usize;
                 sender.count = given.copies.count as usize;
                 self.sending = 1;
+                return true;
             }
-            return;
+            return false;
         }
         self.answered = false;
         if further.count > 0 {
             let _waiting = self.asks.push(waits(asking));
             let _made = self.asks.push(tries(further));
+            return true;
         }
+        false
     }
 
     #[inline(never)]
@@ -262,7 +269,7 @@ impl Machine {
         ensures { Follows (wiring_of wires.now) (world_of work.old)
             (record { frames = Asks at inputs count first 0 ∷ []; last = None; room = self.old.room }) (world_of work.new) self.new }
     {
-        self.ask_on(wires, work, at, inputs, count, first);
+        let _waits = self.ask_on(wires, work, at, inputs, count, first);
     }
 
     /// The answer becomes the first packet that a source gives in a run of its task, and how many packets one run gives at most is told; 0, and there is no answer,

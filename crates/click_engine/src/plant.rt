@@ -5,7 +5,7 @@ ghost use Rattle.click_engine.specs.Plant.{elements_from};
 use crate::devices::{Devices, Way};
 use crate::element_names::ElementNames;
 use crate::machine::Machine;
-use crate::runs::{pull_packet, push_answer, push_packet};
+use crate::runs::{pull_packet, pull_task, push_answer, push_packet};
 use crate::tasks::{Task, tasks_of};
 use crate::wires::Wires;
 use crate::world::{Element, Work};
@@ -181,7 +181,7 @@ impl Plant {
     {
         let at = self.sinks.element(device)?;
         self.work.left = CROSSINGS;
-        let _answered = pull_packet(&self.wires, &mut self.work, &mut self.machine, at, false);
+        let _answered = pull_packet(&self.wires, &mut self.work, &mut self.machine, at);
         self.machine.answer()
     }
 
@@ -193,7 +193,7 @@ impl Plant {
     {
         let at = self.sinks.element(device)?;
         self.work.left = CROSSINGS;
-        let _answered = pull_packet(&self.wires, &mut self.work, &mut self.machine, at, false);
+        let _answered = pull_packet(&self.wires, &mut self.work, &mut self.machine, at);
         let packet = self.machine.lent_answer()?;
         Some(f(packet))
     }
@@ -279,7 +279,7 @@ impl Plant {
         ensures few { result ≤ 1 }
     {
         self.work.left = CROSSINGS;
-        if !pull_packet(&self.wires, &mut self.work, &mut self.machine, at, true) {
+        if !pull_task(&self.wires, &mut self.work, &mut self.machine, at) {
             return 0;
         }
         push_answer(&self.wires, &mut self.work, &mut self.machine, at);
@@ -292,7 +292,7 @@ impl Plant {
         ensures few { result ≤ 1 }
     {
         self.work.left = CROSSINGS;
-        let answered = pull_packet(&self.wires, &mut self.work, &mut self.machine, at, true);
+        let answered = pull_task(&self.wires, &mut self.work, &mut self.machine, at);
         u64::from(answered)
     }
 

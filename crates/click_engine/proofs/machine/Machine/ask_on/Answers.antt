@@ -2,22 +2,23 @@ use Rattle.std.proofs.Common.{◌≡◌, ◌<◌, ◌++◌, ◌∷◌, [], vec_l
 use Rattle.click_engine.specs.Frames.{Machine}
 use Rattle.click_engine.proofs.Slot_lists.{no_asks}
 use Rattle.click_engine.proofs.Inputs_asked.{two_fit, asked_gives, asked_sends, asked_waits, asked_nothing}
+use Rattle.click_engine.proofs.Starts.{still_done}
 use Rattle.click_engine.proofs.machine.Machine.ask_on.Goals as goal
 
-pub returns-then-given-gt0 : goal.returns-then-given-gt0
-returns-then-given-gt0 c =
+pub returns-then-given-gt0-clause-follows : goal.returns-then-given-gt0-clause-follows
+returns-then-given-gt0-clause-follows c =
     let m = c.self.inside in
     asked_sends _ m.sending m.senders.items m.asks.items m.answered m.room c.self.view_is c.requires.done (omega (arith, c.self.invariant.0, m.senders.ok.0)) (omega (arith, c.self.invariant.1, m.senders.ok.0))
     _ _ _ _ _ _ _ c.ask_along-further.ensures.asked c.requires.room _ c.if-further.true _ c.gives-given.result.copies c.gives-given.result.answers c.gives-given.ensures (omega arith) refl refl refl
 
-pub returns-else-given-gt0 : goal.returns-else-given-gt0
-returns-else-given-gt0 c =
+pub returns-then-further-clause-follows : goal.returns-then-further-clause-follows
+returns-then-further-clause-follows c =
     let m = c.self.inside in
     asked_gives _ m.sending m.senders.items m.asks.items m.answered m.room c.self.view_is c.requires.done (omega (arith, c.self.invariant.0, m.senders.ok.0)) (omega (arith, c.self.invariant.1, m.senders.ok.0))
     _ _ _ _ _ _ _ c.ask_along-further.ensures.asked c.requires.room _ c.if-further.true _ c.gives-given.result.copies c.gives-given.result.answers c.gives-given.ensures (omega arith)
 
-pub returns-then-further-gt0 : goal.returns-then-further-gt0
-returns-then-further-gt0 c =
+pub returns-then-further-gt0-clause-follows : goal.returns-then-further-gt0-clause-follows
+returns-then-further-gt0-clause-follows c =
     let m = c.self.inside in
     let none = no_asks (take m.sending m.senders.items) m.asks.items (ap (λ (s : Machine). s.frames) c.self.view_is ∙ c.requires.done) in
     let two = two_fit _ _ _ _ _ _ _ c.ask_along-further.ensures.asked _ c.requires.room (omega (arith, c.if-further-gt0.true)) in
@@ -27,8 +28,18 @@ returns-then-further-gt0 c =
     asked_waits _ m.sending m.senders.items m.asks.items m.answered m.room c.self.view_is c.requires.done (omega (arith, c.self.invariant.0, m.senders.ok.0)) (omega (arith, c.self.invariant.1, m.senders.ok.0))
     _ _ _ _ _ _ _ c.ask_along-further.ensures.asked c.requires.room _ (omega (arith, c.if-further-gt0.true)) _ _ _ pushed c.waits.ensures c.tries.ensures
 
-pub returns-else-further-gt0 : goal.returns-else-further-gt0
-returns-else-further-gt0 c =
+pub returns-clause-follows : goal.returns-clause-follows
+returns-clause-follows c =
     let m = c.self.inside in
     asked_nothing _ m.sending m.senders.items m.asks.items m.answered m.room c.self.view_is c.requires.done (omega (arith, c.self.invariant.0, m.senders.ok.0)) (omega (arith, c.self.invariant.1, m.senders.ok.0))
     _ _ _ _ _ _ _ c.ask_along-further.ensures.asked c.requires.room _ c.if-further.false (omega (arith, c.if-further-gt0.false))
+
+pub returns-then-further-clause-over : goal.returns-then-further-clause-over
+returns-then-further-clause-over c = λ none.
+    let m = c.self.inside in
+    still_done _ m.sending m.senders.items m.asks.items m.answered m.room c.self.view_is c.requires.done (omega (arith, c.self.invariant.0, m.senders.ok.0)) _
+
+pub returns-clause-over : goal.returns-clause-over
+returns-clause-over c = λ none.
+    let m = c.self.inside in
+    still_done _ m.sending m.senders.items m.asks.items m.answered m.room c.self.view_is c.requires.done (omega (arith, c.self.invariant.0, m.senders.ok.0)) _

@@ -2,7 +2,7 @@ use Rattle.std.proofs.Common.{◌≡◌, ◌∙◌, true, false, ap, sym, refl, 
 use Rattle.std.specs.Vec.{with_items}
 use Rattle.std.proofs.lemmas.List.{with_items_is}
 use Rattle.click_engine.specs.World.{overrun}
-use Rattle.click_engine.proofs.hops.push_slot.Goals as goal
+use Rattle.click_engine.proofs.hops.push_fast.Goals as goal
 
 pub returns-then-push_on-clause-along : goal.returns-then-push_on-clause-along
 returns-then-push_on-clause-along c = λ at output joined.
