@@ -98,8 +98,8 @@ fn rows_of(alloc: Global, entries: &[Entry]) -> Result<Vec<Row>, AllocError>
     Ok(rows)
 }
 
-/// The entry of the first row that tells the bits of the address. It stands alone, so that nothing else takes part in its loop.
-#[inline(never)]
+/// The entry of the first row that tells the bits of the address.
+#[inline(always)]
 fn first_found(rows: &[Row], word: u32) -> Option<&Row>
     ensures { option_map (λ row. row.now.entry) result ≡ first_found rows.now word }
 {

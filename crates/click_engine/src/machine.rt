@@ -174,7 +174,13 @@ impl Machine {
     /// Begins with a pull at input 0 of an element, and asks at once what that leads to: mostly a queue is there, and nothing is left to do. Whether it was answered,
     /// if that is all. `apart`: inputs of an element that it leads to are asked in a call of its own, which is for callers that find a queue there.
     #[inline(always)]
-    pub(crate) fn start_pull(&mut self, wires: &Wires, work: &mut Work, at: usize, apart: bool) -> Option<bool>
+    pub(crate) fn start_pull(
+        &mut self,
+        wires: &Wires,
+        work: &mut Work,
+        at: usize,
+        apart: bool,
+    ) -> Option<bool>
         requires done { self.old.frames ≡ [] }
         requires room { work.old.left < self.old.room }
         ensures follows { Follows (wiring_of wires.now) (world_of work.old) (record { frames = Pulls at 0 ∷ []; last = None; room = self.old.room })

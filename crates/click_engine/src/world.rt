@@ -3,8 +3,8 @@ ghost use Rattle.std.specs.Prelude.{◌≡◌, ℕ, ◌<◌, ◌≤◌, length, 
 ghost use Rattle.click_engine.specs.kept.Hops.{ActsIn};
 ghost use Rattle.click_classes.specs.Acts.{act, tries, stored, gives};
 
-use click_classes::{Class, Outcome, PortRange, State};
 use crate::hops::{HELD, Reply};
+use click_classes::{Class, Outcome, PortRange, State};
 use click_packet::Packet;
 
 /// One end of a connection: an element by its place in flat order, and one of its inputs or outputs.

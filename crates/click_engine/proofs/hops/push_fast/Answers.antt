@@ -1,7 +1,5 @@
-use Rattle.std.proofs.Common.{◌≡◌, ◌∙◌, true, false, ap, sym, refl, length, if◌then◌else◌}
-use Rattle.std.specs.Vec.{with_items}
+use Rattle.std.proofs.Common.{◌∙◌, ap, sym, length}
 use Rattle.std.proofs.lemmas.List.{with_items_is}
-use Rattle.click_engine.specs.World.{overrun}
 use Rattle.click_engine.proofs.hops.push_fast.Goals as goal
 
 pub returns-then-push_on-clause-along : goal.returns-then-push_on-clause-along

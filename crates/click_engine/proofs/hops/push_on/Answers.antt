@@ -1,5 +1,4 @@
-use Rattle.std.proofs.Common.{◌≡◌, ◌-◌, refl, sym, ap, arith}
-use Rattle.click_engine.specs.World.{overrun}
+use Rattle.std.proofs.Common.{◌-◌, refl, arith}
 use Rattle.click_engine.specs.kept.Hops.{world_with}
 use Rattle.click_engine.proofs.Crossings.{along_lost, along_next, along_one, along_over, pushed_on}
 use Rattle.click_engine.proofs.hops.push_on.Goals as goal
@@ -28,8 +27,8 @@ loop-left-preserved c = λ at output lost joined.
       c.act_at-outputs.result.first,
       c.far_from-far.ensures,
       along_one _ _ _ _ _ _ _ _ _ _ _ _ _ _ _ along
-      (pushed_on _ _ _ _ _ _ _ _ (world_with c.loop-left.elements (c.loop-left.left - 1) lost) c.act_at-outputs.result (omega (arith, c.loop-left-test.true)) there (omega arith) refl (c.act_at-outputs.ensures.acts.acts _ lost) (omega arith))
-      (omega (arith, c.if-outputs-ne1.false)),
+          (pushed_on _ _ _ _ _ _ _ _ (world_with c.loop-left.elements (c.loop-left.left - 1) lost) c.act_at-outputs.result (omega (arith, c.loop-left-test.true)) there (omega arith) refl (c.act_at-outputs.ensures.acts.acts _ lost) (omega arith))
+          (omega (arith, c.if-outputs-ne1.false)),
     )
 
 pub returns-clause-along : goal.returns-clause-along

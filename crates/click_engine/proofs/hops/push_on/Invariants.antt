@@ -1,4 +1,4 @@
-use Rattle.std.proofs.Common.{◌≡◌, ◌≤◌, ℕ, length}
+use Rattle.std.proofs.Common.{◌≡◌, ℕ}
 use Rattle.click_engine.specs.Wires.{wiring_of}
 use Rattle.click_engine.specs.kept.Hops.{world_with, Along}
 use Rattle.click_engine.specs.kept.Tables.{far_of}

@@ -1,4 +1,4 @@
-use Rattle.std.proofs.Common.{◌≡◌, ◌+◌, ◌<◌, ◌∙◌, ◌∷◌, ◌++◌, [], ap, refl, sym, subst, take, get_or, length, arith}
+use Rattle.std.proofs.Common.{◌+◌, ◌<◌, ◌∙◌, [], ap, refl, sym, subst, take, length, arith}
 use Rattle.std.proofs.lemmas.Bool.{false≢true}
 use Rattle.std.proofs.lemmas.List.{take_all}
 use Rattle.std.proofs.lemmas.List.Elements.{All-push}

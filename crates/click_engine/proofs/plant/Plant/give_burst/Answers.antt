@@ -1,6 +1,5 @@
 use Rattle.std.proofs.Common.{◌+◌, ◌-◌, ◌∙◌, ap, sym, refl, arith}
 use Rattle.click_classes.specs.Acts.{burst_of}
-use Rattle.click_engine.specs.Plant.{Plant}
 use Rattle.click_engine.specs.Rounds.{bursts, state_at, Worked}
 use Rattle.click_engine.proofs.Rounds.{burst_began, burst_gave_none, burst_more, burst_over, bursts-zero}
 use Rattle.click_engine.proofs.plant.Plant.give_burst.Goals as goal
