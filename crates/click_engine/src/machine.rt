@@ -259,6 +259,7 @@ impl Machine {
         false
     }
 
+    /// The same as a call of its own.
     #[inline(never)]
     fn ask_apart(
         &mut self,
