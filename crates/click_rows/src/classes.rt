@@ -445,7 +445,7 @@ fn counts_no_further(rt: HostRuntime) -> Result<(), Fail> {
         count: u64::MAX,
         byte_count: u64::MAX - 1,
     };
-    let _passed = full.act(1, 0, &mut packet);
+    let _passed = full.act(&1, 0, &mut packet);
     let stopped = matches!(
         &full,
         State::Counter {
