@@ -1,5 +1,5 @@
 //! Names of devices, which are found without an index where they are few.
-ghost use Rattle.std.specs.Prelude.{◌≡◌, ◌≤◌, ◌++◌, ◌∷◌, [], take, vec_len, position, OnOk, OnErr, if◌then◌else◌};
+ghost use Rattle.std.specs.Prelude.{◌≡◌, ◌≤◌, ◌++◌, ◌∷◌, [], take, vec_len, position, IfSome, Some, OnOk, OnErr, if◌then◌else◌};
 ghost use Rattle.std.specs.Str.{bytes_eq};
 ghost use Rattle.click_expand.specs.Elements.{has_name};
 ghost use Rattle.click_engine.specs.kept.Tables.{texts};
@@ -89,12 +89,20 @@ impl DeviceNames {
         self.all.has(name)
     }
 
+    /// Where the name stands, if it is one of the first.
+    #[inline(always)]
+    pub(crate) fn near(&self, name: &[u8]) -> Option<usize>
+        ensures { IfSome result (λ at. position (bytes_eq name.now) self.now ≡ Some at) }
+    {
+        near_place(self.near.as_slice(), name)
+    }
+
     /// Where the name stands.
     #[inline(always)]
     pub(crate) fn place(&self, name: &[u8]) -> Option<usize>
         ensures { result ≡ position (bytes_eq name.now) self.now }
     {
-        let near = near_place(self.near.as_slice(), name);
+        let near = self.near(name);
         if near.is_some() {
             return near;
         }

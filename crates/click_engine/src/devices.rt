@@ -52,7 +52,7 @@ fn device_of(way: Way, state: &State) -> Option<&[u8]>
 }
 
 impl Devices {
-    ghost use Rattle.std.specs.Prelude.{◌≡◌, IfOk};
+    ghost use Rattle.std.specs.Prelude.{◌≡◌, IfOk, IfSome, Some};
     ghost use Rattle.click_engine.specs.Devices.{devices_from, element_with};
 
     /// The devices of elements with these states, each with the first element in flat order that names it.
@@ -72,6 +72,15 @@ impl Devices {
             names.add(alloc, name)?;
         }
         Ok(Devices { names, places })
+    }
+
+    /// The place of the device's element, if it is one of the first devices.
+    #[inline(always)]
+    pub(crate) fn near(&self, device: &[u8]) -> Option<usize>
+        ensures { IfSome result (λ at. element_with self.now device.now ≡ Some at) }
+    {
+        let at = self.names.near(device)?;
+        Some(self.places[at])
     }
 
     /// The place of the device's element.

@@ -76,7 +76,7 @@ impl Plant {
     ghost use Rattle.std.specs.Fn.{FnOnceReturnsAt};
     ghost use Rattle.click_classes.specs.Acts.{burst_of, emission};
     ghost use Rattle.click_engine.specs.Plant.{Plant as Seen, IsStarted};
-    ghost use Rattle.click_engine.specs.Rounds.{arrive, transmit, transmitted, source_of, sink_of, round, task as ran, bursts, sourced, state_at, unqueued, discarded, Worked};
+    ghost use Rattle.click_engine.specs.Rounds.{arrive, emitted, transmit, transmitted, source_of, sink_of, round, task as ran, bursts, sourced, state_at, unqueued, discarded, Worked};
     ghost use Rattle.click_engine.specs.declared.world.Element.{Element};
     ghost use Rattle.click_engine.specs.TakeOver.{place_of, taken};
     ghost use Rattle.click_engine.specs.kept.Taking.{taken_at, IsKeptBefore};
@@ -166,12 +166,34 @@ impl Plant {
         ensures plant { self.new ≡ arrive self.old device.now packet.now }
         ensures entered { IsTrue result ↔ IsSome (source_of self.old device.now) }
     {
+        let Some(at) = self.sources.near(device) else {
+            return self.enter_far(device, packet);
+        };
+        self.enter_at(at, packet);
+        true
+    }
+
+    /// The same where the device is none of the first, in a call of its own.
+    #[cold]
+    #[inline(never)]
+    fn enter_far(&mut self, device: &[u8], packet: &Packet) -> bool
+        ensures plant { self.new ≡ arrive self.old device.now packet.now }
+        ensures entered { IsTrue result ↔ IsSome (source_of self.old device.now) }
+    {
         let Some(at) = self.sources.element(device) else {
             return false;
         };
+        self.enter_at(at, packet);
+        true
+    }
+
+    /// A packet leaves the element by its output 0.
+    #[inline(always)]
+    fn enter_at(&mut self, at: usize, packet: &Packet)
+        ensures { self.new ≡ emitted self.old at packet.now }
+    {
         self.work.left = CROSSINGS;
         push_packet(&self.wires, &mut self.work, &mut self.machine, at, packet);
-        true
     }
 
     /// What a device takes.
