@@ -233,6 +233,12 @@ def records():
     for length in range(1, len(second)):
         wanted = "packet 2, byte 45: the capture ends inside this record"
         broken(f"a record of {length} bytes", front + second[:length], 1, front, wanted)
+    # Where a record begins is told behind one that is left out, too.
+    long = header() + record(b"\x07" * 1601) + record(b"first", (1, 2))
+    for length in (1, 16, 25):
+        done = run(PLAIN, long + second[:length])
+        wanted = b"error: packet 3, byte 1662: the capture ends inside this record\n"
+        has(f"a record of {length} bytes behind one that is left out", done, 1, front, wanted + numbers(2, 1, 1, 1))
     for snap, most in ((65535, 65535), (1600, 1600), (0, 262144), (262145, 262144)):
         for claimed in (most + 1, 0x7FFFFFFF, 0xFFFFFFFF):
             start = header(snap=snap) + record(b"first")

@@ -5,3 +5,4 @@ pub mod Outputs
 pub mod Desks
 pub mod Options
 pub mod Devices
+pub mod Answered

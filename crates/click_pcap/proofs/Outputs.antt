@@ -1,5 +1,5 @@
 -- What was written, one write after another.
-use Rattle.std.proofs.Common.{◌≡◌, ℕ, List, [], ◌++◌, Bool, true, false, ◌||◌, Result, Ok, Err, refl, sym, ap, ◌∙◌, append_assoc}
+use Rattle.std.proofs.Common.{◌≡◌, ℕ, List, [], ◌++◌, Bool, true, false, ◌||◌, Result, Ok, Err, refl, sym, ap, ◌∙◌, append_assoc, append-nil}
 use Rattle.std.proofs.KnownBytes.{Appends-nil, Appends-trans}
 use Rattle.click_control.specs.Peers.{Output, HasWritten}
 use Rattle.click_pcap.specs.declared.stop.Stop.{Stop}
@@ -23,6 +23,9 @@ WroteFront-then a b c xs ys f p q =
 
 pub front_of : (a b : Output) (xs ys : List ℕ) → HasWritten a b xs false → WroteFront a b (xs ++ ys) false
 front_of a b xs ys p = (xs, ys, refl, p)
+
+pub all-front : (a b : Output) (xs : List ℕ) → HasWritten a b xs false → WroteFront a b xs false
+all-front a b xs p = (xs, [], sym (append-nil xs), p)
 
 -- a passage broke off, and no write failed
 pub broken : (T : Type 0) (s : Stop) (a b : Output) (xs : List ℕ) → CanBreak s → WroteFront a b xs false → Wrote {T = T} (Err s) a b xs

@@ -1,5 +1,5 @@
 -- The beginning and the end of a run.
-use Rattle.std.specs.Prelude.{◌≡◌, ◌≢◌, ℕ, List, [], ◌∷◌, ◌++◌, Result, Ok, Err}
+use Rattle.std.specs.Prelude.{◌≡◌, ◌≢◌, ℕ, ◌≤◌, List, [], ◌∷◌, ◌++◌, length, Result, Ok, Err}
 use Rattle.click_packet.specs.Packet.{Packet}
 use Rattle.click_router.specs.Opened.{IsFirstFault}
 use Rattle.click_router.specs.State.{RouterState}
@@ -16,8 +16,7 @@ use Rattle.click_pcap.specs.declared.passage.NoPassage.{NoPassage}
 use Rattle.click_pcap.specs.declared.passage.NoPassage.TheVariants as none
 use Rattle.click_pcap.specs.declared.stop.Stop.{Stop}
 use Rattle.click_pcap.specs.declared.stop.Stop.TheVariants as stop
-use Rattle.click_pcap.specs.Ways.{Way, called, polling, transmit}
-use Rattle.click_pcap.specs.Carrying.{CanBreak}
+use Rattle.click_pcap.specs.Ways.{Way, NoCall, called, polling, transmit}
 
 -- where the configuration is said to be faulty, it is, and this is its first fault
 abbrev pub IsTrueFault : List ℕ → NoPassage → Type 0
@@ -40,28 +39,34 @@ no_passage _ = none.NoMemory
 -- Whether a router has the source and the sink: it was polled and asked for a packet; it has no source, or no sink, where it was answered so.
 abbrev pub AsksEnds : {T : Type 0} → Way → Way → Result T Stop → Type 0
 AsksEnds old new (Ok _) =
-    (taken : List Packet) × (a : Reply) × (b : Reply) × (new ≡ called old ((polling old.source taken, a) ∷ (transmit old.sink, b) ∷ [])) × (a ≢ reply.NoDevice) × (b ≢ reply.NoDevice)
-AsksEnds old new (Err stop.NoSource) = (taken : List Packet) × (new ≡ called old ((polling old.source taken, reply.NoDevice) ∷ []))
+    (taken : List Packet) × (length taken ≤ 1) × (b : Reply) × (new ≡ called old ((polling old.source taken, reply.Entered (length taken)) ∷ (transmit old.sink, b) ∷ [])) × (b ≢ reply.NoDevice)
+AsksEnds old new (Err stop.NoSource) = new ≡ called old ((polling old.source [], reply.NoDevice) ∷ [])
 AsksEnds old new (Err stop.NoSink) =
-    (taken : List Packet) × (a : Reply) × (new ≡ called old ((polling old.source taken, a) ∷ (transmit old.sink, reply.NoDevice) ∷ [])) × (a ≢ reply.NoDevice)
-AsksEnds old new (Err s) = CanBreak s × ((made : List (Call × Reply)) × (new ≡ called old made))
+    (taken : List Packet) × (length taken ≤ 1) × (new ≡ called old ((polling old.source taken, reply.Entered (length taken)) ∷ (transmit old.sink, reply.NoDevice) ∷ []))
+AsksEnds old new (Err s) = NoCall new s × ((made : List (Call × Reply)) × (new ≡ called old made))
 
--- Whether a router has the source: it was polled.
+-- Whether a router has the source: it was polled, for one packet at most.
 abbrev pub AsksSource : {T : Type 0} → Way → Way → Result T Stop → Type 0
-AsksSource old new (Ok _) = (taken : List Packet) × (a : Reply) × (new ≡ called old ((polling old.source taken, a) ∷ [])) × (a ≢ reply.NoDevice)
-AsksSource old new (Err stop.NoSource) = (taken : List Packet) × (new ≡ called old ((polling old.source taken, reply.NoDevice) ∷ []))
-AsksSource old new (Err s) = CanBreak s × (new ≡ old)
+AsksSource old new (Ok _) = (taken : List Packet) × (length taken ≤ 1) × (new ≡ called old ((polling old.source taken, reply.Entered (length taken)) ∷ []))
+AsksSource old new (Err stop.NoSource) = new ≡ called old ((polling old.source [], reply.NoDevice) ∷ [])
+AsksSource old new (Err s) = NoCall new s × (new ≡ old)
 
 -- Whether a router has the sink: it was asked for a packet.
 abbrev pub AsksSink : {T : Type 0} → Way → Way → Result T Stop → Type 0
 AsksSink old new (Ok _) = (b : Reply) × (new ≡ called old ((transmit old.sink, b) ∷ [])) × (b ≢ reply.NoDevice)
 AsksSink old new (Err stop.NoSink) = new ≡ called old ((transmit old.sink, reply.NoDevice) ∷ [])
-AsksSink old new (Err s) = CanBreak s × (new ≡ old)
+AsksSink old new (Err s) = NoCall new s × (new ≡ old)
 
 -- the entries of these calls in a history, where one thread makes all of them
 abbrev pub alone : List (Call × Reply) → List Entry
 alone [] = []
 alone (c ∷ cs) = entry 0 c.0 c.1 ∷ alone cs
+
+-- why a run is not closed: memory runs out, or the feed did not give back what was left of it, or a packet was left
+abbrev pub Unclosed : Stop → Type 0
+Unclosed stop.NoMemory = Unit {0}
+Unclosed stop.FeedStuck = Unit {0}
+Unclosed _ = ⊥
 
 -- The calls of a run are the history of one thread that begins with what the text opens, and its polls took from the feed just what was put there: no packet was lost.
 pub record Closed (w : Way) : Type 0 where

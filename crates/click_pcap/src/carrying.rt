@@ -1,10 +1,10 @@
 //! Packets from a capture through a router into a capture.
 
-ghost use Rattle.std.specs.Prelude.{◌≡◌, [], length};
+ghost use Rattle.std.specs.Prelude.{◌≡◌, [], length, IfErr};
 ghost use Rattle.click_capture.specs.Captures.{header_bytes};
 ghost use Rattle.click_control.specs.Peers.{Input as AnInput, Output as AnOutput};
 ghost use Rattle.click_pcap.specs.Ways.{Way};
-ghost use Rattle.click_pcap.specs.Carrying.{widened, header_stop, Wrote, SendsAll, Passes, Carried, Ends, Carries};
+ghost use Rattle.click_pcap.specs.Carrying.{widened, header_stop, Unwritten, Wrote, SendsAll, Passes, Carried, Ends, Carries};
 
 use crate::passage::Passage;
 use crate::reading::{Next, NoHeader, NoRecord, read_header, read_record};
@@ -69,7 +69,8 @@ fn header_stop(why: NoHeader) -> Stop
 
 /// Writes a header.
 fn write_header<O: Sink>(alloc: Global, header: &Header, writer: &mut O) -> Result<(), Stop>
-    ensures { Wrote result (O.output writer.old) (O.output writer.new) (header_bytes header.now) }
+    ensures wrote { Wrote result (O.output writer.old) (O.output writer.new) (header_bytes header.now) }
+    ensures err { IfErr result Unwritten }
 {
     let Ok(bytes) = header_bytes(alloc, header) else {
         return Err(Stop::NoMemory);
@@ -148,7 +149,7 @@ fn carry_each<T: Handlers + Drop, I: Source, O: Sink, R: Wait>(
         }
         at = at.saturating_add((HEAD_LEN + kept) as u64);
     }
-    // No input has that many records.
+    // No input has so many records.
     Err(Stop::HistoryFull)
 }
 
@@ -172,11 +173,10 @@ fn carry_packet<T: Handlers + Drop, O: Sink, R: Wait>(
             return Ok(());
         }
     };
-    let entered = match passage.enter(rt, alloc, &packet) {
-        Ok(entered) => entered,
-        Err(stop) => return Err(stop),
-    };
-    tally.entered = tally.entered.saturating_add(entered);
+    if let Err(stop) = passage.enter(rt, alloc, &packet) {
+        return Err(stop);
+    }
+    tally.entered = tally.entered.saturating_add(1);
     send_all(rt, alloc, passage, header, head.time, writer, tally)
 }
 
@@ -192,7 +192,7 @@ fn send_all<T: Handlers + Drop, O: Sink, R: Wait>(
 ) -> Result<(), Stop>
     ensures { SendsAll header.now time passage.old passage.new (O.output writer.old) (O.output writer.new) result }
 {
-    for _ in 0..u64::MAX {
+    for _ in rt.forever() {
         let packet = match passage.sent(rt, alloc) {
             Ok(Some(packet)) => packet,
             Ok(None) => return Ok(()),
@@ -206,13 +206,14 @@ fn send_all<T: Handlers + Drop, O: Sink, R: Wait>(
         }
         tally.written = tally.written.saturating_add(1);
     }
-    // The history is full long before.
-    Err(Stop::HistoryFull)
+    // The history has room for so many calls only.
+    unreachable!()
 }
 
 /// Writes the bytes in full.
 fn written<O: Sink>(writer: &mut O, bytes: &[u8]) -> Result<(), Stop>
-    ensures { Wrote result (O.output writer.old) (O.output writer.new) bytes.now }
+    ensures wrote { Wrote result (O.output writer.old) (O.output writer.new) bytes.now }
+    ensures err { IfErr result (λ stop. stop ≡ Stop.WriteFailed) }
 {
     match write_all(writer, bytes) {
         Ok(()) => Ok(()),

@@ -1,6 +1,6 @@
 //! The router's side of a run: a desk with one seat, and the feed of the source.
 
-ghost use Rattle.std.specs.Prelude.{◌≡◌, ℕ, ◌≤◌, [], ◌∷◌, List, length, map, IfOk, IfErr, IfSome, OnOk};
+ghost use Rattle.std.specs.Prelude.{◌≡◌, ℕ, ◌≤◌, [], ◌∷◌, List, length, map, IfOk, IfErr, IfSome, OnOk, OnErr};
 ghost use Rattle.click_rings.specs.Feeds.{name_of};
 ghost use Rattle.click_desk.specs.Closing.{Closes};
 ghost use Rattle.click_desk.specs.Polls.{polled};
@@ -9,9 +9,9 @@ ghost use Rattle.click_packet.specs.Packet.{Packet as APacket};
 ghost use Rattle.click_router.specs.declared.call.Call.{Call as ACall};
 ghost use Rattle.click_router.specs.declared.call.Reply.{Reply as AReply};
 ghost use Rattle.click_pcap.specs.Stops.{desk_stop};
-ghost use Rattle.click_pcap.specs.Ways.{went, called, sent_packet, polling, round, worked_reply, transmit, Enters};
-ghost use Rattle.click_pcap.specs.Carrying.{CanBreak};
-ghost use Rattle.click_pcap.specs.Runs.{IsTrueFault, AsksEnds, AsksSource, AsksSink, Closed, IsLate, no_passage};
+ghost use Rattle.click_pcap.specs.Ways.{went, called, sent_packet, polling, round, worked_reply, transmit, IsPollReply, Enters, NoCall};
+ghost use Rattle.click_pcap.specs.Carrying.{CanBreak, NotPut, NotEntered, Breaks};
+ghost use Rattle.click_pcap.specs.Runs.{IsTrueFault, AsksEnds, AsksSource, AsksSink, Closed, Unclosed, IsLate, no_passage};
 
 use crate::stop::Stop;
 use click_desk::{Book, Desk, DeskFault, OpenFault, Seat};
@@ -55,7 +55,7 @@ impl<T> Model for Passage<T> {
 
     ghost view = { λ p. record { opening = p.desk.terms.opening; source = p.source; sink = p.sink; put = p.feed.put; calls = p.seat.calls } };
 
-    ghost invariant = { λ p. (p.seat.desk ≡ p.desk) × (p.seat.number ≡ 0) × (p.desk.terms.seats ≡ 1) × (p.seat.feeds ≡ (record { device = p.source; ring = p.feed.ring }) ∷ []) };
+    ghost invariant = { λ p. (p.seat.desk ≡ p.desk) × (p.seat.number ≡ 0) × (p.desk.terms.seats ≡ 1) × (p.desk.terms.room ≡ 1048576) × (p.feed.places ≡ 1) × (p.seat.feeds ≡ (record { device = p.source; ring = p.feed.ring }) ∷ []) };
 }
 
 fn kept(alloc: Global, bytes: &[u8]) -> Result<Sequence<u8>, AllocError>
@@ -66,8 +66,7 @@ fn kept(alloc: Global, bytes: &[u8]) -> Result<Sequence<u8>, AllocError>
 
 /// Why a run breaks off where the desk refuses a call.
 fn stop_of(fault: DeskFault) -> Stop
-    ensures stop { result ≡ desk_stop fault }
-    ensures breaks { CanBreak result }
+    ensures { result ≡ desk_stop fault }
 {
     match fault {
         DeskFault::NoMemory => Stop::NoMemory,
@@ -77,7 +76,7 @@ fn stop_of(fault: DeskFault) -> Stop
 
 /// A feed of the device, and its inlet alone.
 fn fed(alloc: Global, device: &[u8]) -> Option<(Feed, Vec<Inlet>)>
-    ensures { IfSome result (λ r. (r.1.items ≡ (record { device = device.now; ring = r.0.ring }) ∷ []) × (r.0.put ≡ [])) }
+    ensures { IfSome result (λ r. (r.1.items ≡ (record { device = device.now; ring = r.0.ring }) ∷ []) × (r.0.put ≡ []) × (r.0.places ≡ 1)) }
 {
     let mut inlets = Vec::with_capacity(alloc, 1).ok()?;
     let Ok((feed, inlet)) = opening::feed(alloc, device, PLACES) else {
@@ -135,7 +134,8 @@ fn seated<T>(
     source: Sequence<u8>,
     sink: Sequence<u8>,
 ) -> Passage<T>
-    requires terms { made.0.terms.seats ≡ 1 }
+    requires terms { (made.0.terms.seats ≡ 1) × (made.0.terms.room ≡ 1048576) }
+    requires feed { feed.places ≡ 1 }
     requires seats { made.1.items ≡ seats_below made.0 ((record { device = source; ring = feed.ring }) ∷ []) 1 }
     ensures { result ≡ record { opening = made.0.terms.opening; source = source; sink = sink; put = feed.put; calls = [] } }
 {
@@ -207,10 +207,11 @@ impl<T: Handlers + Drop> Passage<T> {
         }
     }
 
-    /// A packet enters, and each task runs once. Answers how many packets entered.
-    pub fn enter<R: Wait>(&mut self, rt: &R, alloc: Global, packet: &Packet) -> Result<u64, Stop>
-        ensures ok { IfOk result (λ entered. (made : List (ACall × AReply)) × Enters self.old.source made entered × (self.new ≡ went self.old (packet.now ∷ []) made)) }
-        ensures err { IfErr result (λ stop. CanBreak stop × ((fed : List APacket) × (made : List (ACall × AReply)) × (self.new ≡ went self.old fed made))) }
+    /// A packet enters, and each task runs once.
+    pub fn enter<R: Wait>(&mut self, rt: &R, alloc: Global, packet: &Packet) -> Result<(), Stop>
+        ensures ok { OnOk result ((made : List (ACall × AReply)) × Enters self.old.source made × (self.new ≡ went self.old (packet.now ∷ []) made)) }
+        ensures err { IfErr result (λ stop. CanBreak stop × Breaks packet.now self.old self.new stop) }
+        ensures part { OnErr result ((fed : List APacket) × (made : List (ACall × AReply)) × (self.new ≡ went self.old fed made)) }
     {
         match self.put(alloc, packet) {
             Ok(()) => self.enter_put(rt),
@@ -221,7 +222,7 @@ impl<T: Handlers + Drop> Passage<T> {
     /// A packet is put in the feed.
     fn put(&mut self, alloc: Global, packet: &Packet) -> Result<(), Stop>
         ensures ok { OnOk result (self.new ≡ went self.old (packet.now ∷ []) []) }
-        ensures err { IfErr result (λ stop. CanBreak stop × (self.new ≡ self.old)) }
+        ensures err { IfErr result (λ stop. NotPut self.old stop × (self.new ≡ self.old)) }
     {
         let Ok(stored) = StoredPacket::of(alloc, packet) else {
             return Err(Stop::NoMemory);
@@ -233,15 +234,13 @@ impl<T: Handlers + Drop> Passage<T> {
     }
 
     /// A packet that was put enters, and each task runs once.
-    fn enter_put<R: Wait>(&mut self, rt: &R) -> Result<u64, Stop>
-        ensures ok { IfOk result (λ entered. (made : List (ACall × AReply)) × Enters self.old.source made entered × (self.new ≡ called self.old made)) }
-        ensures err { IfErr result (λ stop. CanBreak stop × ((made : List (ACall × AReply)) × (self.new ≡ called self.old made))) }
+    fn enter_put<R: Wait>(&mut self, rt: &R) -> Result<(), Stop>
+        ensures ok { OnOk result ((made : List (ACall × AReply)) × Enters self.old.source made × (self.new ≡ called self.old made)) }
+        ensures err { IfErr result (λ stop. NotEntered self.old self.new stop) }
+        ensures part { OnErr result ((made : List (ACall × AReply)) × (self.new ≡ called self.old made)) }
     {
         match self.poll(rt) {
-            Ok(Reply::Entered(entered)) => match self.round(rt) {
-                Ok(()) => Ok(entered),
-                Err(stop) => Err(stop),
-            },
+            Ok(Reply::Entered(1)) => self.round(rt),
             Ok(_) => Err(Stop::FeedStuck),
             Err(stop) => Err(stop),
         }
@@ -249,8 +248,8 @@ impl<T: Handlers + Drop> Passage<T> {
 
     /// The source is polled for one packet.
     fn poll<R: Wait>(&mut self, rt: &R) -> Result<Reply, Stop>
-        ensures ok { IfOk result (λ reply. (taken : List APacket) × (length taken ≤ 1) × (self.new ≡ called self.old ((polling self.old.source taken, reply) ∷ []))) }
-        ensures err { IfErr result (λ stop. CanBreak stop × (self.new ≡ self.old)) }
+        ensures ok { IfOk result (λ reply. (taken : List APacket) × (length taken ≤ 1) × IsPollReply taken reply × (self.new ≡ called self.old ((polling self.old.source taken, reply) ∷ []))) }
+        ensures err { IfErr result (λ stop. NoCall self.new stop × (self.new ≡ self.old)) }
     {
         match self
             .desk
@@ -264,11 +263,11 @@ impl<T: Handlers + Drop> Passage<T> {
     /// Each task runs once.
     fn round<R: Wait>(&mut self, rt: &R) -> Result<(), Stop>
         ensures ok { OnOk result ((worked : ℕ) × (self.new ≡ called self.old ((round, worked_reply worked) ∷ []))) }
-        ensures err { IfErr result (λ stop. CanBreak stop × ((made : List (ACall × AReply)) × (self.new ≡ called self.old made))) }
+        ensures err { IfErr result (λ stop. NoCall self.new stop × (self.new ≡ self.old)) }
     {
         match self.desk.call(rt, &mut self.seat, Call::Round) {
-            Ok(Reply::Worked(_)) => Ok(()),
-            Ok(_) => Err(Stop::FeedStuck),
+            // It is answered by how many packets it moved.
+            Ok(_) => Ok(()),
             Err(fault) => Err(stop_of(fault)),
         }
     }
@@ -276,7 +275,7 @@ impl<T: Handlers + Drop> Passage<T> {
     /// The next packet that the sink gives, if it gives one.
     pub fn sent<R: Wait>(&mut self, rt: &R, alloc: Global) -> Result<Option<Packet>, Stop>
         ensures ok { IfOk result (λ packet. (reply : AReply) × (sent_packet reply ≡ packet) × (self.new ≡ called self.old ((transmit self.old.sink, reply) ∷ []))) }
-        ensures err { IfErr result (λ stop. CanBreak stop × (self.new ≡ self.old)) }
+        ensures err { IfErr result (λ stop. NoCall self.new stop × (self.new ≡ self.old)) }
     {
         match self.transmit(rt, alloc) {
             Ok(reply) => Ok(packet_of(reply)),
@@ -287,7 +286,7 @@ impl<T: Handlers + Drop> Passage<T> {
     /// The sink is asked for a packet.
     fn transmit<R: Wait>(&mut self, rt: &R, alloc: Global) -> Result<Reply, Stop>
         ensures ok { IfOk result (λ reply. self.new ≡ called self.old ((transmit self.old.sink, reply) ∷ [])) }
-        ensures err { IfErr result (λ stop. CanBreak stop × (self.new ≡ self.old)) }
+        ensures err { IfErr result (λ stop. NoCall self.new stop × (self.new ≡ self.old)) }
     {
         let Ok(device) = kept(alloc, self.sink.as_slice()) else {
             return Err(Stop::NoMemory);
@@ -304,7 +303,7 @@ impl<T: Handlers + Drop> Passage<T> {
     /// Ends the feed and closes the desk. Each packet that was fed was taken by a poll, or the answer is `FeedStuck`.
     pub fn close<R: Wait>(self, rt: &R, alloc: Global) -> Result<(), Stop>
         ensures ok { OnOk result (Closed self) }
-        ensures err { IfErr result CanBreak }
+        ensures err { IfErr result Unclosed }
     {
         let Passage {
             desk,
@@ -339,7 +338,7 @@ fn closed<T: Drop, R: Wait>(
 ) -> Result<Book<T>, Stop>
     requires { (seat.desk ≡ desk) × (seat.number ≡ 0) × (desk.terms.seats ≡ 1) }
     ensures ok { IfOk result (λ book. Closes desk (seat ∷ []) book) }
-    ensures err { IfErr result CanBreak }
+    ensures err { IfErr result Unclosed }
 {
     let Ok(mut seats) = Vec::with_capacity(alloc, 1) else {
         return Err(Stop::NoMemory);
@@ -355,7 +354,7 @@ fn closed<T: Drop, R: Wait>(
 fn finished<T: Drop>(alloc: Global, book: Book<T>, device: &[u8], feed: Feed) -> Result<(), Stop>
     requires { map name_of book.taps ≡ (record { device = device.now; ring = feed.ring }) ∷ [] }
     ensures ok { OnOk result (feed.put ≡ polled book.entries device.now) }
-    ensures err { IfErr result CanBreak }
+    ensures err { IfErr result Unclosed }
 {
     match feed.finish() {
         Some(end) => settled(alloc, book, device, end),
@@ -372,7 +371,7 @@ fn settled<T: Drop>(
 ) -> Result<(), Stop>
     requires { map name_of book.taps ≡ (record { device = device.now; ring = end.ring }) ∷ [] }
     ensures ok { OnOk result (end.put ≡ polled book.entries device.now) }
-    ensures err { IfErr result CanBreak }
+    ensures err { IfErr result Unclosed }
 {
     match book.settle(alloc, device, end) {
         Ok(left) => none_left(&left),
@@ -383,7 +382,7 @@ fn settled<T: Drop>(
 /// Tells a packet that was left in the feed.
 fn none_left(left: &Vec<StoredPacket>) -> Result<(), Stop>
     ensures ok { OnOk result (left.now.items ≡ []) }
-    ensures err { IfErr result CanBreak }
+    ensures err { IfErr result Unclosed }
 {
     if left.is_empty() {
         Ok(())

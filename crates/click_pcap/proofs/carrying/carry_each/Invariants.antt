@@ -1,7 +1,7 @@
 use Rattle.std.proofs.Common.{◌≡◌, [], List, length}
 use Rattle.click_control.specs.Peers.{Input, Output}
 use Rattle.click_pcap.specs.Ways.{Way}
-use Rattle.click_pcap.specs.Carrying.{Leg, Carried}
+use Rattle.click_pcap.specs.Carrying.{Leg, Carried, IsNextAt}
 use Rattle.click_pcap.proofs.carrying.carry_each.Given as goal
 
 -- so many records were carried
@@ -10,4 +10,4 @@ invariant-loop-before g l =
     let input = g.I.Source.input in
     let output = g.O.Sink.output in
     (had : Input) (held : Output) (first : Way) → Carried l.header had (input l.initial.reader) held (output l.initial.writer) first l.initial.passage []
-    → (legs : List Leg) × Carried l.header had (input l.reader) held (output l.writer) first l.passage legs × (length legs ≡ l.before)
+    → (legs : List Leg) × Carried l.header had (input l.reader) held (output l.writer) first l.passage legs × (length legs ≡ l.before) × IsNextAt l.header legs l.at

@@ -10,7 +10,7 @@ only_seat-seat-requires g c = one-new _ _ _ c.requires.seats
 pub invariant_of-result : goal.invariant_of-result
 invariant_of-result g c =
     let new = only-new _ _ _ c.only_seat-seat.result c.requires.seats c.only_seat-seat.ensures in
-    (ap (λ (s : Sitting). s.desk) new, ap (λ (s : Sitting). s.number) new, c.requires.terms, ap (λ (s : Sitting). s.feeds) new)
+    (ap (λ (s : Sitting). s.desk) new, ap (λ (s : Sitting). s.number) new, c.requires.terms.0, c.requires.terms.1, c.requires.feed, ap (λ (s : Sitting). s.feeds) new)
 
 pub returns : goal.returns
 returns g c =

@@ -10,7 +10,7 @@ use Rattle.click_pcap.proofs.passage.Passage.close.Goals as goal
 pub finished-requires : goal.finished-requires
 finished-requires g c =
     let p = c.self.inside in
-    feed-at p.source c.as_slice.result.now p.feed.ring c.in-Ok.book.taps (feeds-of p.desk p.seat c.in-Ok.book c.in-Ok.ensures.ok ∙ c.self.invariant.3) c.as_slice.ensures
+    feed-at p.source c.as_slice.result.now p.feed.ring c.in-Ok.book.taps (feeds-of p.desk p.seat c.in-Ok.book c.in-Ok.ensures.ok ∙ c.self.invariant.5) c.as_slice.ensures
 
 pub returns-in-Ok-clause-ok : goal.returns-in-Ok-clause-ok
 returns-in-Ok-clause-ok g c =

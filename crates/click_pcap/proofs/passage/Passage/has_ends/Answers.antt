@@ -7,7 +7,7 @@ use Rattle.click_pcap.proofs.passage.Passage.has_ends.Goals as goal
 pub returns-in-Ok : goal.returns-in-Ok
 returns-in-Ok g c =
     let asked = c.in-Ok.ensures in
-    ends-from (Unit {0}) c.args.self.now c.has_sink.new.self asked.0 asked.1 c.has_sink.result asked.3
+    ends-from (Unit {0}) c.args.self.now c.has_sink.new.self asked.0 c.has_sink.result asked.1
     (subst (λ (m : Way). AsksSink m c.has_sink.new.self c.has_sink.result) asked.2 c.has_sink.ensures)
 
 pub returns-in-Err : goal.returns-in-Err
