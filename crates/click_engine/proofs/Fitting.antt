@@ -51,7 +51,7 @@ round-fitting v = fitting_of v _ (round-kept Anywhere FitsAfter fits-relates v (
 
 -- ---- at the beginning
 
-abbrev IsSet : State → Type 0
+abbrev pub IsSet : State → Type 0
 IsSet s = settings s ≡ s
 
 abbrev Counted : Net → ℕ → State → Type 0
