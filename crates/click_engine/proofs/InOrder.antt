@@ -19,11 +19,11 @@ use Rattle.click_engine.specs.InOrder.{IsPlaced, AreInOrder, IsInOrder}
 use Rattle.click_engine.specs.Keeps.{fixed}
 use Rattle.click_engine.specs.Plant.{Plant, wiring}
 use Rattle.click_engine.specs.Rounds.{arrive, transmit, round, source_of, sink_of, state_at}
-use Rattle.click_engine.specs.World.{Wiring, World, blank}
+use Rattle.click_engine.specs.World.{Wiring, World, with_state, acted_at, given_at, blank}
 use Rattle.click_engine.specs.Run.{push, pull}
 use Rattle.click_engine.proofs.Fitting.{Fits, FitsAfter, fits-relates}
 use Rattle.click_engine.proofs.Keeping.{Anywhere, anywhere, whole, all_after, SameFixed, fixed-relates, SoundAfter, sound-relates}
-use Rattle.click_engine.proofs.Reached.{Relates, Kept, push-kept, pull-kept}
+use Rattle.click_engine.proofs.Reached.{Relates, Kept, kept-set, push-kept, pull-kept}
 use Rattle.click_engine.proofs.Round_keeps.{PlantKept, arrive-kept, transmit-kept, round-kept}
 
 -- an element has the ports and the class of another
@@ -111,6 +111,14 @@ push-in-order net wires d w at o p h = kept-in-order w.elements _ (push-kept Any
 
 pub pull-in-order : (net : Net) (wires : Wiring) (d : ℕ) (w : World) (at i : ℕ) → AreInOrder net w.elements → AreInOrder net (pull wires d w at i).world.elements
 pull-in-order net wires d w at i h = kept-in-order w.elements _ (pull-kept Anywhere KeptBy order-relates wires (whole wires) d w at i tt) net h
+
+pub acted-in-order : (net : Net) (w : World) (at i : ℕ) (p : Packet) → AreInOrder net w.elements → AreInOrder net (with_state w at (acted_at w at i p).state).elements
+acted-in-order net w at i p h =
+    kept-in-order w.elements _ (kept-set Anywhere KeptBy order-relates w.elements at (acted_at w at i p).state (order-relates.pushed at i (get_or w.elements at blank) p tt)) net h
+
+pub given-in-order : (net : Net) (w : World) (at i : ℕ) (p : Packet) → AreInOrder net w.elements → AreInOrder net (with_state w at (given_at w at i p).state).elements
+given-in-order net w at i p h =
+    kept-in-order w.elements _ (kept-set Anywhere KeptBy order-relates w.elements at (given_at w at i p).state (order-relates.pulled at i (get_or w.elements at blank) p tt)) net h
 
 run-in-order : (v w : Plant) → PlantKept KeptBy v w → IsInOrder v → IsInOrder w
 run-in-order v w k h =

@@ -48,10 +48,10 @@ module _ {X : Type 0} (p : X → Bool) where
       let some = counted zs x (k, omega (arith, l), e) t in
       alone zs (omega (arith, h, sum_by-cons (λ w. cond (p w) 1 0) z zs, some)) x y (k, omega (arith, l), e) (j, omega (arith, m), f) t u
 
-both_equal : (a b c d : ℕ) → a ≡ c → b ≡ d → (nat_eq a c && nat_eq b d) ≡ true
+pub both_equal : (a b c d : ℕ) → a ≡ c → b ≡ d → (nat_eq a c && nat_eq b d) ≡ true
 both_equal a b c d e f = grind (arith, nat_tests)
 
-equal_both : (a b c d : ℕ) → (nat_eq a c && nat_eq b d) ≡ true → (a ≡ c) × (b ≡ d)
+pub equal_both : (a b c d : ℕ) → (nat_eq a c && nat_eq b d) ≡ true → (a ≡ c) × (b ≡ d)
 equal_both a b c d e = go (nat_eq a c) (nat_eq b d) refl refl e
   where
     go : (x y : Bool) → nat_eq a c ≡ x → nat_eq b d ≡ y → (x && y) ≡ true → (a ≡ c) × (b ≡ d)
