@@ -1,20 +1,9 @@
--- Each port that an element has is joined, and no run comes to one that it has not.
+-- Each port that an element has is joined to a port that an element has.
 use Rattle.std.proofs.Common.{◌≡◌, ℕ, zero, suc, ◌+◌, ◌<◌, ◌≤◌, inl, inr, Bool, true, false, refl, sym, ap, ◌∙◌, subst, List, [], ◌∷◌, length, get_or, slice_get, option_map, Contains, Option, Some, None, arith}
 use Rattle.std.proofs.lemmas.Bool.{cases_lt}
-use Rattle.std.proofs.lemmas.Bool.Decides.{nat_tests}
 use Rattle.std.proofs.lemmas.List.{get_or_past}
-use Rattle.std.proofs.lemmas.List.Elements.{All-get_or}
-use Rattle.click_packet.specs.Packet.{Packet}
-use Rattle.click_classes.specs.Acts.{after, stored, Stored}
-use Rattle.click_classes.specs.Counts.{counts}
-use Rattle.click_classes.specs.State.{class}
-use Rattle.click_classes.specs.declared.class.Class.{Class}
-use Rattle.click_classes.specs.declared.class.Class.TheVariants as kind
 use Rattle.click_classes.specs.declared.ports.Side.{Side}
 use Rattle.click_classes.specs.declared.ports.Side.TheVariants.{Input, Output}
-use Rattle.click_classes.specs.declared.state.State.{State}
-use Rattle.click_classes.specs.declared.state.State.TheVariants as state
-use Rattle.click_classes.proofs.Fitting.{act-there, gives-there, tries-there}
 use Rattle.click_expand.specs.declared.flat.Connection.{Connection}
 use Rattle.click_ports.specs.declared.port.Port.{Port as NetPort}
 use Rattle.click_ports.specs.declared.shape.Shape.{Shape}
@@ -26,33 +15,25 @@ use Rattle.click_ports.proofs.OneConnection.{both_equal, equal_both, has-connect
 use Rattle.click_ports.proofs.Using.{has-end, has-within}
 use Rattle.click_engine.specs.declared.world.Element.{Element}
 use Rattle.click_engine.specs.declared.world.Port.{Port}
-use Rattle.click_engine.specs.InOrder.{IsPlaced, AreInOrder, IsInOrder, JoinsToo}
-use Rattle.click_engine.specs.Plant.{Plant, wiring}
-use Rattle.click_engine.specs.Rounds.{source_of, sink_of}
-use Rattle.click_engine.specs.Run.{push, pull, sent, given, asked, Pulled}
+use Rattle.click_engine.specs.InOrder.{AreInOrder}
 use Rattle.click_engine.specs.Wires.{end_of, is_port, first_joined, wiring_of}
-use Rattle.click_engine.specs.World.{Wiring, World, element_at, with_state, acted_at, given_at, tries_at, spent, blank}
-use Rattle.click_engine.proofs.Fitting.{Fits}
-use Rattle.click_engine.proofs.InOrder.{acted-in-order, given-in-order, push-in-order, pull-in-order}
-use Rattle.click_engine.proofs.Steps.{push-none, push-some, pull-none, pull-stored, pull-asks, ask-none, ask-some}
+use Rattle.click_engine.specs.World.{blank}
 
 -- ---- connections
 
-port_at : Side → ℕ → ℕ → NetPort
+abbrev pub port_at : Side → ℕ → ℕ → NetPort
 port_at s at n = record { element = at; side = s; number = n }
 
 ends_there : (s : Side) (c : Connection) (at n : ℕ) → is_port (end_of s c) at n ≡ true → joined_port s c ≡ port_at s at n
-unfolding port_at
 ends_there Input c at n t = let both = equal_both c.to c.in_port at n t in ap (λ e. input e c.in_port) both.0 ∙ ap (λ k. input at k) both.1
 ends_there Output c at n t = let both = equal_both c.from c.out_port at n t in ap (λ e. output e c.out_port) both.0 ∙ ap (λ k. output at k) both.1
 
 is_end : (s : Side) (c : Connection) (at n : ℕ) → joined_port s c ≡ port_at s at n → is_port (end_of s c) at n ≡ true
-unfolding port_at
 is_end Input c at n e = both_equal c.to c.in_port at n (ap (λ (q : NetPort). q.element) e) (ap (λ (q : NetPort). q.number) e)
 is_end Output c at n e = both_equal c.from c.out_port at n (ap (λ (q : NetPort). q.element) e) (ap (λ (q : NetPort). q.number) e)
 
 -- the connection that a push or a pull at a port follows
-record Followed (near far : Side) (cs : List Connection) (at n : ℕ) : Type 0 where
+pub record Followed (near far : Side) (cs : List Connection) (at n : ℕ) : Type 0 where
   pub by : Connection
   pub there : Contains cs by
   pub near_end : is_port (end_of near by) at n ≡ true
@@ -69,8 +50,7 @@ followed near far (x ∷ xs) at n c inside t = go (is_port (end_of near x) at n)
         let f = rest (k, omega (arith, l), is) in
         record { by = f.by; there = (suc f.there.0, omega (arith, f.there.1), f.there.2); near_end = f.near_end; leads = rw e f.leads }
 
-joined-at : (near far : Side) (ss : List Shape) (cs : List Connection) (at n : ℕ) → Lawful ss cs → Has cs (port_at near at n) → Followed near far cs at n
-unfolding port_at
+pub joined-at : (near far : Side) (ss : List Shape) (cs : List Connection) (at n : ℕ) → Lawful ss cs → Has cs (port_at near at n) → Followed near far cs at n
 joined-at near far ss cs at n k h =
     let (c, there, e) = has-connection ss cs (port_at near at n) k h in
     followed near far cs at n c there (is_end near c at n e)
@@ -78,7 +58,6 @@ joined-at near far ss cs at n k h =
 -- a push output is joined to what its connection names, and a pull input too
 pub target-named : (ss : List Shape) (cs : List Connection) (c : Connection) → Lawful ss cs → Contains cs c → IsPush ss cs (joined_port Output c)
     → first_joined Output Input cs c.from c.out_port ≡ Some (end_of Input c)
-unfolding port_at
 target-named ss cs c k there push =
     let f = followed Output Input cs c.from c.out_port c there (is_end Output c c.from c.out_port refl) in
     let same = one-target ss cs c f.by k there f.there (sym (ends_there Output f.by c.from c.out_port f.near_end)) push in
@@ -86,7 +65,6 @@ target-named ss cs c k there push =
 
 pub source-named : (ss : List Shape) (cs : List Connection) (c : Connection) → Lawful ss cs → Contains cs c → IsPull ss cs (joined_port Input c)
     → first_joined Input Output cs c.to c.in_port ≡ Some (end_of Output c)
-unfolding port_at
 source-named ss cs c k there pull =
     let f = followed Input Output cs c.to c.in_port c there (is_end Input c c.to c.in_port refl) in
     let same = one-source ss cs c f.by k there f.there (sym (ends_there Input f.by c.to c.in_port f.near_end)) pull in
@@ -95,25 +73,24 @@ source-named ss cs c k there pull =
 -- ---- elements
 
 module _ (net : Net) (es : List Element) (h : AreInOrder net es) where
-  outputs-within : (at o : ℕ) → o < (get_or es at blank).outputs → Has net.connections (output at o)
+  pub outputs-within : (at o : ℕ) → o < (get_or es at blank).outputs → Has net.connections (output at o)
   outputs-within at o i = elim (cases_lt at (length es)) [
     | inl inside ↦ omega (arith, i, (h.placed at inside).outputs)
     | inr past ↦ (let none : (get_or es at blank).outputs ≡ 0 = ap (λ (e : Element). e.outputs) (get_or_past es at blank past) in absurd (omega (arith, i, none)))
   ]
 
-  inputs-within : (at i : ℕ) → i < (get_or es at blank).inputs → Has net.connections (input at i)
+  pub inputs-within : (at i : ℕ) → i < (get_or es at blank).inputs → Has net.connections (input at i)
   inputs-within at i k = elim (cases_lt at (length es)) [
     | inl inside ↦ omega (arith, k, (h.placed at inside).inputs)
     | inr past ↦ (let none : (get_or es at blank).inputs ≡ 0 = ap (λ (e : Element). e.inputs) (get_or_past es at blank past) in absurd (omega (arith, k, none)))
   ]
 
-  port-there : (p : NetPort) → Has net.connections p → p.element < length es
+  pub port-there : (p : NetPort) → Has net.connections p → p.element < length es
   port-there p i = let inside = has-within (length net.shapes) net.connections p h.lawful.within i in omega (arith, inside, h.count)
 
   -- what a port is joined to is a port of an element that is there
   pub target-there : (at o : ℕ) → o < (get_or es at blank).outputs
       → (far : Port) × ((wiring_of net).target at o ≡ Some far) × (far.element < length es) × (far.port < (get_or es far.element blank).inputs)
-  unfolding port_at
   target-there at o i =
       let f = joined-at Output Input net.shapes net.connections at o h.lawful.lawful (outputs-within at o i) in
       let has = has-end net.connections f.by Input f.there in
@@ -122,7 +99,6 @@ module _ (net : Net) (es : List Element) (h : AreInOrder net es) where
 
   pub source-there : (at i : ℕ) → i < (get_or es at blank).inputs
       → (far : Port) × ((wiring_of net).source at i ≡ Some far) × (far.element < length es) × (far.port < (get_or es far.element blank).outputs)
-  unfolding port_at
   source-there at i k =
       let f = joined-at Input Output net.shapes net.connections at i h.lawful.lawful (inputs-within at i k) in
       let has = has-end net.connections f.by Output f.there in
