@@ -138,8 +138,8 @@ got (d ∷ es) (suc at) e h = let rest = got es at e h in (omega (arith, rest.0)
 set-alike : (es : List Element) (at : ℕ) (e f : Element) → slice_get es at ≡ Some e → IsAlike e f → (k : ℕ) → IsAlike (get_or es k blank) (get_or (slice_set es at f) k blank)
 set-alike es at e f h a k = elim (cases_eq k at) [
   | inl is ↦ (let found = got es at e h in
-    subst (λ j. IsAlike (get_or es j blank) (get_or (slice_set es at f) j blank)) (sym is)
-    (subst (λ x. IsAlike x (get_or (slice_set es at f) at blank)) (sym found.1) (subst (λ x. IsAlike e x) (sym (get_or-set_same es at f blank found.0)) a)))
+      subst (λ j. IsAlike (get_or es j blank) (get_or (slice_set es at f) j blank)) (sym is)
+      (subst (λ x. IsAlike x (get_or (slice_set es at f) at blank)) (sym found.1) (subst (λ x. IsAlike e x) (sym (get_or-set_same es at f blank found.0)) a)))
   | inr other ↦ subst (λ x. IsAlike (get_or es k blank) x) (sym (get_or-set_other es at k f blank other)) (record { inputs = refl; outputs = refl; its_class = refl })
 ]
 
