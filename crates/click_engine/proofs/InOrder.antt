@@ -1,24 +1,18 @@
 -- What packets, handlers and swaps leave in order.
-use Rattle.std.proofs.Common.{◌≡◌, ℕ, zero, suc, ◌+◌, ◌<◌, refl, sym, ap, ◌∙◌, subst, List, [], ◌∷◌, length, get_or, set, map, option_map, slice_get, Some, arith}
+use Rattle.std.proofs.Common.{◌≡◌, ℕ, refl, sym, ap, ◌∙◌, subst, List, length, get_or, Some, arith}
 use Rattle.std.specs.List.{All}
 use Rattle.click_packet.specs.Packet.{Packet}
 use Rattle.click_classes.specs.Queues.{IsSound}
-use Rattle.click_classes.specs.Settings.{settings}
 use Rattle.click_classes.specs.State.{class}
 use Rattle.click_classes.specs.declared.class.Class.{Class}
-use Rattle.click_classes.specs.declared.class.Class.TheVariants as kind
-use Rattle.click_classes.specs.declared.ports.Side.TheVariants as side
-use Rattle.click_classes.specs.declared.state.State.{State}
 use Rattle.click_classes.proofs.Settings.{class-settings}
 use Rattle.click_ports.specs.Net.{Net}
-use Rattle.click_ports.specs.Ports.{used}
-use Rattle.click_ports.specs.declared.shape.Shape.{Shape}
 use Rattle.click_engine.specs.declared.world.Element.{Element}
-use Rattle.click_engine.specs.Devices.{Device, element_with}
+use Rattle.click_engine.specs.Devices.{element_with}
 use Rattle.click_engine.specs.InOrder.{IsPlaced, AreInOrder, IsInOrder}
 use Rattle.click_engine.specs.Keeps.{fixed}
 use Rattle.click_engine.specs.Plant.{Plant, wiring}
-use Rattle.click_engine.specs.Rounds.{arrive, transmit, round, source_of, sink_of, state_at}
+use Rattle.click_engine.specs.Rounds.{arrive, transmit, round}
 use Rattle.click_engine.specs.World.{Wiring, World, with_state, acted_at, given_at, blank}
 use Rattle.click_engine.specs.Run.{push, pull}
 use Rattle.click_engine.proofs.Fitting.{Fits, FitsAfter, fits-relates}

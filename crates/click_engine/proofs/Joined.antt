@@ -1,5 +1,5 @@
 -- Each port that an element has is joined to a port that an element has.
-use Rattle.std.proofs.Common.{◌≡◌, ℕ, zero, suc, ◌+◌, ◌<◌, ◌≤◌, inl, inr, Bool, true, false, refl, sym, ap, ◌∙◌, subst, List, [], ◌∷◌, length, get_or, slice_get, option_map, Contains, Option, Some, None, arith}
+use Rattle.std.proofs.Common.{◌≡◌, ℕ, zero, suc, ◌<◌, inl, inr, Bool, true, false, refl, sym, ap, ◌∙◌, List, [], ◌∷◌, length, get_or, Contains, Some, arith}
 use Rattle.std.proofs.lemmas.Bool.{cases_lt}
 use Rattle.std.proofs.lemmas.List.{get_or_past}
 use Rattle.click_classes.specs.declared.ports.Side.{Side}
@@ -10,7 +10,7 @@ use Rattle.click_ports.specs.declared.shape.Shape.{Shape}
 use Rattle.click_ports.specs.Kinds.{IsPull, IsPush}
 use Rattle.click_ports.specs.Lawful.{Lawful}
 use Rattle.click_ports.specs.Net.{Net}
-use Rattle.click_ports.specs.Ports.{used, Has, input, output, joined_port}
+use Rattle.click_ports.specs.Ports.{Has, input, output, joined_port}
 use Rattle.click_ports.proofs.OneConnection.{both_equal, equal_both, has-connection, one-target, one-source}
 use Rattle.click_ports.proofs.Using.{has-end, has-within}
 use Rattle.click_engine.specs.declared.world.Element.{Element}

@@ -1,28 +1,16 @@
 -- No run comes to a port without a connection.
-use Rattle.std.proofs.Common.{◌≡◌, ℕ, zero, suc, ◌+◌, ◌<◌, ◌≤◌, inl, inr, refl, sym, ap, ◌∙◌, List, length, get_or, slice_get, option_map, Option, Some, None, arith}
-use Rattle.std.specs.Prelude.{slice_index_or}
+use Rattle.std.proofs.Common.{◌≡◌, ℕ, zero, suc, ◌+◌, ◌<◌, ◌≤◌, inl, inr, refl, sym, ap, ◌∙◌, length, Option, Some, None, arith}
 use Rattle.std.proofs.lemmas.Bool.{cases_lt}
 use Rattle.std.proofs.lemmas.Bool.Decides.{nat_tests}
 use Rattle.std.proofs.lemmas.List.Elements.{All-get_or}
 use Rattle.click_packet.specs.Packet.{Packet}
 use Rattle.click_classes.specs.Acts.{after, stored, Stored}
-use Rattle.click_classes.specs.Counts.{counts}
-use Rattle.click_classes.specs.State.{class}
-use Rattle.click_classes.specs.declared.class.Class.{Class}
-use Rattle.click_classes.specs.declared.class.Class.TheVariants as kind
 use Rattle.click_classes.specs.declared.ports.Side.TheVariants.{Input, Output}
-use Rattle.click_classes.specs.declared.state.State.{State}
-use Rattle.click_classes.specs.declared.state.State.TheVariants as state
 use Rattle.click_classes.proofs.Fitting.{act-there, gives-there, tries-there}
-use Rattle.click_ports.specs.declared.shape.Shape.{Shape}
 use Rattle.click_ports.specs.Net.{Net}
 use Rattle.click_ports.specs.Ports.{used, Has, input, output, joined_port}
 use Rattle.click_ports.proofs.Using.{has-end}
-use Rattle.click_engine.specs.declared.world.Element.{Element}
-use Rattle.click_engine.specs.declared.world.Port.{Port}
-use Rattle.click_engine.specs.InOrder.{AreInOrder, IsInOrder, JoinsToo}
-use Rattle.click_engine.specs.Plant.{Plant}
-use Rattle.click_engine.specs.Rounds.{source_of, sink_of}
+use Rattle.click_engine.specs.InOrder.{AreInOrder, JoinsToo}
 use Rattle.click_engine.specs.Run.{push, pull, sent, given, asked, Pulled}
 use Rattle.click_engine.specs.Wires.{end_of, wiring_of}
 use Rattle.click_engine.specs.World.{Wiring, World, element_at, with_state, acted_at, given_at, tries_at, spent, blank}

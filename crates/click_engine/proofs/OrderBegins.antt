@@ -1,5 +1,5 @@
 -- A plant begins in order, and swaps and changes of one element leave it so.
-use Rattle.std.proofs.Common.{◌≡◌, ℕ, zero, suc, ◌+◌, ◌<◌, ◌≤◌, inl, inr, Bool, true, false, refl, sym, ap, ◌∙◌, subst, List, [], ◌∷◌, length, get_or, map, option_map, position, slice_get, slice_set, Option, Some, None, arith}
+use Rattle.std.proofs.Common.{◌≡◌, ℕ, zero, suc, ◌+◌, ◌<◌, inl, inr, true, refl, sym, ap, ◌∙◌, subst, List, [], ◌∷◌, length, get_or, map, option_map, slice_get, slice_set, Option, Some, None, arith}
 use Rattle.std.specs.List.{All}
 use Rattle.std.proofs.lemmas.Bool.{cases_eq}
 use Rattle.std.proofs.lemmas.List.{get_or-set_same, get_or-set_other, length-set, length-map}
@@ -7,9 +7,7 @@ use Rattle.std.proofs.lemmas.List.Elements.{All-set}
 use Rattle.std.proofs.lemmas.List.Quantifiers.{position-Some}
 use Rattle.click_classes.specs.Acts.{is_source, is_sink}
 use Rattle.click_classes.specs.Queues.{IsSound}
-use Rattle.click_classes.specs.Settings.{settings}
 use Rattle.click_classes.specs.State.{class}
-use Rattle.click_classes.specs.declared.class.Class.{Class}
 use Rattle.click_classes.specs.declared.class.Class.TheVariants as kind
 use Rattle.click_classes.specs.declared.state.State.{State}
 use Rattle.click_classes.specs.declared.state.State.TheVariants as state

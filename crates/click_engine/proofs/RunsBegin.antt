@@ -15,9 +15,9 @@ use Rattle.click_ports.specs.declared.shape.Shape.{Shape}
 use Rattle.click_engine.specs.declared.world.Element.{Element}
 use Rattle.click_engine.specs.InOrder.{IsInOrder}
 use Rattle.click_engine.specs.Plant.{Plant, most_crossings, wiring, begin, end}
-use Rattle.click_engine.specs.Rounds.{source_of, sink_of, state_at, emitted, asks, sourced}
-use Rattle.click_engine.specs.Run.{push, pull, Pulled}
-use Rattle.click_engine.specs.World.{World, with_state, blank}
+use Rattle.click_engine.specs.Rounds.{source_of, sink_of, emitted, asks, sourced}
+use Rattle.click_engine.specs.Run.{push, pull}
+use Rattle.click_engine.specs.World.{with_state, blank}
 use Rattle.click_engine.proofs.Fitting.{Fits}
 use Rattle.click_engine.proofs.PullSlack.{pull-left, pull-slack}
 use Rattle.click_engine.proofs.Slack.{push-slack}

@@ -8,7 +8,7 @@ use Rattle.click_classes.specs.declared.ports.Side.TheVariants.{Input, Output}
 use Rattle.click_expand.specs.declared.flat.Connection.{Connection}
 use Rattle.click_ports.specs.declared.port.Port.{Port}
 use Rattle.click_ports.specs.declared.shape.Shape.{Shape}
-use Rattle.click_ports.specs.Ports.{input, output, joined_port, joins, Has, uses}
+use Rattle.click_ports.specs.Ports.{joined_port, joins, Has}
 use Rattle.click_ports.specs.Kinds.{IsPull, IsPush, IsSingle, push_output, pull_input}
 use Rattle.click_ports.specs.Lawful.{Lawful}
 use Rattle.click_ports.proofs.Places.{same_port}
