@@ -3,3 +3,4 @@ pub mod Growing
 pub mod Listed
 pub mod Made
 pub mod Writing
+pub mod WritesKeep
