@@ -30,3 +30,5 @@ pub mod Fitting
 pub mod Turning
 pub mod Full
 pub mod Beginning
+pub mod Decimals
+pub mod WrittenValues

@@ -1,0 +1,25 @@
+//! What holds of the values that arguments spell: a value that is written as the manual writes it reads back as just that value.
+
+ghost use Rattle.std.specs.Prelude.{◌≡◌, ◌^◌, ◌<◌, ◌≤◌, ◌++◌, ◌∷◌, [], ℕ, Ok, Err, codes, decimal};
+ghost use Rattle.click_classes.specs.declared.fault.ArgFault.TheVariants as fault;
+ghost use Rattle.click_classes.specs.Values.{address, decimal_number, number_in};
+
+/// The decimal digits of a number read as that number where it is from the lowest to the highest, and are out of range where it is not.
+pub fn digits_of_a_number_read_as_it()
+    ensures inside { (low high n : ℕ) → n < 2 ^ 64 → low ≤ n → n ≤ high → decimal_number low high (decimal n) ≡ Ok n }
+    ensures below { (low high n : ℕ) → n < 2 ^ 64 → n < low → decimal_number low high (decimal n) ≡ Err fault.OutOfRange }
+    ensures above { (low high n : ℕ) → n < 2 ^ 64 → high < n → decimal_number low high (decimal n) ≡ Err fault.OutOfRange }
+{}
+
+/// So they do where `0x` and hexadecimal digits would do too.
+pub fn digits_of_a_number_read_as_it_in_either_base()
+    ensures inside { (low high n : ℕ) → n < 2 ^ 64 → low ≤ n → n ≤ high → number_in low high (decimal n) ≡ Ok n }
+    ensures below { (low high n : ℕ) → n < 2 ^ 64 → n < low → number_in low high (decimal n) ≡ Err fault.OutOfRange }
+    ensures above { (low high n : ℕ) → n < 2 ^ 64 → high < n → number_in low high (decimal n) ≡ Err fault.OutOfRange }
+{}
+
+/// Four numbers below 256 in decimal digits, joined by points, read as the address of these four bytes.
+pub fn four_numbers_joined_by_points_are_an_address()
+    ensures { (a b c d : ℕ) → a < 256 → b < 256 → c < 256 → d < 256
+        → address (decimal a ++ codes "." ++ decimal b ++ codes "." ++ decimal c ++ codes "." ++ decimal d) ≡ Ok (a ∷ b ∷ c ∷ d ∷ []) }
+{}
