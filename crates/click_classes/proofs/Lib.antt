@@ -32,3 +32,4 @@ pub mod Full
 pub mod Beginning
 pub mod Decimals
 pub mod WrittenValues
+pub mod WrittenClauses

@@ -1,7 +1,9 @@
 //! What holds of the values that arguments spell: a value that is written as the manual writes it reads back as just that value.
 
-ghost use Rattle.std.specs.Prelude.{◌≡◌, ◌^◌, ◌<◌, ◌≤◌, ◌++◌, ◌∷◌, [], ℕ, Ok, Err, codes, decimal};
+ghost use Rattle.std.specs.Prelude.{◌≡◌, ◌^◌, ◌<◌, ◌≤◌, ◌++◌, ◌∷◌, [], ℕ, Bool, List, length, map, Ok, Err, codes, decimal};
 ghost use Rattle.click_classes.specs.declared.fault.ArgFault.TheVariants as fault;
+ghost use Rattle.click_classes.specs.ClauseText.{Halves, AreHalves, AreBytes, halves_text, hex_text, wanted, counted, counted_under, sign};
+ghost use Rattle.click_classes.specs.Patterns.{clause};
 ghost use Rattle.click_classes.specs.Values.{address, decimal_number, number_in};
 
 /// The decimal digits of a number read as that number where it is from the lowest to the highest, and are out of range where it is not.
@@ -22,4 +24,14 @@ pub fn digits_of_a_number_read_as_it_in_either_base()
 pub fn four_numbers_joined_by_points_are_an_address()
     ensures { (a b c d : ℕ) → a < 256 → b < 256 → c < 256 → d < 256
         → address (decimal a ++ codes "." ++ decimal b ++ codes "." ++ decimal c ++ codes "." ++ decimal d) ≡ Ok (a ∷ b ∷ c ∷ d ∷ []) }
+{}
+
+/// A clause's text gives its parts: whether it is negated, the offset, and for each byte from there on what is wanted and which of its bits count, which is none under a `?`.
+pub fn a_clause_is_its_parts()
+    ensures digits { (negated : Bool) (offset : ℕ) (bs : List Halves) → offset ≤ 1599 → 1 ≤ length bs → length bs ≤ 64 → AreHalves bs
+        → clause (sign negated ++ decimal offset ++ codes "/" ++ halves_text bs)
+        ≡ Ok (record { negated = negated; offset = offset; value = map wanted bs; mask = map counted bs }) }
+    ensures masked { (negated : Bool) (offset : ℕ) (bs : List Halves) (mask : List ℕ) → offset ≤ 1599 → 1 ≤ length bs → length bs ≤ 64 → AreHalves bs
+        → AreBytes mask → length mask ≡ length bs → clause (sign negated ++ decimal offset ++ codes "/" ++ halves_text bs ++ codes "%" ++ hex_text mask)
+        ≡ Ok (record { negated = negated; offset = offset; value = map wanted bs; mask = counted_under bs mask }) }
 {}
