@@ -33,3 +33,4 @@ pub mod Beginning
 pub mod Decimals
 pub mod WrittenValues
 pub mod WrittenClauses
+pub mod ClauseBytes

@@ -1,8 +1,10 @@
 //! What holds of the values that arguments spell: a value that is written as the manual writes it reads back as just that value.
 
-ghost use Rattle.std.specs.Prelude.{◌≡◌, ◌^◌, ◌<◌, ◌≤◌, ◌++◌, ◌∷◌, [], ℕ, Bool, List, length, map, Ok, Err, codes, decimal};
+ghost use Rattle.std.specs.Prelude.{◌≡◌, ◌↔◌, ◌+◌, ◌^◌, ◌<◌, ◌≤◌, ◌++◌, ◌∷◌, [], ℕ, Bool, List, length, map, bit_and, slice_index, Ok, Err, codes, decimal, true, false};
 ghost use Rattle.click_classes.specs.declared.fault.ArgFault.TheVariants as fault;
+ghost use Rattle.click_classes.specs.declared.values.pattern.Clause.{Clause};
 ghost use Rattle.click_classes.specs.ClauseText.{Halves, AreHalves, AreBytes, halves_text, hex_text, wanted, counted, counted_under, sign};
+ghost use Rattle.click_classes.specs.Matches.{holds};
 ghost use Rattle.click_classes.specs.Patterns.{clause};
 ghost use Rattle.click_classes.specs.Values.{address, decimal_number, number_in};
 
@@ -34,4 +36,15 @@ pub fn a_clause_is_its_parts()
     ensures masked { (negated : Bool) (offset : ℕ) (bs : List Halves) (mask : List ℕ) → offset ≤ 1599 → 1 ≤ length bs → length bs ≤ 64 → AreHalves bs
         → AreBytes mask → length mask ≡ length bs → clause (sign negated ++ decimal offset ++ codes "/" ++ halves_text bs ++ codes "%" ++ hex_text mask)
         ≡ Ok (record { negated = negated; offset = offset; value = map wanted bs; mask = counted_under bs mask }) }
+{}
+
+/// A clause that is not negated holds of just the packets that have all its bytes from the offset on, each the wanted one in the bits that count; a negated one holds of
+/// just the others.
+pub fn a_clause_holds_byte_by_byte()
+    ensures wanted { (word bytes : List ℕ) (c : Clause) → clause word ≡ Ok c → c.negated ≡ false → (holds c bytes ≡ true)
+        ↔ ((c.offset + length c.value ≤ length bytes) × ((i : ℕ) → i < length c.value
+        → bit_and (slice_index bytes (c.offset + i)) (slice_index c.mask i) ≡ bit_and (slice_index c.value i) (slice_index c.mask i))) }
+    ensures negated { (word bytes : List ℕ) (c : Clause) → clause word ≡ Ok c → c.negated ≡ true → (holds c bytes ≡ false)
+        ↔ ((c.offset + length c.value ≤ length bytes) × ((i : ℕ) → i < length c.value
+        → bit_and (slice_index bytes (c.offset + i)) (slice_index c.mask i) ≡ bit_and (slice_index c.value i) (slice_index c.mask i))) }
 {}
