@@ -34,3 +34,4 @@ pub mod Decimals
 pub mod WrittenValues
 pub mod WrittenClauses
 pub mod ClauseBytes
+pub mod ClauseDigits

@@ -1,5 +1,5 @@
 -- The text of a clause (Click element reference, "Classifier"), written from what it says of a packet's bytes.
-use Rattle.std.specs.Prelude.{ℕ, ◌+◌, ◌*◌, ◌/◌, ◌%◌, ◌<◌, List, [], ◌∷◌, Bool, true, false, Option, Some, None, codes, nat_lt, unwrap_or, if◌then◌else◌}
+use Rattle.std.specs.Prelude.{◌≡◌, ℕ, ◌+◌, ◌*◌, ◌/◌, ◌%◌, ◌<◌, List, [], ◌∷◌, Bool, true, false, Option, Some, None, codes, nat_lt, unwrap_or, if◌then◌else◌}
 
 -- what two digits say of a byte: each half is a number below 16, or any
 pub record Halves : Type 0 where
@@ -63,3 +63,14 @@ counted_under _ _ = []
 abbrev pub sign : Bool → List ℕ
 sign true = codes "!"
 sign false = []
+
+-- a half of a byte is as a digit says
+abbrev pub IsAs : Option ℕ → ℕ → Type 0
+IsAs None n = Unit {0}
+IsAs (Some m) n = n ≡ m
+
+-- the bytes begin with some whose halves are as the digits say
+abbrev pub BeginsWith : List Halves → List ℕ → Type 0
+BeginsWith [] bytes = Unit {0}
+BeginsWith (b ∷ bs) [] = ⊥
+BeginsWith (b ∷ bs) (x ∷ bytes) = IsAs b.high (x / 16) × IsAs b.low (x % 16) × BeginsWith bs bytes

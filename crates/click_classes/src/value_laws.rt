@@ -1,9 +1,9 @@
 //! What holds of the values that arguments spell: a value that is written as the manual writes it reads back as just that value.
 
-ghost use Rattle.std.specs.Prelude.{◌≡◌, ◌↔◌, ◌+◌, ◌^◌, ◌<◌, ◌≤◌, ◌++◌, ◌∷◌, [], ℕ, Bool, List, length, map, bit_and, slice_index, Ok, Err, codes, decimal, true, false};
+ghost use Rattle.std.specs.Prelude.{◌≡◌, ◌↔◌, ◌+◌, ◌^◌, ◌<◌, ◌≤◌, ◌++◌, ◌∷◌, [], ℕ, Bool, List, length, drop, map, bit_and, slice_index, Ok, Err, codes, decimal, true, false};
 ghost use Rattle.click_classes.specs.declared.fault.ArgFault.TheVariants as fault;
 ghost use Rattle.click_classes.specs.declared.values.pattern.Clause.{Clause};
-ghost use Rattle.click_classes.specs.ClauseText.{Halves, AreHalves, AreBytes, halves_text, hex_text, wanted, counted, counted_under, sign};
+ghost use Rattle.click_classes.specs.ClauseText.{Halves, AreHalves, AreBytes, halves_text, hex_text, wanted, counted, counted_under, sign, BeginsWith};
 ghost use Rattle.click_classes.specs.Matches.{holds};
 ghost use Rattle.click_classes.specs.Patterns.{clause};
 ghost use Rattle.click_classes.specs.Values.{address, decimal_number, number_in};
@@ -47,4 +47,12 @@ pub fn a_clause_holds_byte_by_byte()
     ensures negated { (word bytes : List ℕ) (c : Clause) → clause word ≡ Ok c → c.negated ≡ true → (holds c bytes ≡ false)
         ↔ ((c.offset + length c.value ≤ length bytes) × ((i : ℕ) → i < length c.value
         → bit_and (slice_index bytes (c.offset + i)) (slice_index c.mask i) ≡ bit_and (slice_index c.value i) (slice_index c.mask i))) }
+{}
+
+/// A clause of digits holds of just the packets whose bytes from the offset on are as the digits say, where `?` stands for any; with `!`, of just the others.
+pub fn a_clause_of_digits_holds_digit_by_digit()
+    ensures plain { (offset : ℕ) (bs : List Halves) (bytes : List ℕ) → offset ≤ 1599 → 1 ≤ length bs → length bs ≤ 64 → AreHalves bs → AreBytes bytes
+        → (c : Clause) × (clause (decimal offset ++ codes "/" ++ halves_text bs) ≡ Ok c) × ((holds c bytes ≡ true) ↔ BeginsWith bs (drop offset bytes)) }
+    ensures negated { (offset : ℕ) (bs : List Halves) (bytes : List ℕ) → offset ≤ 1599 → 1 ≤ length bs → length bs ≤ 64 → AreHalves bs → AreBytes bytes
+        → (c : Clause) × (clause (codes "!" ++ decimal offset ++ codes "/" ++ halves_text bs) ≡ Ok c) × ((holds c bytes ≡ false) ↔ BeginsWith bs (drop offset bytes)) }
 {}
