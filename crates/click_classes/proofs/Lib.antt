@@ -35,3 +35,4 @@ pub mod WrittenValues
 pub mod WrittenClauses
 pub mod ClauseBytes
 pub mod ClauseDigits
+pub mod WrittenPrefixes

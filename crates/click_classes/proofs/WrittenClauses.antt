@@ -45,7 +45,7 @@ letter_digit n h q =
     let c : nat_le 65 (87 + n) ≡ true = grind (arith, nat_tests) in
     record { hex = rw (d, c, u, l, r) refl; worth = rw (d, c, u, l, r) (omega arith); known = grind (arith, nat_tests) }
 
-is_digit : (n : ℕ) → n < 16 → IsDigit (hex_digit_of n) n
+pub is_digit : (n : ℕ) → n < 16 → IsDigit (hex_digit_of n) n
 is_digit n h = elim (cases_lt n 10) [
   | inl l ↦ let e = few n l in rw e (decimal_digit n l)
   | inr l ↦ let e = many n l in rw e (letter_digit n l h)

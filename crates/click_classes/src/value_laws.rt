@@ -6,7 +6,7 @@ ghost use Rattle.click_classes.specs.declared.values.pattern.Clause.{Clause};
 ghost use Rattle.click_classes.specs.ClauseText.{Halves, AreHalves, AreBytes, halves_text, hex_text, wanted, counted, counted_under, sign, BeginsWith};
 ghost use Rattle.click_classes.specs.Matches.{holds};
 ghost use Rattle.click_classes.specs.Patterns.{clause};
-ghost use Rattle.click_classes.specs.Values.{address, decimal_number, number_in};
+ghost use Rattle.click_classes.specs.Values.{address, cleared, decimal_number, ethernet, number_in, prefix};
 
 /// The decimal digits of a number read as that number where it is from the lowest to the highest, and are out of range where it is not.
 pub fn digits_of_a_number_read_as_it()
@@ -55,4 +55,20 @@ pub fn a_clause_of_digits_holds_digit_by_digit()
         → (c : Clause) × (clause (decimal offset ++ codes "/" ++ halves_text bs) ≡ Ok c) × ((holds c bytes ≡ true) ↔ BeginsWith bs (drop offset bytes)) }
     ensures negated { (offset : ℕ) (bs : List Halves) (bytes : List ℕ) → offset ≤ 1599 → 1 ≤ length bs → length bs ≤ 64 → AreHalves bs → AreBytes bytes
         → (c : Clause) × (clause (codes "!" ++ decimal offset ++ codes "/" ++ halves_text bs) ≡ Ok c) × ((holds c bytes ≡ false) ↔ BeginsWith bs (drop offset bytes)) }
+{}
+
+/// An address with `/` and a length of 0 to 32 behind it reads as the prefix of that length, and alone as one of 32 bits.
+pub fn an_address_and_a_length_are_a_prefix()
+    ensures cut { (a b c d : ℕ) → a < 256 → b < 256 → c < 256 → d < 256 → (len : ℕ) → len ≤ 32
+        → prefix (decimal a ++ codes "." ++ decimal b ++ codes "." ++ decimal c ++ codes "." ++ decimal d ++ codes "/" ++ decimal len)
+        ≡ Ok (record { network = cleared len (a ∷ b ∷ c ∷ d ∷ []); len = len }) }
+    ensures whole { (a b c d : ℕ) → a < 256 → b < 256 → c < 256 → d < 256
+        → prefix (decimal a ++ codes "." ++ decimal b ++ codes "." ++ decimal c ++ codes "." ++ decimal d) ≡ Ok (record { network = a ∷ b ∷ c ∷ d ∷ []; len = 32 }) }
+{}
+
+/// Six bytes in two hexadecimal digits each, joined by colons, read as the Ethernet address of these six bytes.
+pub fn six_pairs_joined_by_colons_are_an_ethernet_address()
+    ensures { (a b c d e f : ℕ) → a < 256 → b < 256 → c < 256 → d < 256 → e < 256 → f < 256
+        → ethernet (hex_text (a ∷ []) ++ codes ":" ++ hex_text (b ∷ []) ++ codes ":" ++ hex_text (c ∷ []) ++ codes ":" ++ hex_text (d ∷ []) ++ codes ":"
+        ++ hex_text (e ∷ []) ++ codes ":" ++ hex_text (f ∷ [])) ≡ Ok (a ∷ b ∷ c ∷ d ∷ e ∷ f ∷ []) }
 {}
