@@ -1,13 +1,12 @@
 -- Lemmas on what a clause says of a packet, byte by byte.
-use Rattle.std.proofs.Common.{◌≡◌, ◌==◌, ◌↔◌, ℕ, ◌+◌, ◌-◌, ◌/◌, ◌%◌, ◌<◌, ◌≤◌, List, [], ◌∷◌, length, take, drop, get_or, replicate, Bool, true, false, not, ◌&&◌, bit_and, Option, Some, None, Result, Ok, Err, refl, sym, ap, ◌∙◌, inl, inr, arith, length-drop, get_or-drop}
+use Rattle.std.proofs.Common.{◌≡◌, ◌==◌, ◌↔◌, ℕ, ◌+◌, ◌/◌, ◌%◌, ◌<◌, ◌≤◌, List, [], ◌∷◌, length, take, drop, replicate, Bool, true, false, not, ◌&&◌, bit_and, Option, Some, None, Ok, refl, sym, ap, ◌∙◌, inl, inr, arith, length-drop, get_or-drop}
 use Rattle.std.specs.Prelude.{nat_le, position, slice_index}
 use Rattle.std.specs.List.{list_all}
 use Rattle.std.proofs.lemmas.Bool.{cases_Bool}
 use Rattle.std.proofs.lemmas.Bool.Decides.{nat_tests}
-use Rattle.click_classes.specs.declared.fault.ArgFault.{ArgFault}
 use Rattle.click_classes.specs.declared.values.pattern.Clause.{Clause}
 use Rattle.click_classes.specs.Values.{hex_digit, decimal_in}
-use Rattle.click_classes.specs.Patterns.{pattern_digit, value_of, mask_of, are_digits, is_mask, clause_of, with_mask, with_offset, with_digits, unsigned, clause}
+use Rattle.click_classes.specs.Patterns.{pattern_digit, value_of, mask_of, are_digits, is_mask, clause_of, with_mask, with_offset, with_digits, clause}
 use Rattle.click_classes.specs.Matches.{agrees, holds}
 use Rattle.click_classes.proofs.Agreeing.{agrees-each, each-agrees}
 

@@ -1,6 +1,6 @@
 -- Lemmas on clauses that are read back from their text.
-use Rattle.std.proofs.Common.{◌≡◌, ◌==◌, ℕ, zero, suc, ◌+◌, ◌-◌, ◌*◌, ◌/◌, ◌%◌, ◌^◌, ◌<◌, ◌≤◌, List, [], ◌∷◌, ◌++◌, map, length, take, drop, replicate, Bool, true, false, Option, Some, None, Result, Ok, Err, decimal, refl, sym, ap, ◌∙◌, inl, inr, arith, codes, append_assoc}
-use Rattle.std.specs.Prelude.{◌&&◌, nat_le, nat_lt, position, slice_index, unwrap_or}
+use Rattle.std.proofs.Common.{◌≡◌, ◌==◌, ℕ, zero, suc, ◌+◌, ◌*◌, ◌/◌, ◌%◌, ◌<◌, ◌≤◌, List, [], ◌∷◌, ◌++◌, map, length, take, drop, replicate, Bool, true, false, Option, Some, None, Ok, decimal, refl, ap, ◌∙◌, inl, inr, arith, codes, append_assoc}
+use Rattle.std.specs.Prelude.{nat_le, nat_lt, position, slice_index, unwrap_or}
 use Rattle.std.specs.List.{list_all}
 use Rattle.std.proofs.Math.Seq.{take-append_seam, drop-append-add}
 use Rattle.std.proofs.lemmas.List.{length-replicate}
@@ -8,10 +8,8 @@ use Rattle.std.proofs.lemmas.Fmt.{decimal_nonempty}
 use Rattle.std.proofs.lemmas.Bool.{cases_Bool, cases_lt}
 use Rattle.std.proofs.lemmas.Bool.Decides.{nat_tests}
 use Rattle.click_text.specs.Pieces.{digit}
-use Rattle.click_classes.specs.declared.fault.ArgFault.{ArgFault}
-use Rattle.click_classes.specs.declared.values.pattern.Clause.{Clause}
 use Rattle.click_classes.specs.Values.{hex_digit, digit_value, decimal_in}
-use Rattle.click_classes.specs.Patterns.{pattern_digit, counted_bits, value_of, mask_of, are_digits, is_mask, clause_of, unsigned, clause}
+use Rattle.click_classes.specs.Patterns.{pattern_digit, counted_bits, value_of, mask_of, are_digits, clause_of, unsigned, clause}
 use Rattle.click_classes.specs.ClauseText.{Halves, IsHalf, AreHalves, AreBytes, hex_digit_of, half_digit, halves_text, hex_text, wanted, bits_of, counted, bits_under, counted_under, sign}
 use Rattle.click_classes.proofs.Decimals.{digits-decimal, position-behind, position-none}
 use Rattle.click_classes.proofs.WrittenValues.{decimal_in-read}

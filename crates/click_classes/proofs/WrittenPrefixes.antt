@@ -1,6 +1,6 @@
 -- Lemmas on prefixes and Ethernet addresses that are read back from their text.
-use Rattle.std.proofs.Common.{◌≡◌, ◌==◌, ℕ, suc, ◌+◌, ◌/◌, ◌%◌, ◌<◌, ◌≤◌, List, [], ◌∷◌, ◌++◌, length, take, drop, Bool, true, false, ◌&&◌, Option, Some, None, Ok, decimal, codes, refl, sym, ap, ◌∙◌, arith, append_assoc}
-use Rattle.std.specs.Prelude.{◌||◌, nat_le, position}
+use Rattle.std.proofs.Common.{◌≡◌, ◌==◌, ℕ, suc, ◌+◌, ◌/◌, ◌%◌, ◌<◌, ◌≤◌, List, [], ◌∷◌, ◌++◌, length, drop, Bool, true, false, ◌&&◌, Some, Ok, decimal, codes, refl, ap, ◌∙◌, arith, append_assoc}
+use Rattle.std.specs.Prelude.{◌||◌, nat_le}
 use Rattle.std.specs.List.{list_all}
 use Rattle.std.specs.Option.{ok_or}
 use Rattle.std.proofs.Math.Seq.{take-append_seam, drop-append-add}
@@ -9,8 +9,8 @@ use Rattle.std.proofs.lemmas.Bool.Decides.{nat_tests}
 use Rattle.click_text.specs.Pieces.{digit}
 use Rattle.click_classes.specs.declared.fault.ArgFault.TheVariants as fault
 use Rattle.click_classes.specs.declared.values.groups.Group.TheVariants as kind
-use Rattle.click_classes.specs.Values.{hex_digit, hexadecimal_in, decimal_in, group, separated, address, ethernet, prefix, prefix_at, prefix_of, cleared, digit_value, spelled}
-use Rattle.click_classes.specs.ClauseText.{hex_digit_of, hex_text}
+use Rattle.click_classes.specs.Values.{hex_digit, hexadecimal_in, decimal_in, group, separated, address, ethernet, prefix, cleared, spelled}
+use Rattle.click_classes.specs.ClauseText.{hex_text}
 use Rattle.click_classes.proofs.Decimals.{digits-decimal, position-behind, position-none}
 use Rattle.click_classes.proofs.WrittenValues.{decimal_in-read, address-read}
 use Rattle.click_classes.proofs.WrittenClauses.{is_digit}

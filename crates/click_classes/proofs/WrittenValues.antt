@@ -1,6 +1,6 @@
 -- Lemmas on values that are read back from their text.
-use Rattle.std.proofs.Common.{◌≡◌, ◌==◌, ℕ, suc, ◌+◌, ◌^◌, ◌<◌, ◌≤◌, List, [], ◌∷◌, ◌++◌, length, take, drop, Bool, true, false, Option, Some, None, Ok, Err, decimal, refl, sym, ap, ◌∙◌, arith, codes, append_assoc}
-use Rattle.std.specs.Prelude.{◌&&◌, nat_le, position}
+use Rattle.std.proofs.Common.{◌≡◌, ℕ, suc, ◌+◌, ◌^◌, ◌<◌, ◌≤◌, List, [], ◌∷◌, ◌++◌, length, drop, Bool, true, false, Some, Ok, Err, decimal, refl, ap, ◌∙◌, arith, codes, append_assoc}
+use Rattle.std.specs.Prelude.{◌&&◌, nat_le}
 use Rattle.std.specs.Option.{ok_or}
 use Rattle.std.proofs.Math.Seq.{take-append_seam, drop-append-add}
 use Rattle.std.proofs.lemmas.Bool.Decides.{nat_tests}
@@ -8,7 +8,7 @@ use Rattle.std.proofs.lemmas.Fmt.{length-decimal-le}
 use Rattle.click_text.specs.Pieces.{digit}
 use Rattle.click_classes.specs.declared.fault.ArgFault.TheVariants as fault
 use Rattle.click_classes.specs.declared.values.groups.Group.TheVariants as kind
-use Rattle.click_classes.specs.Values.{decimal_in, number_in, decimal_number, within, group, separated, address, prefix, prefix_at, cleared}
+use Rattle.click_classes.specs.Values.{decimal_in, number_in, decimal_number, within, group, separated, address}
 use Rattle.click_classes.proofs.Decimals.{digits-decimal, is_run-decimal, spelled-decimal, position-behind}
 use Rattle.click_classes.proofs.Groups.{preceded, separated_next, separated_last}
 
