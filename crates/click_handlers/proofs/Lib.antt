@@ -3,3 +3,5 @@ pub mod Growing
 pub mod Listed
 pub mod Made
 pub mod Writing
+pub mod Trimming
+pub mod Dotted
