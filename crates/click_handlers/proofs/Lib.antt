@@ -4,3 +4,5 @@ pub mod Listed
 pub mod Made
 pub mod Writing
 pub mod WritesKeep
+pub mod Trimming
+pub mod Dotted
