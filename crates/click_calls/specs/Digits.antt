@@ -1,5 +1,5 @@
 -- Packets and bytes in hex digits.
-use Rattle.std.specs.Prelude.{◌≡◌, ◌≢◌, ◌⊎◌, ◌<◌, ℕ, List, [], ◌∷◌, length, codes, Ok, Err}
+use Rattle.std.specs.Prelude.{◌≡◌, ◌≢◌, ◌⊎◌, ◌<◌, ◌≤◌, ◌%◌, ℕ, List, [], ◌∷◌, length, codes, Ok, Err}
 use Rattle.hex.specs.Hex.{encode_lower, decode_of}
 use Rattle.hex.specs.declared.error.FromHexError.{FromHexError}
 use Rattle.hex.specs.declared.error.FromHexError.TheVariants.{OddLength}
@@ -20,10 +20,14 @@ IsHex text bytes = ((text ≡ codes "-") × (bytes ≡ [])) ⊎ ((text ≢ []) �
 abbrev pub IsPacketOf : List ℕ → Packet → Type 0
 IsPacketOf text p = IsHex text p.bytes × (p.paint ≡ 0) × (p.destination ≡ 0 ∷ 0 ∷ 0 ∷ 0 ∷ [])
 
--- why the text is no packet
+-- no packet has bytes that are written so
+abbrev pub SpellsNone : List ℕ → Type 0
+SpellsNone text = (bytes : List ℕ) → length bytes ≤ longest_packet → IsHex text bytes → ⊥
+
+-- Why the text is no packet: memory ran out, which only pairs of digits need; or none is written so, for a reason that is true of it.
 abbrev pub IsNoPacket : List ℕ → HexFault → Type 0
-IsNoPacket text fault.NoMemory = Unit {0}
-IsNoPacket text fault.NoDigits = text ≡ []
-IsNoPacket text fault.OddDigits = decode_of text ≡ Err OddLength
-IsNoPacket text fault.NoDigit = (e : FromHexError) × (decode_of text ≡ Err e) × (e ≢ OddLength)
-IsNoPacket text fault.TooLong = (bytes : List ℕ) × (decode_of text ≡ Ok bytes) × (longest_packet < length bytes)
+IsNoPacket text fault.NoMemory = (text ≢ []) × (length text % 2 ≡ 0)
+IsNoPacket text fault.NoDigits = SpellsNone text × (text ≡ [])
+IsNoPacket text fault.OddDigits = SpellsNone text × (decode_of text ≡ Err OddLength)
+IsNoPacket text fault.NoDigit = SpellsNone text × ((e : FromHexError) × (decode_of text ≡ Err e) × (e ≢ OddLength))
+IsNoPacket text fault.TooLong = SpellsNone text × ((bytes : List ℕ) × (decode_of text ≡ Ok bytes) × (longest_packet < length bytes))

@@ -11,6 +11,7 @@ use Rattle.click_router.specs.declared.call.Call.{Call}
 use Rattle.click_router.specs.declared.call.Reply.{Reply}
 use Rattle.click_desk.specs.declared.entry.Entry.{Entry}
 use Rattle.click_desk.specs.History.{entries}
+use Rattle.click_desk.proofs.Histories.{all_below}
 use Rattle.click_rings.specs.Feeds.{FeedName}
 use Rattle.click_desk.specs.Sittings.{DeskName, Sitting, new_seat, seats_below}
 use Rattle.click_desk.specs.Closing.{IsEachOnce}
@@ -25,31 +26,9 @@ pub some_seat : (n : ℕ) (seats : List Sitting) → 0 < n → IsEachOnce n seat
 some_seat n [] above once = absurd (let e : 0 ≡ 1 = once 0 above in omega arith)
 some_seat n (s ∷ seats) above once = omega arith
 
-nil_cons : (x : Call × Reply) (xs : List (Call × Reply)) → x ∷ xs ≡ [] → ⊥
-nil_cons x xs e = cc
-
--- an entry bears a number that has entries
-none_later : (e : Entry) (es : List Entry) (n : ℕ) → entries (e ∷ es) n ≡ [] → entries es n ≡ []
-none_later e es n =
-    elim (e.seat == n) as (λ (t : Bool). (if t then ((e.call, e.reply) ∷ entries es n) else entries es n) ≡ [] → entries es n ≡ []) [
-      | true ↦ λ h. absurd (nil_cons (e.call, e.reply) (entries es n) h)
-      | false ↦ λ h. h
-    ]
-
-bears : (es : List Entry) (k : ℕ) (d : Entry) → k < length es → entries es (slice_index_or es k d).seat ≡ [] → ⊥
-bears [] k d below none = absurd (omega arith)
-bears (e ∷ es) zero d below none =
-    let same : (e.seat == e.seat) ≡ true = grind (arith, nat_tests) in
-    let more : entries (e ∷ es) e.seat ≡ (e.call, e.reply) ∷ entries es e.seat = rw same refl in
-    nil_cons (e.call, e.reply) (entries es e.seat) (sym more ∙ none)
-bears (e ∷ es) (suc k) d below none = bears es k d (omega arith) (none_later e es (slice_index_or es k d).seat none)
-
 -- where each number below n is a seat's, and no other number has entries, each entry bears the number of one seat
 pub each_seated : (n : ℕ) (seats : List Sitting) (es : List Entry) → IsEachOnce n seats → ((k : ℕ) → n ≤ k → entries es k ≡ []) → All (λ e. count_by (λ s. s.number == e.seat) seats ≡ 1) es
-each_seated n seats es once none k d below =
-    let at = (slice_index_or es k d).seat in
-    let small : at < n = ⊎_elim (λ (h : at < n). h) (λ (h : n ≤ at). absurd (bears es k d below (none at h))) (cases_lt at n) in
-    once at small
+each_seated n seats es once none k d below = once (slice_index_or es k d).seat (all_below n es none k d below)
 
 -- new seats belong to their desk
 pub all_belong : (desk : DeskName) (feeds : List FeedName) (n : ℕ) → All (λ s. s.desk ≡ desk) (seats_below desk feeds n)

@@ -16,7 +16,7 @@ use Rattle.click_packet.specs.Packet.{Packet}
 use Rattle.click_desk.specs.History.{entry, entries, Legal}
 use Rattle.click_desk.specs.Views.{seated, taken, given, Finds, Takes, Gives, MayGive}
 use Rattle.click_desk.specs.Sittings.{Sitting, IsSeat, Calls as HasCalled, IsRefused}
-use Rattle.click_desk.proofs.Histories.{entries_mine, entries_other}
+use Rattle.click_desk.proofs.Histories.{entries_mine, entries_other, all_below}
 
 -- what an entering of a call says of the booked router and of the seat's list
 pub record Enters (b b2 : Booking) (n : ℕ) (calls calls2 : List (Call × Reply)) (call : Call) (result : Result Reply DeskFault) : Type 0 where
@@ -31,6 +31,13 @@ within_at : (t : Charter) (n : ℕ) (calls : List (Call × Reply)) (seen : List 
     → Finds (seated t n calls seen) b → Enters b b2 n calls calls2 call result → length b2.entries ≤ b2.terms.room
 within_at t n calls seen b b2 calls2 call (Ok reply) finds enters = enters.ok.2
 within_at t n calls seen b b2 calls2 call (Err fault) finds enters = subst (λ (x : Booking). length x.entries ≤ x.terms.room) (sym enters.err.0) finds.2
+
+-- no entry is of a seat that is not made
+numbered_at : (t : Charter) (n : ℕ) (calls : List (Call × Reply)) (seen : List Entry) (b b2 : Booking) (calls2 : List (Call × Reply)) (call : Call) (result : Result Reply DeskFault)
+    → n < t.seats → Finds (seated t n calls seen) b → Enters b b2 n calls calls2 call result → (m : ℕ) → t.seats ≤ m → entries b2.entries m ≡ []
+numbered_at t n calls seen b b2 calls2 call (Ok reply) made finds enters m above =
+    ap (λ l. entries l m) enters.ok.0 ∙ (entries_other b.entries n call reply m (λ (same : m ≡ n). omega arith) ∙ finds.4 m above)
+numbered_at t n calls seen b b2 calls2 call (Err fault) made finds enters m above = ap (λ (x : Booking). entries x.entries m) enters.err.0 ∙ finds.4 m above
 
 -- the fault of a result
 abbrev fault_or : DeskFault → Result Reply DeskFault → DeskFault
@@ -97,11 +104,14 @@ pub sound : (table : TableId) (n : ℕ) (calls : List (Call × Reply)) (v v1 v2 
 sound table n calls v v1 v2 b b2 calls2 call result is made takes enters gives =
     let mine = own n calls v v1 b b2 calls2 call result is takes enters in
     let at : v2 ≡ seated b2.terms n calls2 b2.entries = settled n calls v v1 v2 b b2 is takes gives ∙ ap (λ l. seated b2.terms n l b2.entries) mine in
+    let found = subst (λ (y : View). Finds y b) is takes.1 in
+    let terms : b2.terms ≡ v.terms = enters.terms ∙ takes.1.0 in
     let here : IsSeat (sitting table n calls2 (seated b2.terms n calls2 b2.entries)) = record {
       legal = (b2.state, enters.legal);
       own = mine;
-      made = subst (λ (t : Charter). n < t.seats) (sym (enters.terms ∙ takes.1.0)) made;
-      within = within_at v.terms n calls v.seen b b2 calls2 call result (subst (λ (y : View). Finds y b) is takes.1) enters;
+      made = subst (λ (t : Charter). n < t.seats) (sym terms) made;
+      within = within_at v.terms n calls v.seen b b2 calls2 call result found enters;
+      numbered = all_below b2.terms.seats b2.entries (λ m above. numbered_at v.terms n calls v.seen b b2 calls2 call result made found enters m (subst (λ (t : Charter). t.seats ≤ m) terms above));
     } in (
       at ∙ ap (λ (y : View). seated y.terms n calls2 y.seen) (sym at),
       subst (λ (y : View). IsSeat (sitting table n calls2 y)) (sym at) here,

@@ -1,5 +1,8 @@
 -- Laws of histories.
-use Rattle.std.proofs.Common.{◌≡◌, ◌≢◌, ℕ, Bool, true, false, ◌==◌, if◌then◌else◌, List, [], ◌∷◌, ◌++◌, sym, refl, ap, ◌∙◌, subst, append_assoc, arith, append-nil}
+use Rattle.std.proofs.Common.{◌≡◌, ◌≢◌, ◌<◌, ◌≤◌, ℕ, zero, suc, Bool, true, false, ◌==◌, if◌then◌else◌, List, [], ◌∷◌, ◌++◌, length, slice_index_or, ⊎_elim, sym, refl, ap, ◌∙◌, subst, append_assoc, arith, append-nil}
+use Rattle.std.specs.List.{All}
+use Rattle.std.proofs.lemmas.Bool.{cases_lt}
+use Rattle.std.proofs.lemmas.List.Elements.{All-head, All-tail}
 use Rattle.std.proofs.lemmas.Bool.Decides.{nat_tests}
 use Rattle.click_router.specs.State.{RouterState}
 use Rattle.click_router.specs.One.{Answers}
@@ -45,3 +48,37 @@ entries_other a n call reply m apart =
     let other : (n == m) ≡ false = grind (arith, nat_tests) in
     let last : entries (entry n call reply ∷ []) m ≡ [] = rw other refl in
     entries_append a (entry n call reply ∷ []) m ∙ (ap (λ l. entries a m ++ l) last ∙ append-nil (entries a m))
+
+nil_cons : (x : Call × Reply) (xs : List (Call × Reply)) → x ∷ xs ≡ [] → ⊥
+nil_cons x xs e = cc
+
+-- an entry bears a number that has entries
+none_later : (e : Entry) (es : List Entry) (n : ℕ) → entries (e ∷ es) n ≡ [] → entries es n ≡ []
+none_later e es n =
+    elim (e.seat == n) as (λ (t : Bool). (if t then ((e.call, e.reply) ∷ entries es n) else entries es n) ≡ [] → entries es n ≡ []) [
+      | true ↦ λ h. absurd (nil_cons (e.call, e.reply) (entries es n) h)
+      | false ↦ λ h. h
+    ]
+
+bears : (es : List Entry) (k : ℕ) (d : Entry) → k < length es → entries es (slice_index_or es k d).seat ≡ [] → ⊥
+bears [] k d below none = absurd (omega arith)
+bears (e ∷ es) zero d below none =
+    let same : (e.seat == e.seat) ≡ true = grind (arith, nat_tests) in
+    let more : entries (e ∷ es) e.seat ≡ (e.call, e.reply) ∷ entries es e.seat = rw same refl in
+    nil_cons (e.call, e.reply) (entries es e.seat) (sym more ∙ none)
+bears (e ∷ es) (suc k) d below none = bears es k d (omega arith) (none_later e es (slice_index_or es k d).seat none)
+
+-- where no number from n on has entries, each entry bears a number below n
+pub all_below : (n : ℕ) (es : List Entry) → ((k : ℕ) → n ≤ k → entries es k ≡ []) → All (λ e. e.seat < n) es
+all_below n es none k d below =
+    let at = (slice_index_or es k d).seat in
+    ⊎_elim (λ (h : at < n). h) (λ (h : n ≤ at). absurd (bears es k d below (none at h))) (cases_lt at n)
+
+-- where each entry bears the only number, they are as many as that seat's
+pub own_length : (n : ℕ) (es : List Entry) → All (λ e. e.seat < 1) es → n ≡ 0 → length (entries es n) ≡ length es
+own_length n [] all zeroth = refl
+own_length n (e ∷ es) all zeroth =
+    let small : e.seat < 1 = All-head (λ (x : Entry). x.seat < 1) e es all in
+    let same : (e.seat == n) ≡ true = grind (arith, nat_tests) in
+    let more : entries (e ∷ es) n ≡ (e.call, e.reply) ∷ entries es n = rw same refl in
+    ap length more ∙ ap suc (own_length n es (All-tail (λ (x : Entry). x.seat < 1) e es all) zeroth)

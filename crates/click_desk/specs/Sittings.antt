@@ -1,5 +1,6 @@
 -- Desks and seats as contracts see them.
 use Rattle.std.specs.Prelude.{◌≡◌, ◌↔◌, ℕ, zero, suc, ◌<◌, ◌≤◌, List, [], ◌∷◌, ◌++◌, length}
+use Rattle.std.specs.List.{All}
 use Rattle.atomic_table.specs.Seated.{TableId}
 use Rattle.click_rings.specs.Feeds.{FeedName}
 use Rattle.click_router.specs.declared.call.Call.{Call}
@@ -23,12 +24,13 @@ pub record Sitting : Type 0 where
   pub calls : List (Call × Reply)
   pub seen : List Entry
 
--- what a seat saw is a history from the opening text, within the room, which has of this seat just its calls
+-- what a seat saw is a history from the opening text, within the room, which has of this seat just its calls, and each entry of which is of a seat of the desk
 pub record IsSeat (s : Sitting) : Type 0 where
   pub legal : IsLegal s.desk.terms.opening s.seen
   pub own : entries s.seen s.number ≡ s.calls
   pub made : s.number < s.desk.terms.seats
   pub within : length s.seen ≤ s.desk.terms.room
+  pub numbered : All (λ e. e.seat < s.desk.terms.seats) s.seen
 
 -- the seat has seen a longer history, which ends with this call and this reply, one more of its own
 pub record Calls (old new : Sitting) (call : Call) (reply : Reply) : Type 0 where

@@ -1,5 +1,5 @@
 use Rattle.std.proofs.Common.{inl}
-use Rattle.click_desk.proofs.Calls.{as_call, may_give, sound, polls}
+use Rattle.click_desk.proofs.Calls.{as_call, may_give, sound, polls, refuses}
 use Rattle.click_desk.proofs.desk.Desk.poll.Goals as goal
 
 pub give-requires-clause-rule : goal.give-requires-clause-rule
@@ -26,3 +26,11 @@ returns-clause-ok g c =
     let calls2 = c.enter_poll-result.new.calls.items in
     let some = as_call c.take-booked.result c.enter_poll-result.new.self c.seat.inside.number calls calls2 c.args.device.now c.args.most c.enter_poll-result.result (record { terms = e.terms; legal = e.legal; ok = e.ok; err = e.err; full = e.full }) in
     rw (c.told.ensures, ← c.seat.view_is) (polls _ _ c.seat.inside.number calls _ _ _ _ _ calls2 c.args.device.now c.args.most c.enter_poll-result.result c.seat.invariant.1 c.seat.invariant.2.made c.take-booked.ensures.taken some c.give.ensures.given)
+
+pub returns-clause-err : goal.returns-clause-err
+returns-clause-err g c =
+    let e = c.enter_poll-result.ensures in
+    let calls = c.seat.inside.calls.items in
+    let calls2 = c.enter_poll-result.new.calls.items in
+    let some = as_call c.take-booked.result c.enter_poll-result.new.self c.seat.inside.number calls calls2 c.args.device.now c.args.most c.enter_poll-result.result (record { terms = e.terms; legal = e.legal; ok = e.ok; err = e.err; full = e.full }) in
+    rw (c.told.ensures, ← c.seat.view_is) (refuses _ _ c.seat.inside.number calls _ _ _ _ _ calls2 some.0 c.enter_poll-result.result c.seat.invariant.1 c.seat.invariant.2.made c.take-booked.ensures.taken some.1 c.give.ensures.given)

@@ -1,5 +1,5 @@
 use Rattle.std.proofs.Common.{inl}
-use Rattle.click_desk.proofs.Calls.{may_give, sound, answers}
+use Rattle.click_desk.proofs.Calls.{may_give, sound, answers, refuses}
 use Rattle.click_desk.proofs.desk.Desk.record.Goals as goal
 
 pub give-requires-clause-rule : goal.give-requires-clause-rule
@@ -19,4 +19,10 @@ pub returns-clause-ok : goal.returns-clause-ok
 returns-clause-ok g c =
     let e = c.enter-result.ensures in
     rw (← c.seat.view_is) (answers _ _ c.seat.inside.number c.seat.inside.calls.items _ _ _ _ _ c.enter-result.new.calls.items c.args.call c.enter-result.result c.seat.invariant.1 c.seat.invariant.2.made c.take-booked.ensures.taken
+    (record { terms = e.terms; legal = e.legal; ok = e.ok; err = e.err; full = e.full }) c.give.ensures.given)
+
+pub returns-clause-err : goal.returns-clause-err
+returns-clause-err g c =
+    let e = c.enter-result.ensures in
+    rw (← c.seat.view_is) (refuses _ _ c.seat.inside.number c.seat.inside.calls.items _ _ _ _ _ c.enter-result.new.calls.items c.args.call c.enter-result.result c.seat.invariant.1 c.seat.invariant.2.made c.take-booked.ensures.taken
     (record { terms = e.terms; legal = e.legal; ok = e.ok; err = e.err; full = e.full }) c.give.ensures.given)
