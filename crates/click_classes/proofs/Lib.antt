@@ -30,3 +30,9 @@ pub mod Fitting
 pub mod Turning
 pub mod Full
 pub mod Beginning
+pub mod Decimals
+pub mod WrittenValues
+pub mod WrittenClauses
+pub mod ClauseBytes
+pub mod ClauseDigits
+pub mod WrittenPrefixes

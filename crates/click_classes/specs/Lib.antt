@@ -1,4 +1,5 @@
 pub mod Acts
+pub mod ClauseText
 pub mod Classes
 pub mod Codes
 pub mod Counts

@@ -16,6 +16,7 @@ mod ports;
 mod routes;
 mod state;
 mod taking_over;
+pub mod value_laws;
 mod values;
 
 pub use acting::{Fate, Outcome, PortRange, after};

@@ -187,6 +187,7 @@ placed_more at searched wanted r items piece placed =
     let rest : drop at (items ++ piece) ≡ drop at items ++ piece = drop-append-le at items piece (omega (arith, placed.within)) in
     record {
       within = omega (arith, placed.within, length-append items piece);
+      kept = omega (arith, placed.kept, length-append items piece);
       no_end = rw (rest, take-append-le searched (drop at items) piece (omega (arith, placed.within, length-drop at items))) placed.no_end;
       waits = rw rest (waits_more r (drop at items) piece wanted placed.waits);
     }
@@ -196,12 +197,3 @@ pub placed_fed : (taken : Bool) (at searched wanted : ℕ) (r : Reading) (items 
     → IsPlaced at searched wanted r items → IsPlaced at searched wanted r next
 placed_fed true at searched wanted r items piece next is placed = rw is (placed_more at searched wanted r items piece placed)
 placed_fed false at searched wanted r items piece next is placed = rw is placed
-
--- the bytes before the place are dropped
-pub placed_front : (at searched wanted : ℕ) (r : Reading) (items next : List ℕ) → next ≡ drop at items → IsPlaced at searched wanted r items
-    → IsPlaced 0 searched wanted r next
-placed_front at searched wanted r items next is placed = rw is record {
-  within = omega (arith, placed.within, length-drop at items);
-  no_end = placed.no_end;
-  waits = placed.waits;
-}

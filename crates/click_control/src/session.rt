@@ -1,6 +1,6 @@
 //! The commands of a session's bytes, as they come.
 
-ghost use Rattle.std.specs.Prelude.{◌≡◌, ◌≤◌, length, drop, IfOk, OnOk, OnErr};
+ghost use Rattle.std.specs.Prelude.{◌≡◌, ◌≤◌, ◌+◌, length, drop, IfOk, OnOk, OnErr};
 ghost use Rattle.click_control.specs.Taking.{fresh, fed, GivesNext, GivesNone};
 ghost use Rattle.click_control.specs.kept.Lines.{TakesLine};
 
@@ -21,7 +21,8 @@ enum Line {
     Whole(Command),
 }
 
-/// A session's stream: its bytes go in as they come, in any pieces, and its commands come out one after another (Click manual, "ControlSocket").
+/// A session's stream: its bytes go in as they come, in any pieces, and its commands come out one after another (Click manual, "ControlSocket"). It never keeps more bytes
+/// than twice those that are still to be taken up.
 #[derive(Drop)]
 pub struct Session {
     buffer: Vec<u8>,
@@ -71,11 +72,6 @@ impl Session {
         if self.start == Start::Over {
             return Ok(());
         }
-        // No byte is moved that another was not taken up for.
-        if self.buffer.len() - self.at <= self.at {
-            drop_front(&mut self.buffer, self.at);
-            self.at = 0;
-        }
         self.buffer.extend_from_slice(piece)
     }
 
@@ -111,7 +107,7 @@ impl Session {
         let searched = if skipped == 0 { self.searched } else { 0 };
         match first_line(alloc, &self.buffer[begin..], searched)? {
             Found::Partial { searched, wanted } => {
-                self.at = begin;
+                self.at = settled(&mut self.buffer, begin);
                 self.searched = searched;
                 self.wanted = wanted;
                 self.start = Start::Line;
@@ -122,7 +118,7 @@ impl Session {
                 length,
                 start,
             } => {
-                self.at = begin + length;
+                self.at = settled(&mut self.buffer, begin + length);
                 self.searched = 0;
                 self.wanted = 0;
                 self.start = start;
@@ -133,6 +129,21 @@ impl Session {
             }
         }
     }
+}
+
+/// Gives up the bytes of a buffer that were taken up, where they are more than the rest, and says where the rest begins then: no byte is moved that another was not
+/// taken up for.
+fn settled(buffer: &mut Vec<u8>, at: usize) -> usize
+    requires { at ≤ length buffer.old.items }
+    ensures rest { drop result buffer.new.items ≡ drop at buffer.old.items }
+    ensures kept { result + result ≤ length buffer.new.items }
+{
+    let rest = buffer.len() - at;
+    if at <= rest {
+        return at;
+    }
+    drop_front(buffer, at);
+    0
 }
 
 /// Drops the first bytes of a buffer.

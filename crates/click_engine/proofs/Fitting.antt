@@ -1,8 +1,7 @@
 -- Elements fit their ports, and packets leave them so.
-use Rattle.std.proofs.Common.{◌≡◌, ℕ, zero, suc, ◌+◌, ◌<◌, refl, sym, ap, subst, List, [], ◌∷◌, length, map, Some, arith}
+use Rattle.std.proofs.Common.{◌≡◌, ℕ, zero, suc, ◌+◌, refl, sym, ap, subst, List, [], ◌∷◌, map, Some, arith}
 use Rattle.std.specs.Prelude.{slice_get}
 use Rattle.std.specs.List.{All}
-use Rattle.std.proofs.lemmas.List.{get_or_default}
 use Rattle.std.proofs.lemmas.List.Elements.{All-nil, All-cons}
 use Rattle.click_packet.specs.Packet.{Packet}
 use Rattle.click_classes.specs.Counts.{counts}
@@ -18,18 +17,17 @@ use Rattle.click_engine.specs.declared.world.Element.{Element}
 use Rattle.click_engine.specs.Keeps.{AreFitting}
 use Rattle.click_engine.specs.Plant.{Plant, IsStarted, wiring, element_of, elements_from}
 use Rattle.click_engine.specs.Rounds.{arrive, transmit, round}
-use Rattle.click_engine.specs.World.{blank}
-use Rattle.click_engine.proofs.Keeping.{Anywhere, anywhere, whole}
+use Rattle.click_engine.proofs.Keeping.{Anywhere, anywhere, whole, all_after}
 use Rattle.click_engine.proofs.Reached.{Relates}
 use Rattle.click_engine.proofs.Round_keeps.{PlantKept, arrive-kept, transmit-kept, round-kept}
 
-abbrev Fits : Element → Type 0
+abbrev pub Fits : Element → Type 0
 Fits e = FitsPorts e.inputs e.outputs e.state
 
-abbrev FitsAfter : ℕ → Element → Element → Type 0
+abbrev pub FitsAfter : ℕ → Element → Element → Type 0
 FitsAfter at e f = Fits e → Fits f
 
-fits-relates : Relates Anywhere FitsAfter
+pub fits-relates : Relates Anywhere FitsAfter
 fits-relates = record {
   same = λ at e k. k;
   on = λ at e f g h k s. k (h s);
@@ -40,10 +38,7 @@ fits-relates = record {
 }
 
 fitting_of : (v w : Plant) → PlantKept FitsAfter v w → AreFitting v → AreFitting w
-fitting_of v w h s k d inside =
-    let there : k < length v.elements = omega (arith, h.elements.count, inside) in
-    let after_it = h.elements.each k (s k blank there) in
-    subst Fits (get_or_default w.elements k blank d inside) after_it
+fitting_of v w h = all_after Fits v.elements w.elements h.elements.count h.elements.each
 
 pub arrive-fitting : (v : Plant) (device : List ℕ) (p : Packet) → AreFitting v → AreFitting (arrive v device p)
 arrive-fitting v device p = fitting_of v _ (arrive-kept Anywhere FitsAfter fits-relates v (whole (wiring v)) device p (λ at e. tt))
@@ -56,7 +51,7 @@ round-fitting v = fitting_of v _ (round-kept Anywhere FitsAfter fits-relates v (
 
 -- ---- at the beginning
 
-abbrev IsSet : State → Type 0
+abbrev pub IsSet : State → Type 0
 IsSet s = settings s ≡ s
 
 abbrev Counted : Net → ℕ → State → Type 0
@@ -81,7 +76,7 @@ started-fits net at (s ∷ ss) h k =
     (started-fits net (at + 1) ss (λ j t e. let next : at + suc j ≡ at + 1 + j = omega arith in subst (λ n. Counted net n t) next (h (suc j) t e))
     (λ j d inside. k (suc j) d (omega (arith, inside))))
 
-shape-at : (states : List State) (k : ℕ) (s : State) → slice_get states k ≡ Some s → slice_get (map shape_of states) k ≡ Some (shape_of s)
+pub shape-at : (states : List State) (k : ℕ) (s : State) → slice_get states k ≡ Some s → slice_get (map shape_of states) k ≡ Some (shape_of s)
 shape-at [] k s e = cc
 shape-at (t ∷ ts) zero s e = let same : t ≡ s = cc in ap (λ u. Some (shape_of u)) same
 shape-at (t ∷ ts) (suc k) s e = shape-at ts k s e

@@ -1,5 +1,5 @@
 -- What runs keep, of what each element keeps.
-use Rattle.std.proofs.Common.{◌≡◌, ℕ, zero, suc, ◌+◌, ◌<◌, refl, ap, sym, ◌∙◌, subst, List, [], ◌∷◌, length, map, get_or, Some, arith}
+use Rattle.std.proofs.Common.{◌≡◌, ℕ, zero, suc, ◌+◌, refl, ap, sym, ◌∙◌, subst, List, [], ◌∷◌, length, map, get_or, Some, arith}
 use Rattle.std.proofs.lemmas.List.{get_or_default}
 use Rattle.std.proofs.lemmas.List.Elements.{All-nil, All-cons}
 use Rattle.std.specs.List.{All}
@@ -67,10 +67,14 @@ round-settings v = settings_of v _ (round-kept Anywhere SameFixed fixed-relates 
 
 -- ---- queues
 
-abbrev SoundAfter : ℕ → Element → Element → Type 0
+-- what holds of each element before holds of each after
+pub all_after : (Q : Element → Type 0) (es fs : List Element) → length fs ≡ length es → ((at : ℕ) → Q (get_or es at blank) → Q (get_or fs at blank)) → All Q es → All Q fs
+all_after Q es fs count each h k d inside = subst Q (get_or_default fs k blank d inside) (each k (h k blank (omega (arith, inside, count))))
+
+abbrev pub SoundAfter : ℕ → Element → Element → Type 0
 SoundAfter at e f = IsSound e.state → IsSound f.state
 
-sound-relates : Relates Anywhere SoundAfter
+pub sound-relates : Relates Anywhere SoundAfter
 sound-relates = record {
   same = λ at e k. k;
   on = λ at e f g h k s. k (h s);
@@ -81,10 +85,7 @@ sound-relates = record {
 }
 
 sound_of : (v w : Plant) → PlantKept SoundAfter v w → AreSound v → AreSound w
-sound_of v w h s k d inside =
-    let there : k < length v.elements = omega (arith, h.elements.count, inside) in
-    let after_it = h.elements.each k (s k blank there) in
-    subst (λ (e : Element). IsSound e.state) (get_or_default w.elements k blank d inside) after_it
+sound_of v w h = all_after (λ (e : Element). IsSound e.state) v.elements w.elements h.elements.count h.elements.each
 
 pub arrive-sound : (v : Plant) (device : List ℕ) (p : Packet) → AreSound v → AreSound (arrive v device p)
 arrive-sound v device p = sound_of v _ (arrive-kept Anywhere SoundAfter sound-relates v (whole (wiring v)) device p (λ at e. tt))

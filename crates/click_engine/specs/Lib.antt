@@ -1,5 +1,6 @@
 pub mod Devices
 pub mod Frames
+pub mod InOrder
 pub mod Keeps
 pub mod Costs
 pub mod Plant

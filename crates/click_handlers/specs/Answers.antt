@@ -1,5 +1,6 @@
 -- What a handler's call promises.
-use Rattle.std.specs.Prelude.{◌≡◌, ◌≢◌, ℕ, List, Result, Ok, Err, Vec, codes}
+use Rattle.std.specs.Prelude.{◌≡◌, ◌≢◌, ℕ, List, Bool, true, Result, Ok, Err, Vec, codes}
+use Rattle.std.specs.Str.{bytes_eq}
 use Rattle.std.specs.Result.{ForOk, ForErr}
 use Rattle.std.specs.Option.{ForSome, ForNone}
 use Rattle.std.specs.Borrow.{Bor}
@@ -25,9 +26,21 @@ fault_text fault.NoMemory = codes "out of memory"
 abbrev pub IsReadAnswer : Result (List ℕ) HandlerFault → Result (Vec ℕ Global) HandlerFault → Type 0
 IsReadAnswer value answer = ForOk answer (λ bytes. value ≡ Ok bytes.items) × ForErr answer (λ e. e ≢ fault.NoMemory → value ≡ Err e)
 
--- the element is the new one; or it is the old one and the fault is the value's, or memory ran out
-abbrev pub IsWriteAnswer : Element → Result Element HandlerFault → Written → Type 0
-IsWriteAnswer old value written = ForNone written.fault (value ≡ Ok written.element) × ForSome written.fault (λ e. (written.element ≡ old) × (e ≢ fault.NoMemory → value ≡ Err e))
+-- whether a write of a handler of this name may take memory: a queue's other capacity alone does
+abbrev pub takes_room : List ℕ → Bool
+takes_room handler = bytes_eq handler (codes "capacity")
+
+-- the fault is the value's; or memory ran out, where room was to be taken
+abbrev pub IsWhy : Bool → Result Element HandlerFault → HandlerFault → Type 0
+IsWhy room value e = (e ≢ fault.NoMemory → value ≡ Err e) × (e ≡ fault.NoMemory → room ≡ true)
+
+-- the element is the new one; or it is the old one and there is a fault
+abbrev pub IsWritten : Bool → Element → Result Element HandlerFault → Written → Type 0
+IsWritten room old value written = ForNone written.fault (value ≡ Ok written.element) × ForSome written.fault (λ e. (written.element ≡ old) × IsWhy room value e)
+
+-- the answer to a write of the handler of this name
+abbrev pub IsWriteAnswer : List ℕ → Element → List ℕ → Written → Type 0
+IsWriteAnswer handler old text written = IsWritten (takes_room handler) old (write_value handler old text) written
 
 -- a call may be made with every element of the class, and answers what a read of the handler answers, or that memory ran out
 abbrev pub AnswersReads : (Global → Bor Element → Bor (List ℕ) → Type 0) → (Global → Bor Element → Bor (List ℕ) → Result (Vec ℕ Global) HandlerFault → Type 0) → Class → List ℕ → Type 0
@@ -37,4 +50,4 @@ AnswersReads may gives of handler = (alloc : Global) (element : Bor Element) (te
 -- a call may be made with every element of the class, and gives back what a write of the handler makes of it, or the same element where memory ran out
 abbrev pub AnswersWrites : (Global → Element → Bor (List ℕ) → Type 0) → (Global → Element → Bor (List ℕ) → Written → Type 0) → Class → List ℕ → Type 0
 AnswersWrites may gives of handler = (alloc : Global) (element : Element) (text : Bor (List ℕ)) → class element.state ≡ of
-    → may alloc element text × ((written : _) → gives alloc element text written → IsWriteAnswer element (write_value handler element text.now) written)
+    → may alloc element text × ((written : _) → gives alloc element text written → IsWriteAnswer handler element text.now written)

@@ -1,7 +1,8 @@
 //! What holds of the definitions of handlers.
 
 ghost use Rattle.std.specs.Prelude.{◌≡◌, ◌+◌, ◌<◌, ◌≤◌, ◌^◌, ℕ, List, Bool, Ok, Option, length, codes, decimal, take, IsSome};
-ghost use Rattle.click_classes.specs.Queues.{Queued, queue_of};
+ghost use Rattle.click_classes.specs.Fitting.{FitsPorts};
+ghost use Rattle.click_classes.specs.Queues.{Queued, queue_of, IsSound};
 ghost use Rattle.click_classes.specs.State.{class};
 ghost use Rattle.click_classes.specs.Values.{decimal_number, truth};
 ghost use Rattle.click_classes.specs.declared.state.State.TheVariants as state;
@@ -47,4 +48,12 @@ pub fn another_capacity_loses_nothing()
     ensures first { (q : Queued) (n : ℕ) → (resized q n).list.packets ≡ take n q.list.packets }
     ensures counted { (q : Queued) (n : ℕ) → length q.list.packets + q.drops < 2 ^ 64
         → length (resized q n).list.packets + (resized q n).drops ≡ length q.list.packets + q.drops }
+{}
+
+/// A write changes of an element its state alone, to one of the same class. It still fits its ports, whatever the text, and no queue holds more than it has room for.
+pub fn writes_keep_elements_fitting()
+    ensures class { (handler text : List ℕ) (e f : Element) → write_value handler e text ≡ Ok f → class f.state ≡ class e.state }
+    ensures rest { (handler text : List ℕ) (e f : Element) → write_value handler e text ≡ Ok f → (f.class ≡ e.class) × (f.inputs ≡ e.inputs) × (f.outputs ≡ e.outputs) }
+    ensures fits { (handler text : List ℕ) (e f : Element) → write_value handler e text ≡ Ok f → FitsPorts e.inputs e.outputs e.state → FitsPorts f.inputs f.outputs f.state }
+    ensures sound { (handler text : List ℕ) (e f : Element) → write_value handler e text ≡ Ok f → IsSound e.state → IsSound f.state }
 {}

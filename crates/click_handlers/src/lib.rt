@@ -10,6 +10,7 @@ pub mod plain;
 pub mod rows;
 mod standard;
 mod table;
+pub mod text_laws;
 mod texts;
 mod written;
 

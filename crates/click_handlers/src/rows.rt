@@ -87,7 +87,7 @@ impl WriteRow {
     /// Writes the handler of an element of the class.
     pub fn answer(&self, alloc: Global, element: Element, text: &[u8]) -> Written
         requires { class element.state ≡ self.now.class }
-        ensures { IsWriteAnswer element (write_value self.now.name.items element text.now) result }
+        ensures { IsWriteAnswer self.now.name.items element text.now result }
     {
         write_through(&self.call, alloc, element, text)
     }

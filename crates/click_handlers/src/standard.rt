@@ -257,7 +257,7 @@ pub fn with_counted_table<R: Threads + Wait + Sync, U: TakesTable + Drop>(
                 alloc,
                 move |_alloc: Global, element: Element, text: &[u8]| -> Written
                     requires { (class element.state ≡ is.Suppressor) × (port < 16) }
-                    ensures { IsWriteAnswer element (write_value (active_name port) element text.entry.now) result }
+                    ensures { IsWriteAnswer (active_name port) element text.entry.now result }
                 { plain::write_active(element, text, port) },
             )?,
         )?;

@@ -1,6 +1,6 @@
 //! What handlers read and write, as texts.
 
-ghost use Rattle.std.specs.Prelude.{◌≡◌, ◌≤◌, ◌++◌, codes, decimal, IfOk, IfErr, OnOk};
+ghost use Rattle.std.specs.Prelude.{◌≡◌, ◌≢◌, ◌≤◌, ◌++◌, codes, decimal, IfOk, IfErr, OnOk};
 ghost use Rattle.click_handlers.specs.Reads.{truth_text, port_text, dotted, gateway_text, route_text};
 ghost use Rattle.click_handlers.specs.Writes.{number_from, written_port, written_flag};
 
@@ -116,6 +116,7 @@ pub(crate) fn route_text(alloc: Global, entry: Option<Entry>) -> Result<Vec<u8>,
 pub(crate) fn number_from(text: &[u8], low: u64, high: u64) -> Result<u64, HandlerFault>
     ensures value { result ≡ number_from low high text.now }
     ensures bound { IfOk result (λ n. n ≤ high) }
+    ensures memory { IfErr result (λ fault. fault ≢ HandlerFault.NoMemory) }
 {
     match decimal_number(text, low, high) {
         Ok(number) => Ok(number),
@@ -126,7 +127,8 @@ pub(crate) fn number_from(text: &[u8], low: u64, high: u64) -> Result<u64, Handl
 
 /// `-1`, which is None, or a port below a number of ports.
 pub(crate) fn written_port(text: &[u8], ports: u16) -> Result<Option<u8>, HandlerFault>
-    ensures { result ≡ written_port ports text.now }
+    ensures value { result ≡ written_port ports text.now }
+    ensures memory { IfErr result (λ fault. fault ≢ HandlerFault.NoMemory) }
 {
     if text == b"-1".as_slice() {
         return Ok(None);
@@ -141,7 +143,8 @@ pub(crate) fn written_port(text: &[u8], ports: u16) -> Result<Option<u8>, Handle
 
 /// A truth value.
 pub(crate) fn written_flag(text: &[u8]) -> Result<bool, HandlerFault>
-    ensures { result ≡ written_flag text.now }
+    ensures value { result ≡ written_flag text.now }
+    ensures memory { IfErr result (λ fault. fault ≢ HandlerFault.NoMemory) }
 {
     match truth(text) {
         Ok(flag) => Ok(flag),

@@ -7,3 +7,4 @@ pub mod Spreading
 pub mod Telling
 pub mod Lawfulness
 pub mod Resolved
+pub mod OneConnection

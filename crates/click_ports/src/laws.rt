@@ -6,7 +6,7 @@ ghost use Rattle.click_expand.specs.declared.flat.Connection.{Connection};
 ghost use Rattle.click_ports.specs.declared.port.Port.{Port};
 ghost use Rattle.click_ports.specs.declared.shape.Shape.{Shape};
 ghost use Rattle.click_ports.specs.declared.fault.PortFault.{PortFault};
-ghost use Rattle.click_ports.specs.Ports.{joined_port};
+ghost use Rattle.click_ports.specs.Ports.{joined_port, Has};
 ghost use Rattle.click_ports.specs.Links.{IsAgnostic, Linked};
 ghost use Rattle.click_ports.specs.Kinds.{Reaches, IsPull, IsPush};
 ghost use Rattle.click_ports.specs.Lawful.{Lawful};
@@ -33,4 +33,13 @@ pub fn push_by_default()
 pub fn one_answer()
     ensures one { (ss : List Shape) (cs : List Connection) (f g : PortFault) → IsFirstBreach ss cs f → IsFirstBreach ss cs g → f ≡ g }
     ensures lawful { (ss : List Shape) (cs : List Connection) (f : PortFault) → Lawful ss cs → IsBreach ss cs f → ⊥ }
+{}
+
+/// In a lawful net each port has a connection, and a push output, as a pull input, has that one alone: so a push there has one target, and a pull one source.
+pub fn each_port_has_its_connection()
+    ensures connected { (ss : List Shape) (cs : List Connection) (p : Port) → Lawful ss cs → Has cs p → (c : Connection) × Contains cs c × (joined_port p.side c ≡ p) }
+    ensures one_target { (ss : List Shape) (cs : List Connection) (c d : Connection) → Lawful ss cs → Contains cs c → Contains cs d
+        → joined_port Output c ≡ joined_port Output d → IsPush ss cs (joined_port Output c) → c ≡ d }
+    ensures one_source { (ss : List Shape) (cs : List Connection) (c d : Connection) → Lawful ss cs → Contains cs c → Contains cs d
+        → joined_port Input c ≡ joined_port Input d → IsPull ss cs (joined_port Input c) → c ≡ d }
 {}

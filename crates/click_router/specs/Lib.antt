@@ -1,5 +1,6 @@
 pub mod FaultText
 pub mod Globals
+pub mod InOrder
 pub mod One
 pub mod Opened
 pub mod Polls

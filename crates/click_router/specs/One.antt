@@ -1,5 +1,5 @@
 -- One call of a router: the state after it, and the reply (Click manual, "Handlers"; TOCS 2000, "Packet transfer").
-use Rattle.std.specs.Prelude.{◌≡◌, ℕ, ◌-◌, ◌^◌, min, List, [], ◌∷◌, length, Bool, true, false, Option, Some, None, is_some, option_and_then, option_map, Result, Ok, Err, position, slice_get, slice_set, nat_eq, codes, if◌then◌else◌}
+use Rattle.std.specs.Prelude.{◌≡◌, ℕ, ◌-◌, ◌^◌, min, List, [], ◌∷◌, length, Bool, true, false, Option, Some, None, is_some, option_and_then, option_map, Result, Ok, Err, position, slice_get, slice_set, nat_eq, codes, ◌&&◌, ◌||◌, if◌then◌else◌}
 use Rattle.std.specs.List.{before_last, after_last, list_any}
 use Rattle.std.specs.Str.{bytes_eq}
 use Rattle.click_packet.specs.Packet.{Packet}
@@ -7,6 +7,7 @@ use Rattle.click_classes.specs.State.{class}
 use Rattle.click_engine.specs.Plant.{Plant}
 use Rattle.click_engine.specs.Rounds.{arrive, transmit, transmitted, source_of, sink_of, round}
 use Rattle.click_engine.specs.declared.world.Element.{Element}
+use Rattle.click_handlers.specs.Answers.{takes_room}
 use Rattle.click_handlers.specs.Names.{has_read, has_write}
 use Rattle.click_handlers.specs.Reads.{read_value}
 use Rattle.click_handlers.specs.Writes.{write_value}
@@ -186,10 +187,14 @@ sends_packet (reply.Worked count) = false
 sends_packet (reply.Sent packet) = is_some packet
 sends_packet reply.NoDevice = false
 
--- the calls that may take memory: a read's value, what a write makes, and the router of another text
+-- whether what is written to a name is a queue's other capacity
+abbrev pub writes_room : List ℕ → Bool
+writes_room name = list_any is_dot name && takes_room (after name)
+
+-- the calls that may take memory: a read's value, the room of a queue that gets another capacity, and the router of another text
 abbrev pub takes_memory : Call → Bool
 takes_memory (call.Read name text) = true
-takes_memory (call.Write name text) = true
+takes_memory (call.Write name text) = is_hotconfig name || writes_room name
 takes_memory (call.CheckRead name) = false
 takes_memory (call.CheckWrite name) = false
 takes_memory (call.Swap text) = true

@@ -3,7 +3,7 @@
 ghost use Rattle.std.specs.Prelude.{◌≡◌, ◌≢◌, ◌<◌, ◌≤◌, ℕ, List, Result, length, Ok, Err, None, Some, slice_get, slice_index_or, true, IfOk, IfErr, IfSome, MatchOption, MatchResult};
 ghost use Rattle.click_classes.specs.State.{class};
 ghost use Rattle.click_engine.specs.World.{blank};
-ghost use Rattle.click_handlers.specs.Answers.{IsReadAnswer, IsWriteAnswer};
+ghost use Rattle.click_handlers.specs.Answers.{IsReadAnswer, IsWriteAnswer, takes_room};
 ghost use Rattle.click_handlers.specs.Reads.{read_value};
 ghost use Rattle.click_handlers.specs.Writes.{write_value};
 ghost use Rattle.click_router.specs.One as spec;
@@ -165,7 +165,7 @@ fn check_write(table: &Table, running: &Running, name: &[u8]) -> Recorded
 
 /// What a write handler says; `Err` where memory ran out.
 fn write_reply(fault: Option<HandlerFault>) -> Result<Recorded, StepFault>
-    ensures { MatchOption fault (result ≡ Ok Reply.Done) (λ f. MatchResult result (λ reply. (reply ≡ Reply.Refused (Refusal.Handler f)) × (f ≢ HandlerFault.NoMemory)) (λ _. Unit {0})) }
+    ensures { MatchOption fault (result ≡ Ok Reply.Done) (λ f. MatchResult result (λ reply. (reply ≡ Reply.Refused (Refusal.Handler f)) × (f ≢ HandlerFault.NoMemory)) (λ _. f ≡ HandlerFault.NoMemory)) }
 {
     match fault {
         None => Ok(Recorded::of(Kept::Done)),
@@ -184,15 +184,16 @@ fn write_row(
 ) -> Result<Recorded, StepFault>
     requires there { at < length plant.old.elements }
     requires class { class (slice_index_or plant.old.elements at blank).state ≡ row.now.class }
-    ensures { MatchResult result
+    ensures answer { MatchResult result
         (λ reply. spec.written plant.old at (write_value row.now.name.items (slice_index_or plant.old.elements at blank) text.now) ≡ (plant.new, reply))
         (λ _. plant.new ≡ plant.old) }
+    ensures memory { IfErr result (λ _. takes_room row.now.name.items ≡ true) }
 {
     let fault = plant.change(
         at,
         |element: Element| -> (Element, Option<HandlerFault>)
             requires { class element.state ≡ row.now.class }
-            ensures { IsWriteAnswer element (write_value row.entry.now.name.items element text.entry.now) (record { element = result.0; fault = result.1 }) }
+            ensures { IsWriteAnswer row.entry.now.name.items element text.entry.now (record { element = result.0; fault = result.1 }) }
         {
             let written = row.answer(alloc, element, text);
             (written.element, written.fault)
@@ -211,9 +212,10 @@ fn write_element(
     text: &[u8],
 ) -> Result<Recorded, StepFault>
     requires { at < length plant.old.elements }
-    ensures { MatchResult result
+    ensures answer { MatchResult result
         (λ reply. spec.write_element plant.old at (slice_index_or plant.old.elements at blank) handler.now text.now ≡ (plant.new, reply))
         (λ _. plant.new ≡ plant.old) }
+    ensures memory { IfErr result (λ _. takes_room handler.now ≡ true) }
 {
     let class = plant.element(at).state.class();
     match table.write(class, handler) {
@@ -230,7 +232,8 @@ fn write(
     name: &[u8],
     text: &[u8],
 ) -> Result<Recorded, StepFault>
-    ensures { MatchResult result (λ reply. spec.write running.old name.now text.now ≡ (running.new, reply)) (λ _. running.new ≡ running.old) }
+    ensures answer { MatchResult result (λ reply. spec.write running.old name.now text.now ≡ (running.new, reply)) (λ _. running.new ≡ running.old) }
+    ensures memory { IfErr result (λ _. spec.writes_room name.now ≡ true) }
 {
     let Some((element, handler)) = split(name) else {
         return Ok(Recorded::refused(refusal_of(has_global(name))));

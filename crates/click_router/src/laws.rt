@@ -2,6 +2,7 @@
 
 ghost use Rattle.std.specs.Prelude.{◌≡◌, ℕ, List, Some, slice_get, true};
 ghost use Rattle.std.specs.List.{list_any};
+ghost use Rattle.click_engine.specs.Keeps.{AreFitting, AreSound};
 ghost use Rattle.click_engine.specs.TakeOver.{after_it};
 ghost use Rattle.click_engine.specs.declared.world.Element.{Element};
 ghost use Rattle.click_router.specs.declared.call.Call.TheVariants as call;
@@ -10,6 +11,7 @@ ghost use Rattle.click_router.specs.declared.call.Refusal.{Refusal};
 ghost use Rattle.click_router.specs.declared.call.Refusal.TheVariants as refusal;
 ghost use Rattle.click_router.specs.declared.call.Reply.{Reply};
 ghost use Rattle.click_router.specs.declared.call.Reply.TheVariants as reply;
+ghost use Rattle.click_router.specs.InOrder.{IsInOrder};
 ghost use Rattle.click_router.specs.One.{Answers, swap_text, read, before, place_of, is_dot, with_element};
 ghost use Rattle.click_router.specs.State.{RouterState};
 ghost use Rattle.click_router.specs.Swap.{taken};
@@ -66,4 +68,16 @@ pub fn same_names_take_over_from_themselves()
     ensures { (old new : RouterState) (text : List ℕ) (at : ℕ) (e before : Element) → IsOpened text new → old.plant.net.names ≡ new.plant.net.names
         → slice_get new.plant.elements at ≡ Some e → slice_get old.plant.elements at ≡ Some before
         → slice_get (taken new old).plant.elements at ≡ Some (after_it e (Some before)) }
+{}
+
+/// A text opens a router that is in order, and each call that is answered leaves it so: its net is lawful, each element is in its place and in a state that allows its
+/// ports, and no queue holds more than it has room for.
+pub fn routers_stay_in_order()
+    ensures opened { (text : List ℕ) (s : RouterState) → IsOpened text s → IsInOrder s }
+    ensures answered { (s t : RouterState) (c : Call) (r : Reply) → IsInOrder s → Answers s c t r → IsInOrder t }
+{}
+
+/// So its elements fit their ports, and its queues are sound.
+pub fn routers_in_order_fit()
+    ensures { (s : RouterState) → IsInOrder s → AreFitting s.plant × AreSound s.plant }
 {}

@@ -71,7 +71,7 @@ impl<T: Handlers> Router<T> {
     ghost use Rattle.std.specs.Prelude.{◌≡◌, true, is_some, IfOk, IfErr, MatchResult};
     ghost use Rattle.click_router.specs.One.{Answers, takes_memory, holds_memory, is_transmit, sends_packet};
 
-    /// Answers one call. Where memory is refused nothing has changed, and only a read, a write or a swap takes memory. A reply that holds memory comes only from a call that changed nothing, and a packet
+    /// Answers one call. Where memory is refused nothing has changed, and only a read, a write of a queue's capacity or a swap takes memory. A reply that holds memory comes only from a call that changed nothing, and a packet
     /// only from a transmit.
     pub fn step(&mut self, alloc: Global, call: &Call) -> Result<Reply, StepFault>
         ensures answer { MatchResult result (λ reply. Answers self.old call.now self.new reply) (λ _. self.new ≡ self.old) }

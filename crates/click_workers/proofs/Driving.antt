@@ -1,5 +1,5 @@
 -- One Round more of a driver.
-use Rattle.std.proofs.Common.{◌≡◌, ℕ, ◌+◌, ◌<◌, Bool, true, false, List, [], ◌∷◌, length, refl, sym, ap, ◌∙◌, subst, length-append, arith}
+use Rattle.std.proofs.Common.{◌≡◌, ℕ, ◌+◌, ◌<◌, inl, inr, Bool, true, false, List, [], ◌∷◌, length, refl, sym, ap, ◌∙◌, subst, length-append, arith}
 use Rattle.std.specs.List.{All}
 use Rattle.std.proofs.lemmas.List.Elements.{All-nil, All-push}
 use Rattle.click_router.specs.declared.call.Call.{Call}
@@ -8,7 +8,7 @@ use Rattle.click_router.specs.declared.call.Reply.{Reply}
 use Rattle.click_desk.specs.Sittings.{Sitting}
 use Rattle.click_control.specs.Serving.{Turned, not_yet, once_more}
 use Rattle.click_workers.specs.Gates.{place, AsksGate, TellsGate}
-use Rattle.click_workers.specs.Work.{Drives, TakesTurn, IsAsked}
+use Rattle.click_workers.specs.Work.{Drives, Stops, TakesTurn}
 
 module _ {G : Type 0} (gives : G → ℕ → ℕ → Bool → Type 0) (told : G → ℕ → ℕ → Type 0) (gate : G) (who : ℕ) where
   pub none-driven : (s : Sitting) → s.calls ≡ [] → Drives gives told gate who 0 s true
@@ -36,9 +36,14 @@ module _ {G : Type 0} (gives : G → ℕ → ℕ → Bool → Type 0) (told : G 
         stopped = λ e. absurd cc;
       }
 
+  stops-same : (nth : ℕ) (old new : Sitting) → Stops gives gate who nth old new → new.calls ≡ old.calls
+  stops-same nth old new (inl h) = ap (λ (t : Sitting). t.calls) h.1
+  stops-same nth old new (inr h) = h.2.1.calls
+
   pub held-back : (n rounds : ℕ) (old new : Sitting) → Drives gives told gate who n old true → n < rounds → TakesTurn gives told gate who (n + 1) old new false
       → Drives gives told gate who rounds new false
-  held-back n rounds old new d less (same, held) =
+  held-back n rounds old new d less held =
+      let same = stops-same (n + 1) old new held in
       let before : length old.calls ≡ n = d.full.0 refl in
       let many : length new.calls ≡ n = ap length same ∙ before in
       record {
@@ -46,5 +51,5 @@ module _ {G : Type 0} (gives : G → ℕ → ℕ → Bool → Type 0) (told : G 
         within = omega (arith, many, less);
         full = (λ e. absurd cc, λ e. absurd (omega (arith, many, less, e)));
         turned = subst (λ k. Turned (AsksGate gives) (TellsGate told) (place gate who) k (place gate who)) (sym (ap length same)) d.turned;
-        stopped = λ e. subst (λ k. IsAsked gives gate who (k + 1)) (sym many) held;
+        stopped = λ e. (old, subst (λ k. Stops gives gate who (k + 1) old new) (sym many) held);
       }

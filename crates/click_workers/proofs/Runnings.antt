@@ -18,7 +18,7 @@ use Rattle.click_desk.specs.declared.open.OpenFault.{OpenFault}
 use Rattle.click_desk.specs.declared.open.OpenFault.TheVariants as told
 use Rattle.click_workers.specs.declared.runs.RunFault.{RunFault}
 use Rattle.click_workers.specs.declared.runs.RunFault.TheVariants as run
-use Rattle.click_workers.specs.Runs.{Headline, IsTrueFault, IsLate, entries_of}
+use Rattle.click_workers.specs.Runs.{Headline, IsOpenedWith, IsTrueFault, IsLate, entries_of}
 
 none-named : (taps : List Drawing) → map name_of taps ≡ [] → taps ≡ []
 none-named [] e = refl
@@ -31,9 +31,9 @@ no-feeds desk seats book some all closes =
     none-named book.taps (sym (closes.feeds blank) ∙ (all 0 blank some).1)
 
 -- what a closed desk's book says of the text that it was opened with
-pub headline-of : (text : List ℕ) (room n : ℕ) (desk : DeskName) (seats : List Sitting) (book : Booklet)
-    → desk.terms ≡ record { opening = text; room = room; seats = n } → 0 < length seats → All (IsOf desk) seats → IsEachOnce desk.terms.seats seats → Closes desk seats book → Headline text n book
-headline-of text room n desk seats book terms some all once closes = record {
+pub headline-of : (text : List ℕ) (n : ℕ) (desk : DeskName) (seats : List Sitting) (book : Booklet) → IsOpenedWith text n desk → 0 < length seats → All (IsOf desk) seats
+    → IsEachOnce desk.terms.seats seats → Closes desk seats book → Headline text n book
+headline-of text n desk seats book terms some all once closes = record {
   opening = closes.opening ∙ ap (λ (t : Terms). t.opening) terms;
   replayed = closes.replayed;
   lawful = closes.lawful;
@@ -42,6 +42,8 @@ headline-of text room n desk seats book terms some all once closes = record {
       (subst (λ (l : List Sitting). IsEachOnce desk.terms.seats l) (sym closes.seats_are) once);
   numbered = subst (λ (l : List Sitting). All (λ e. count_by (λ s. s.number == e.seat) l ≡ 1) book.entries) (sym closes.seats_are) closes.numbered;
   no_feeds = no-feeds desk seats book some all closes;
+  terms = subst (λ (l : List Sitting). All (λ (s : Sitting). IsOpenedWith text n s.desk) l) (sym closes.seats_are)
+      (λ k s below. ap (λ (d : DeskName). d.terms) (all k s below).0 ∙ terms);
 }
 
 -- a fault that the opening told is the text's first, also as the run tells it

@@ -9,7 +9,7 @@ use Rattle.click_router.specs.declared.fault.FaultKind.TheVariants as kind
 use Rattle.click_desk.specs.Booklet.{Booklet}
 use Rattle.click_desk.specs.History.{Legal, EachLawful, installs, entry, entries}
 use Rattle.click_desk.specs.Closing.{IsEntered, IsEachOnce}
-use Rattle.click_desk.specs.Sittings.{Sitting, new_seat}
+use Rattle.click_desk.specs.Sittings.{DeskName, Sitting, new_seat}
 use Rattle.click_desk.specs.declared.entry.Entry.{Entry}
 use Rattle.click_desk.specs.declared.open.OpenFault.{OpenFault}
 use Rattle.click_desk.specs.declared.open.OpenFault.TheVariants as refused
@@ -21,9 +21,13 @@ use Rattle.click_workers.specs.Seats.{SeatServes}
 use Rattle.click_workers.specs.declared.runs.RunFault.{RunFault}
 use Rattle.click_workers.specs.declared.runs.RunFault.TheVariants as fault
 
+-- the desk was opened with this text and this many seats, and its history has room for 1,048,576 entries
+abbrev pub IsOpenedWith : List ℕ → ℕ → DeskName → Type 0
+IsOpenedWith text n desk = desk.terms ≡ record { opening = text; room = 1048576; seats = n }
+
 -- The book is a history of one thread from this text, of so many seats: made one after another from what the text opens, its calls get just their replies and
 -- lead to its router, and every configuration that was installed is lawful. It has of each seat just the calls that the seat made, in their order and with
--- the replies that it got, each number is that of one seat, and each entry is of one of them. It has no feeds.
+-- the replies that it got, each number is that of one seat, and each entry is of one of them. It has no feeds. Every seat's desk was opened with this text, the room of a run and so many seats.
 pub record Headline (text : List ℕ) (n : ℕ) (book : Booklet) : Type 0 where
   pub opening : book.opening ≡ text
   pub replayed : Legal book.opening book.entries book.router
@@ -32,6 +36,7 @@ pub record Headline (text : List ℕ) (n : ℕ) (book : Booklet) : Type 0 where
   pub once : IsEachOnce n book.seats
   pub numbered : All (λ e. count_by (λ s. s.number == e.seat) book.seats ≡ 1) book.entries
   pub no_feeds : book.taps ≡ []
+  pub terms : All (λ s. IsOpenedWith text n s.desk) book.seats
 
 -- of the seats behind those of the sessions the book has Rounds alone
 abbrev pub DriversRound : ℕ → Booklet → Type 0

@@ -3,41 +3,44 @@ use Rattle.std.specs.Prelude.{◌≡◌, ◌⊎◌, ◌↔◌, ℕ, zero, suc, �
 use Rattle.std.specs.List.{All}
 use Rattle.click_router.specs.declared.call.Call.TheVariants as call
 use Rattle.click_router.specs.declared.call.Reply.{Reply}
-use Rattle.click_desk.specs.Sittings.{DeskName, Sitting, new_seat, seats_below}
+use Rattle.click_desk.specs.declared.booked.DeskFault.{DeskFault}
+use Rattle.click_desk.specs.Sittings.{DeskName, Sitting, IsRefused, new_seat, seats_below}
 use Rattle.click_control.specs.Peers.{Input, Output}
 use Rattle.click_control.specs.Serving.{Turned, WentThrough, most_reads}
 use Rattle.click_workers.specs.Gates.{Place, place, AsksGate, TellsGate}
-use Rattle.click_workers.specs.Seats.{SeatServes}
+use Rattle.click_workers.specs.Seats.{SameSeat, SeatServes}
 use Rattle.click_workers.specs.declared.session.SessionEnd.{SessionEnd}
 use Rattle.click_workers.specs.declared.session.SessionEnd.TheVariants as end
 
--- the gate was asked for this turn, and refused it or gave it
-abbrev pub IsAsked : {G : Type 0} → (G → ℕ → ℕ → Bool → Type 0) → G → ℕ → ℕ → Type 0
-IsAsked gives gate who nth = gives gate who nth false ⊎ gives gate who nth true
+-- Why a driver stops ahead of this Round, and what it did to its seat: the gate refused the turn, and the seat is as it was; or the gate gave it, and the desk refused
+-- the call.
+abbrev pub Stops : {G : Type 0} → (G → ℕ → ℕ → Bool → Type 0) → G → ℕ → ℕ → Sitting → Sitting → Type 0
+Stops gives gate who nth old new =
+    (gives gate who nth false × (new ≡ old)) ⊎ (gives gate who nth true × SameSeat old new × ((fault : DeskFault) × IsRefused old new fault))
 
--- One turn of a driver: the gate gave it, the Round was made, and the gate was told; or the gate was asked for it, and no call was made.
+-- One turn of a driver: the gate gave it, the Round was made, and the gate was told; or it stops, for one of two causes.
 abbrev pub TakesTurn : {G : Type 0} → (G → ℕ → ℕ → Bool → Type 0) → (G → ℕ → ℕ → Type 0) → G → ℕ → ℕ → Sitting → Sitting → Bool → Type 0
 TakesTurn gives told gate who nth old new true =
     gives gate who nth true × told gate who nth × ((reply : Reply) × (new.calls ≡ old.calls ++ (call.Round, reply) ∷ []))
-TakesTurn gives told gate who nth old new false = (new.calls ≡ old.calls) × IsAsked gives gate who nth
+TakesTurn gives told gate who nth old new false = Stops gives gate who nth old new
 
--- A driver's calls are Rounds alone, and it is true exactly where they are so many. Each went through the gate; it stops early only at a turn for which it asked the
--- gate.
+-- A driver's calls are Rounds alone, and it is true exactly where they are so many. Each went through the gate; it stops early only where the gate refuses the next
+-- turn or the desk refuses its Round.
 pub record Drives {G : Type 0} (gives : G → ℕ → ℕ → Bool → Type 0) (told : G → ℕ → ℕ → Type 0) (gate : G) (who rounds : ℕ) (s : Sitting) (all : Bool) : Type 0 where
   pub rounds_alone : All (λ p. p.0 ≡ call.Round) s.calls
   pub within : length s.calls ≤ rounds
   pub full : (all ≡ true) ↔ (length s.calls ≡ rounds)
   pub turned : Turned (AsksGate gives) (TellsGate told) (place gate who) (length s.calls) (place gate who)
-  pub stopped : all ≡ false → IsAsked gives gate who (length s.calls + 1)
+  pub stopped : all ≡ false → (before : Sitting) × Stops gives gate who (length s.calls + 1) before s
 
--- What came of a session: the door did not let it in and it made no call, or the door let it in under its number and it was served over the seat, with its turns at
--- the gate.
+-- What came of a session: the door did not let it in and it made no call, or the door let it in under its number with a reader and a writer, and it was served with
+-- these over the seat, with its turns at the gate; `gone` and `wrote` are the reader and the writer after it.
 abbrev pub Attends : {D Rd Wr G : Type 0} → (D → ℕ → Option (Rd × Wr) → Type 0) → (Rd → Input) → (Wr → Output) → (G → ℕ → ℕ → Bool → Type 0) → (G → ℕ → ℕ → Type 0)
     → D → G → Bool → ℕ → Sitting → Sitting → SessionEnd → Type 0
 Attends lets_in input output gives told door gate readonly who old new end.NoEntry = lets_in door who None × (new ≡ old)
 Attends {D} {Rd} {Wr} {G} lets_in input output gives told door gate readonly who old new (end.Served r) =
-    (reader : Rd) × (writer : Wr) × (left : Input) × (holds : Output) × (is : Place G) × lets_in door who (Some (reader, writer))
-    × SeatServes readonly most_reads (WentThrough (AsksGate gives) (TellsGate told) (place gate who) is) old new (input reader) left (output writer) holds r
+    (reader : Rd) × (writer : Wr) × (gone : Rd) × (wrote : Wr) × (is : Place G) × lets_in door who (Some (reader, writer))
+    × SeatServes readonly most_reads (WentThrough (AsksGate gives) (TellsGate told) (place gate who) is) old new (input reader) (input gone) (output writer) (output wrote) r
 
 -- a session is counted from 1, and had the seat of the number before it from its first call on
 abbrev pub Attended : {D Rd Wr G : Type 0} → (D → ℕ → Option (Rd × Wr) → Type 0) → (Rd → Input) → (Wr → Output) → (G → ℕ → ℕ → Bool → Type 0) → (G → ℕ → ℕ → Type 0)

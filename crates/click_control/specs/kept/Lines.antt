@@ -44,9 +44,11 @@ end_length (e ∷ b ∷ bs) = if nat_eq e 13 && nat_eq b 10 then 2 else 1
 abbrev pub Waits : Reading → List ℕ → ℕ → Type 0
 Waits r bytes wanted = (more : List ℕ) → length bytes + length more < wanted → commands_from r (bytes ++ more) ≡ []
 
--- The place is one of the bytes; so many bytes from it on hold no line end; and so many are wanted for the next command.
+-- The place is one of the bytes, with as many of them before it as behind it at most; so many bytes from it on hold no line end; and so many are wanted for the next
+-- command.
 pub record IsPlaced (at searched wanted : ℕ) (r : Reading) (bytes : List ℕ) : Type 0 where
   pub within : at + searched ≤ length bytes
+  pub kept : at + at ≤ length bytes
   pub no_end : HasNoEnd (take searched (drop at bytes))
   pub waits : Waits r (drop at bytes) wanted
 

@@ -43,7 +43,7 @@ pub fn read_byte_count(
 /// `reset_counts`: both counts are 0.
 pub fn reset_counter(_alloc: Global, element: Element, text: &[u8]) -> Written
     requires { class element.state ≡ is.Counter }
-    ensures { IsWriteAnswer element (write_value (codes "reset_counts") element text.now) result }
+    ensures { IsWriteAnswer (codes "reset_counts") element text.now result }
 {
     let mut element = element;
     match &mut element.state {

@@ -89,7 +89,7 @@ fn resize(
 /// `capacity`: decimal digits, from 1 to 10,000. Where there are more packets the first stay, and the others are counted as drops.
 pub fn write_capacity(alloc: Global, element: Element, text: &[u8]) -> Written
     requires { IsSome (queue_of element.state) }
-    ensures { IsWriteAnswer element (write_value (codes "capacity") element text.now) result }
+    ensures { IsWriteAnswer (codes "capacity") element text.now result }
 {
     let capacity = match number_from(trimmed(text), 1, 10_000) {
         Ok(capacity) => capacity,
@@ -119,7 +119,7 @@ fn reset_counts(list: &PacketList, drops: &mut u64, highest: &mut usize)
 /// `reset_counts`: no drops, and the greatest length is the length.
 pub fn reset_queue_counts(_alloc: Global, element: Element, text: &[u8]) -> Written
     requires { IsSome (queue_of element.state) }
-    ensures { IsWriteAnswer element (write_value (codes "reset_counts") element text.now) result }
+    ensures { IsWriteAnswer (codes "reset_counts") element text.now result }
 {
     let mut element = element;
     match &mut element.state {
@@ -141,7 +141,7 @@ pub fn reset_queue_counts(_alloc: Global, element: Element, text: &[u8]) -> Writ
 /// `reset`: no packets. Drops and the greatest length stay.
 pub fn reset_queue(_alloc: Global, element: Element, text: &[u8]) -> Written
     requires { IsSome (queue_of element.state) }
-    ensures { IsWriteAnswer element (write_value (codes "reset") element text.now) result }
+    ensures { IsWriteAnswer (codes "reset") element text.now result }
 {
     let mut element = element;
     match &mut element.state {

@@ -48,7 +48,7 @@ pub fn read_source_count(
 /// `active`: a truth value.
 pub fn write_source_active(_alloc: Global, element: Element, text: &[u8]) -> Written
     requires { class element.state ≡ is.InfiniteSource }
-    ensures { IsWriteAnswer element (write_value (codes "active") element text.now) result }
+    ensures { IsWriteAnswer (codes "active") element text.now result }
 {
     let flag = match written_flag(trimmed(text)) {
         Ok(flag) => flag,
@@ -65,7 +65,7 @@ pub fn write_source_active(_alloc: Global, element: Element, text: &[u8]) -> Wri
 /// `reset`: there were no packets yet.
 pub fn reset_source(_alloc: Global, element: Element, text: &[u8]) -> Written
     requires { class element.state ≡ is.InfiniteSource }
-    ensures { IsWriteAnswer element (write_value (codes "reset") element text.now) result }
+    ensures { IsWriteAnswer (codes "reset") element text.now result }
 {
     let mut element = element;
     match &mut element.state {

@@ -1,9 +1,9 @@
 //! The handlers of Suppressor's ports.
 
-ghost use Rattle.std.specs.Prelude.{◌≡◌, ◌<◌};
+ghost use Rattle.std.specs.Prelude.{◌≡◌, ◌<◌, false};
 ghost use Rattle.click_classes.specs.State.{class};
 ghost use Rattle.click_classes.specs.declared.class.Class.TheVariants as is;
-ghost use Rattle.click_handlers.specs.Answers.{IsReadAnswer, IsWriteAnswer};
+ghost use Rattle.click_handlers.specs.Answers.{IsReadAnswer, IsWriteAnswer, IsWritten};
 ghost use Rattle.click_handlers.specs.Names.{active_name, active_port};
 ghost use Rattle.click_handlers.specs.Reads.{read_value};
 ghost use Rattle.click_handlers.specs.Writes.{write_value};
@@ -54,7 +54,7 @@ pub fn read_active(
 fn write_port(element: Element, text: &[u8], port: u16) -> Written
     requires class { class element.state ≡ is.Suppressor }
     requires port { port < 16 }
-    ensures { (name : _) → active_port name ≡ port → IsWriteAnswer element (write_value name element text.now) result }
+    ensures { (name : _) → active_port name ≡ port → IsWritten false element (write_value name element text.now) result }
 {
     if port >= element.inputs {
         return refused(element, HandlerFault::OutOfRange);
@@ -75,7 +75,7 @@ fn write_port(element: Element, text: &[u8], port: u16) -> Written
 pub fn write_active(element: Element, text: &[u8], port: u16) -> Written
     requires class { class element.state ≡ is.Suppressor }
     requires port { port < 16 }
-    ensures { IsWriteAnswer element (write_value (active_name port) element text.now) result }
+    ensures { IsWriteAnswer (active_name port) element text.now result }
 {
     write_port(element, text, port)
 }

@@ -44,7 +44,7 @@ pub fn read_pull_switch(
 /// `switch` of a Switch: -1, or decimal digits below the number of outputs.
 pub fn write_switch(_alloc: Global, element: Element, text: &[u8]) -> Written
     requires { class element.state ≡ is.Switch }
-    ensures { IsWriteAnswer element (write_value (codes "switch") element text.now) result }
+    ensures { IsWriteAnswer (codes "switch") element text.now result }
 {
     let port = match written_port(trimmed(text), element.outputs) {
         Ok(port) => port,
@@ -61,7 +61,7 @@ pub fn write_switch(_alloc: Global, element: Element, text: &[u8]) -> Written
 /// `switch` of a PullSwitch: -1, or decimal digits below the number of inputs.
 pub fn write_pull_switch(_alloc: Global, element: Element, text: &[u8]) -> Written
     requires { class element.state ≡ is.PullSwitch }
-    ensures { IsWriteAnswer element (write_value (codes "switch") element text.now) result }
+    ensures { IsWriteAnswer (codes "switch") element text.now result }
 {
     let port = match written_port(trimmed(text), element.inputs) {
         Ok(port) => port,

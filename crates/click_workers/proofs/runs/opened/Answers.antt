@@ -1,4 +1,4 @@
-use Rattle.std.proofs.Common.{List, subst}
+use Rattle.std.proofs.Common.{List, ap, subst}
 use Rattle.click_rings.specs.Feeds.{FeedName}
 use Rattle.click_desk.specs.Openings.{IsOpenFault}
 use Rattle.click_workers.proofs.Runnings.{true-fault}
@@ -8,3 +8,6 @@ pub returns-in-Err-clause-config : goal.returns-in-Err-clause-config
 returns-in-Err-clause-config g c =
     true-fault c.args.seats c.args.text.now c.in-Err.refused.fault c.fault_of.result c.fault_of.ensures.config
     (subst (λ (l : List FeedName). IsOpenFault c.args.seats l c.args.text.now c.in-Err.refused.fault) c.new.ensures.items c.in-Err.ensures.fault)
+
+pub returns-in-Ok-clause-many : goal.returns-in-Ok-clause-many
+returns-in-Ok-clause-many g c = ap (λ t. t.seats) c.in-Ok.ensures.desk

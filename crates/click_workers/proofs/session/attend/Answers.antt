@@ -8,8 +8,8 @@ pub returns-clause-attends : goal.returns-clause-attends
 returns-clause-attends g c = (
   c.in-Some.reader,
   c.in-Some.writer,
-  g.D.Reader.Source.input c.serve_at-ended.new.reader,
-  g.D.Writer.Sink.output c.serve_at-ended.new.writer,
+  c.serve_at-ended.new.reader,
+  c.serve_at-ended.new.writer,
   c.serve_at-ended.new.turns,
   c.in-Some.ensures,
   subst (λ p. SeatServes c.args.readonly most_reads (WentThrough (AsksGate g.G.Gate.gives) (TellsGate g.G.Gate.told) p c.serve_at-ended.new.turns)

@@ -1,0 +1,5 @@
+use Rattle.click_classes.proofs.WrittenValues.{address-read}
+use Rattle.click_classes.proofs.value_laws.four_numbers_joined_by_points_are_an_address.Goals as goal
+
+pub returns : goal.returns
+returns c = address-read
