@@ -45,10 +45,14 @@ wrong_arguments -x
 wrong_arguments -e '' --readonly=1
 wrong_arguments -e '' --readonly --readonly
 wrong_arguments --help
-for words in '-p' '-p 0' '-p 65536' '-p x' '-n 0' '-n 65' '-n 1 -n 1' '-w 17' '-w -1' '--rounds 1000001' '--rounds 1.5' '--rounds'; do
+for words in '-p' '-p 0' '-p 65536' '-p x' '-n 0' '-n 65' '-n 1 -n 1' '-w 17' '-w -1' '--rounds 1000001' '--rounds 1.5' '--rounds' \
+    '-p +7777' '-n +1' '-w +1' '--rounds +2' '--rounds=+2' '-w -0' '-w 0x1'; do
     # shellcheck disable=SC2086 # several words
     wrong_arguments -e '' $words
 done
+wrong_arguments -e '' -w +1
+printf "click_prog: '+1' is no number in decimal digits\n" > "$work/wanted"
+same_bytes "$work/wanted" "$work/err" 'a number with a sign'
 wrong_arguments -e $'\xff'
 printf 'click_prog: an argument is not UTF-8\n' > "$work/wanted"
 same_bytes "$work/wanted" "$work/err" 'an argument that is no text'

@@ -7,6 +7,8 @@ use Rattle.click_router.specs.declared.call.Call.{Call}
 use Rattle.click_router.specs.declared.call.Refusal.{Refusal}
 use Rattle.click_router.specs.declared.call.Reply.{Reply}
 use Rattle.click_router.specs.declared.call.Reply.TheVariants as reply
+use Rattle.click_router.specs.InOrder.{IsInOrder}
+use Rattle.click_router.proofs.InOrder.{opened-in-order, answered-in-order}
 use Rattle.click_router.proofs.Opens.{opened_once}
 use Rattle.click_router.proofs.Outcomes.{done, unchanged, one_answer}
 use Rattle.click_desk.specs.declared.entry.Entry.{Entry}
@@ -69,3 +71,11 @@ ends_once r s (e ∷ es) t u is h k =
 
 pub one_state : (text : List ℕ) (history : List Entry) (s t : RouterState) → Legal text history s → Legal text history t → s ≡ t
 one_state text history s t h k = ends_once h.0 k.0 history s t (opened_once text h.0 k.0 h.1 k.1) h.2 k.2
+
+-- each state of a history is in order
+replayed-in-order : (s : RouterState) (es : List Entry) (last : RouterState) → IsInOrder s → Replays s es last → IsInOrder last
+replayed-in-order s [] last o h = subst IsInOrder h o
+replayed-in-order s (e ∷ es) last o h = replayed-in-order h.0 es last (answered-in-order s h.0 e.call e.reply o h.1) h.2
+
+pub ends-in-order : (text : List ℕ) (history : List Entry) (state : RouterState) → Legal text history state → IsInOrder state
+ends-in-order text history state h = replayed-in-order h.0 history state (opened-in-order text h.0 h.1) h.2

@@ -1,6 +1,7 @@
 //! What holds of the definitions, in the desk's words.
 
 ghost use Rattle.std.specs.Prelude.{◌≡◌, ◌++◌, ◌∷◌, ℕ, List, Some};
+ghost use Rattle.click_router.specs.InOrder.{IsInOrder};
 ghost use Rattle.click_router.specs.One.{swap_text};
 ghost use Rattle.click_router.specs.State.{RouterState};
 ghost use Rattle.click_router.specs.declared.call.Refusal.{Refusal};
@@ -22,4 +23,9 @@ pub fn refused_swaps_leave_no_trace()
 /// A history leads to one state.
 pub fn histories_lead_to_one_state()
     ensures { (text : List ℕ) (history : List Entry) (s t : RouterState) → Legal text history s → Legal text history t → s ≡ t }
+{}
+
+/// A history ends in a router that is in order: its net is lawful, its elements fit their ports, and no queue holds more than it has room for.
+pub fn histories_end_in_order()
+    ensures { (text : List ℕ) (history : List Entry) (state : RouterState) → Legal text history state → IsInOrder state }
 {}

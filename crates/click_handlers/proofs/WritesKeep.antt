@@ -1,5 +1,5 @@
 -- What a write keeps of an element.
-use Rattle.std.proofs.Common.{◌≡◌, ℕ, ◌+◌, ◌<◌, ◌≤◌, min, List, length, take, slice_set, Bool, true, false, nat_lt, if◌then◌else◌, Option, Some, None, Result, Ok, Err, codes, refl, sym, ap, ◌∙◌, subst, arith}
+use Rattle.std.proofs.Common.{◌≡◌, ℕ, ◌≤◌, List, length, slice_set, Bool, true, false, nat_lt, if◌then◌else◌, Option, Some, None, Result, Ok, Err, codes, refl, sym, ap, ◌∙◌, subst, arith}
 use Rattle.std.specs.Str.{bytes_eq}
 use Rattle.std.proofs.lemmas.Bool.Decides.{nat_tests}
 use Rattle.std.proofs.lemmas.List.{length-take}
@@ -13,7 +13,7 @@ use Rattle.click_classes.specs.declared.state.State.TheVariants as state
 use Rattle.click_engine.specs.declared.world.Element.{Element}
 use Rattle.click_handlers.specs.Blanks.{trimmed}
 use Rattle.click_handlers.specs.Names.{active_port}
-use Rattle.click_handlers.specs.Writes.{number_from, port_below, written_port, written_flag, resized, with_capacity, without_counts, emptied, write_queue, as_state, write_active, write_state, with_state, write_value}
+use Rattle.click_handlers.specs.Writes.{number_from, port_below, written_port, written_flag, resized, with_capacity, without_counts, emptied, write_queue, as_state, write_state, with_state, write_value}
 use Rattle.click_handlers.specs.declared.fault.HandlerFault.{HandlerFault}
 use Rattle.click_handlers.specs.declared.fault.HandlerFault.TheVariants as fault
 

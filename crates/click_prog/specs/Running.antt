@@ -69,3 +69,14 @@ fresh_input bytes = record { remaining = bytes; failed = false; reads = 0 }
 
 abbrev pub fresh_output : Option (List ℕ) → Output
 fresh_output bytes = record { contents = bytes; failed = false }
+
+-- a run over the text with some reader and some writer that were fresh
+abbrev pub RunsAlone : List ℕ → Bool → Status → Type 0
+RunsAlone text readonly s =
+    (input : Option (List ℕ)) × (output : Option (List ℕ)) × (left : Input) × (holds : Output) × RunsTo text readonly (fresh_input input) left (fresh_output output) holds s
+
+-- a run of sessions and drivers as a plan has them, at some door of this kind
+abbrev pub PlanRunsTo : {D Rd Wr G : Type 0} → (D → ℕ → Option (Rd × Wr) → Type 0) → (Rd → Input) → (Wr → Output) → (G → ℕ → ℕ → Bool → Type 0) → (G → ℕ → ℕ → Type 0)
+    → Planned → List ℕ → Status → Type 0
+PlanRunsTo {D} {Rd} {Wr} {G} lets_in input output gives told plan text s =
+    (door : D) × AllRunTo lets_in input output gives told door plan.readonly text plan.sessions plan.workers plan.rounds s

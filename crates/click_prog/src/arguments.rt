@@ -1,7 +1,13 @@
 //! The program's command line.
 
-ghost use Rattle.std.specs.Prelude.{◌≡◌, ◌≤◌, IfOk, IfSome, codes, false, is_some, true};
-ghost use Rattle.clap.specs.Built.{IsPlainArg, TakesValue};
+ghost use Rattle.std.specs.Prelude.{◌≡◌, ◌≤◌, IfOk, IfErr, IfSome, MatchOption, codes, false, is_some, true, option_map};
+ghost use Rattle.std.specs.Char.{is_ascii_digit};
+ghost use Rattle.std.specs.List.{list_all};
+ghost use Rattle.clap.specs.Built.{IsPlainArg, IsParsedFrom, TakesValue};
+ghost use Rattle.clap.specs.Matches.{first_value, found_of};
+ghost use Rattle.clap.specs.declared.builder.command.Command.{Command};
+ghost use Rattle.clap.specs.declared.parser.matches.ArgMatches.{ArgMatches};
+ghost use Rattle.click_prog.specs.Asked.{AsksFor, IsGiven, IsGivenOr, IsInRanges, IsMistyped, IsNoNumber, IsNumber};
 
 use clap::builder::ValueParser;
 use clap::{Arg, ArgAction, ArgMatches, Command, Error};
@@ -24,12 +30,33 @@ pub struct Options<'a> {
     pub rounds: u64,
 }
 
-/// What the words of a command line ask for, or what clap has to say of them. `-e` takes the next word whatever it is.
-pub fn options_of<'a>(alloc: Global, words: &'a [String]) -> Result<Options<'a>, Error>
-    // Where clap has nothing to say there is a text.
+/// Why a command line is refused.
+#[derive(Drop)]
+pub enum Refusal<'a> {
+    /// What clap has to say of it; help is asked for so too.
+    Clap(Error),
+    /// This is to be a number, and is not written in decimal digits alone.
+    NoNumber(&'a str),
+}
+
+/// What the words of a command line ask for, or why they are refused. `-e` takes the next word whatever it is.
+pub fn options_of<'a>(alloc: Global, words: &'a [String]) -> Result<Options<'a>, Refusal<'a>>
+    // Where they are not refused there is a text.
     ensures text { IfOk result (λ options. is_some options.text ≡ true) }
     ensures port { IfOk result (λ options. IfSome options.port (λ port. 1 ≤ port)) }
-    ensures ranges { IfOk result (λ options. (1 ≤ options.sessions) × (options.sessions ≤ 64) × (options.workers ≤ 16) × (options.rounds ≤ 1000000)) }
+    ensures ranges { IfOk result IsInRanges }
+    ensures asked { IfOk result (λ options. (command : Command) × (matches : ArgMatches) × IsParsedFrom command matches × AsksFor (found_of matches) options) }
+{
+    match parsed(alloc, words) {
+        Ok(matches) => options_in(&matches),
+        Err(error) => Err(Refusal::Clap(error)),
+    }
+}
+
+/// What clap finds in the words.
+fn parsed<'a>(alloc: Global, words: &'a [String]) -> Result<ArgMatches<'a>, Error>
+    ensures text { IfOk result (λ matches. is_some (first_value (found_of matches) (codes "text")) ≡ true) }
+    ensures parsed { IfOk result (λ matches. (command : Command) × IsParsedFrom command matches) }
 {
     let port = number(alloc, "port", "PORT", 1, 65_535).short('p').help(
         "Listens on this port of 127.0.0.1, not on standard input (1 to 65535)",
@@ -53,13 +80,20 @@ pub fn options_of<'a>(alloc: Global, words: &'a [String]) -> Result<Options<'a>,
         .arg(rounds)?
         .arg(readonly_argument(alloc))?;
     let matches = command.try_get_matches_from(words)?;
+    Ok(matches)
+}
+
+/// What was found in the words.
+fn options_in<'a>(matches: &ArgMatches<'a>) -> Result<Options<'a>, Refusal<'a>>
+    ensures { IfOk result (AsksFor (found_of matches.now)) }
+{
     Ok(Options {
         text: matches.get_str("text"),
         readonly: matches.get_flag("readonly"),
-        port: port_of(&matches),
-        sessions: number_of(&matches, "sessions", 1, 64, 1) as usize,
-        workers: number_of(&matches, "workers", 0, 16, 0) as usize,
-        rounds: number_of(&matches, "number", 0, 1_000_000, 1_000),
+        port: port_of(matches)?,
+        sessions: number_of(matches, "sessions", 1, 64, 1)? as usize,
+        workers: number_of(matches, "workers", 0, 16, 0)? as usize,
+        rounds: number_of(matches, "number", 0, 1_000_000, 1_000)?,
     })
 }
 
@@ -98,28 +132,70 @@ fn number<'a>(alloc: Global, id: &'a str, name: &'a str, least: u64, most: u64) 
 }
 
 /// The port to listen on, if one was given.
-fn port_of(matches: &ArgMatches) -> Option<u16>
-    ensures { IfSome result (λ port. 1 ≤ port) }
+fn port_of<'a>(matches: &ArgMatches<'a>) -> Result<Option<u16>, Refusal<'a>>
+    ensures given { IfOk result (IsGiven 1 65535 (first_value (found_of matches.now) (codes "port"))) }
+    ensures mistyped { IfErr result (λ _. IsMistyped 1 65535 (first_value (found_of matches.now) (codes "port"))) }
 {
-    let port = given(matches, "port", 1, 65_535)?;
-    Some(port as u16)
+    match given(matches, "port", 1, 65_535)? {
+        Some(port) => Ok(Some(port as u16)),
+        None => Ok(None),
+    }
 }
 
 /// The number that was given, or the usual one.
-fn number_of(matches: &ArgMatches, id: &str, least: u64, most: u64, usual: u64) -> u64
+fn number_of<'a>(
+    matches: &ArgMatches<'a>,
+    id: &str,
+    least: u64,
+    most: u64,
+    usual: u64,
+) -> Result<u64, Refusal<'a>>
     requires { (least ≤ usual) × (usual ≤ most) }
-    ensures { (least ≤ result) × (result ≤ most) }
+    ensures range { IfOk result (λ n. (least ≤ n) × (n ≤ most)) }
+    ensures given { IfOk result (IsGivenOr least most usual (first_value (found_of matches.now) id.now)) }
+    ensures mistyped { IfErr result (λ _. IsMistyped least most (first_value (found_of matches.now) id.now)) }
 {
-    given(matches, id, least, most).unwrap_or(usual)
+    match given(matches, id, least, most)? {
+        Some(number) => Ok(number),
+        None => Ok(usual),
+    }
 }
 
 /// The number that was given, if one was.
-fn given(matches: &ArgMatches, id: &str, least: u64, most: u64) -> Option<u64>
-    ensures { IfSome result (λ number. (least ≤ number) × (number ≤ most)) }
+fn given<'a>(
+    matches: &ArgMatches<'a>,
+    id: &str,
+    least: u64,
+    most: u64,
+) -> Result<Option<u64>, Refusal<'a>>
+    ensures given { IfOk result (IsGiven least most (first_value (found_of matches.now) id.now)) }
+    ensures mistyped { IfErr result (λ _. IsMistyped least most (first_value (found_of matches.now) id.now)) }
 {
-    match matches.get_one::<u64>(id) {
-        // Clap has refused each other number.
-        Some(number) if least <= number && number <= most => Some(number),
+    let Some(text) = matches.get_str(id) else {
+        return Ok(None);
+    };
+    match number_in(text, least, most) {
+        Some(number) => Ok(Some(number)),
+        None => Err(Refusal::NoNumber(text)),
+    }
+}
+
+/// The number that a text is in decimal digits alone. Clap takes a sign too, and has refused each that is not in the range.
+fn number_in(text: &str, least: u64, most: u64) -> Option<u64>
+    ensures { MatchOption result (IsNoNumber least most text.now) (IsNumber least most text.now) }
+{
+    if !are_digits(text.as_bytes()) {
+        return None;
+    }
+    match text.parse::<u64>() {
+        Ok(number) if least <= number && number <= most => Some(number),
         _ => None,
     }
+}
+
+/// The bytes are all decimal digits.
+fn are_digits(bytes: &[u8]) -> bool
+    ensures { result ≡ list_all is_ascii_digit bytes.now }
+{
+    bytes.iter().all(|byte| byte.is_ascii_digit())
 }

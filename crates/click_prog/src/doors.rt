@@ -4,7 +4,7 @@ use click_control::{Reading, Writing};
 use click_workers::Door;
 use std::io::{Stdin, Stdout};
 
-/// Standard input and output, for the first session alone.
+/// Standard input and output, for the first session alone: it has them as they are, watched from then on.
 #[derive(Drop)]
 pub struct Standard {
     input: Stdin,
@@ -18,9 +18,10 @@ impl Standard {
 }
 
 impl Door for Standard {
-    ghost use Rattle.std.specs.Prelude.{◌≡◌, None};
+    ghost use Rattle.std.specs.Prelude.{◌≡◌, Some, None, false};
 
-    ghost lets_in = { λ _ who got. (who ≡ 1 → ⊥) → got ≡ None };
+    ghost lets_in = { λ door who got. (who ≡ 1 → got ≡ Some (record { device = door.input; failed = false; reads = 0 }, record { device = door.output; failed = false }))
+        × ((who ≡ 1 → ⊥) → got ≡ None) };
 
     type Reader = Reading<Stdin>;
 

@@ -1,15 +1,18 @@
 //! The router as a program: control sessions, on standard input and output or over TCP, with drivers beside them.
 #![tactic(auto)]
 
+ghost use Rattle.std.specs.Prelude.{◌≡◌, ◌∷◌, []};
+ghost use Rattle.std.specs.Net.Addr.{ipv4_octets};
+
 mod arguments;
 mod doors;
 mod serving;
 mod status;
 
-use arguments::options_of;
+use arguments::{Refusal, options_of};
 use clap::error::ErrorKind;
 use click_handlers::with_table;
-use serving::{Comes, Plan, Serving};
+use serving::{Comes, Plan, Serving, plan_of};
 use status::{Status, of_unread};
 use std::net::{Ipv4Addr, Net, TcpListener, TcpStream};
 use std::process::ExitCode;
@@ -35,27 +38,14 @@ fn program<R: Threads + Wait + Net<Listener = TcpListener, Stream = TcpStream> +
         return Status::NoMemory;
     };
     match options_of(alloc, words.as_slice()) {
-        Ok(options) => {
-            // Where no port is given there is one session.
-            let sessions = match options.port {
-                None => 1,
-                Some(_) => options.sessions,
-            };
-            let plan = Plan::new(sessions, options.workers, options.rounds, options.readonly);
-            serve(
-                rt,
-                host,
-                options.text.unwrap().as_bytes(),
-                plan,
-                options.port,
-            )
-        }
-        Err(error) if error.kind() == ErrorKind::OutOfMemory => Status::NoMemory,
-        Err(error) => {
-            // A failed write changes nothing of the status.
-            let _ = host.eprint(&error);
-            Status::WrongArguments
-        }
+        Ok(options) => serve(
+            rt,
+            host,
+            options.text.unwrap().as_bytes(),
+            plan_of(&options),
+            options.port,
+        ),
+        Err(refusal) => refused(host, &refusal),
     }
 }
 
@@ -69,7 +59,7 @@ fn serve<R: Threads + Wait + Net<Listener = TcpListener, Stream = TcpStream> + S
 ) -> Status {
     let comes = match port {
         None => Comes::Standard,
-        Some(port) => match TcpListener::bind(rt, (Ipv4Addr::LOCALHOST, port)) {
+        Some(port) => match TcpListener::bind(rt, address_of(port)) {
             Ok(listener) => Comes::Over(listener),
             Err(_) => Comes::Nowhere,
         },
@@ -84,6 +74,31 @@ fn serve<R: Threads + Wait + Net<Listener = TcpListener, Stream = TcpStream> + S
         Ok(status) => status,
         Err(_) => Status::NoMemory,
     }
+}
+
+/// Where it listens: on the machine itself alone.
+fn address_of(port: u16) -> (Ipv4Addr, u16)
+    ensures address { ipv4_octets result.0 ≡ 127 ∷ 0 ∷ 0 ∷ 1 ∷ [] }
+    ensures port { result.1 ≡ port }
+{
+    (Ipv4Addr::LOCALHOST, port)
+}
+
+/// Tells why the command line is refused; nothing where memory ran out.
+fn refused(host: &HostRuntime, refusal: &Refusal) -> Status {
+    // A failed write changes nothing of the status.
+    match refusal {
+        Refusal::Clap(error) if error.kind() == ErrorKind::OutOfMemory => {
+            return Status::NoMemory;
+        }
+        Refusal::Clap(error) => {
+            let _ = host.eprint(error);
+        }
+        Refusal::NoNumber(text) => {
+            let _ = eprintln!(host; "click_prog: '{text}' is no number in decimal digits");
+        }
+    }
+    Status::WrongArguments
 }
 
 /// Tells why the words of the command line cannot be read: memory ran out, or one of them is no text.

@@ -2,9 +2,12 @@
 
 ghost use Rattle.std.specs.Prelude.{◌≡◌, ◌++◌, ◌∷◌, ◌+◌, ◌<◌, ◌≤◌, [], OnOk, codes};
 ghost use Rattle.std.specs.Io.KnownBytes.{Appends};
-ghost use Rattle.click_prog.specs.Running.{RunsTo, AllRunTo, fresh_input, fresh_output};
+ghost use Rattle.std.specs.declared.net.TcpListener.{TcpListener};
+ghost use Rattle.click_prog.specs.Asked.{IsInRanges, plan_of};
+ghost use Rattle.click_prog.specs.Running.{RunsTo, RunsAlone, AllRunTo, PlanRunsTo, fresh_input, fresh_output};
 ghost use Rattle.click_prog.specs.Statuses.{fault_status};
 
+use crate::arguments::Options;
 use crate::doors::{Shut, Standard};
 use crate::status::{Status, of_end, of_fault, of_sessions};
 use click_control::{InputDevice, OutputDevice, Reading, Sink, Source, Writing};
@@ -12,9 +15,9 @@ use click_handlers::{Table, TakesTable};
 use click_router::{ConfigFault, Handlers};
 use click_workers::{Door, Gate, Listening, OpenGate, RunFault, run, run_workers};
 use std::alloc::Global;
-use std::io::{self, Write};
+use std::io::{self, Stdin, Stdout, Write};
 use std::marker::Model;
-use std::net::TcpListener;
+use std::net::{TcpListener, TcpStream};
 use std::sync::Wait;
 use std::thread::Threads;
 
@@ -50,6 +53,18 @@ impl Plan {
             readonly,
         }
     }
+}
+
+/// What the options ask for: where they name no port there is one session.
+pub fn plan_of(options: &Options) -> Plan
+    requires { IsInRanges options.now }
+    ensures { result ≡ plan_of options.now }
+{
+    let sessions = match options.port {
+        None => 1,
+        Some(_) => options.sessions,
+    };
+    Plan::new(sessions, options.workers, options.rounds, options.readonly)
 }
 
 /// Serves one session that reads from this device and writes to that one, over the router of the text. The devices come back as the
@@ -198,7 +213,15 @@ fn serve_plan<T: Handlers + Send + Drop, R: Threads + Wait + Sync>(
     text: &[u8],
     plan: Plan,
     comes: Comes,
-) -> Status {
+) -> Status
+    ensures alone { comes ≡ Comes.Standard → plan.workers ≡ 0 → RunsAlone text.now plan.readonly result }
+    ensures standard { comes ≡ Comes.Standard → 0 < plan.workers → PlanRunsTo ⟦<Standard as Door>⟧.lets_in ⟦<Reading<Stdin> as Source>⟧.input ⟦<Writing<Stdout> as Sink>⟧.output
+        ⟦<OpenGate as Gate>⟧.gives ⟦<OpenGate as Gate>⟧.told plan text.now result }
+    ensures over { (listener : TcpListener) → comes ≡ Comes.Over listener → PlanRunsTo ⟦<Listening as Door>⟧.lets_in ⟦<Reading<TcpStream> as Source>⟧.input ⟦<Writing<TcpStream> as Sink>⟧.output
+        ⟦<OpenGate as Gate>⟧.gives ⟦<OpenGate as Gate>⟧.told plan text.now result }
+    ensures nowhere { comes ≡ Comes.Nowhere → PlanRunsTo ⟦<Shut as Door>⟧.lets_in ⟦<Reading<Stdin> as Source>⟧.input ⟦<Writing<Stdout> as Sink>⟧.output
+        ⟦<OpenGate as Gate>⟧.gives ⟦<OpenGate as Gate>⟧.told plan text.now result }
+{
     let alloc = host.alloc();
     let mut errors = host.stderr();
     match comes {

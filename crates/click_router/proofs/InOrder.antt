@@ -1,16 +1,14 @@
 -- A router begins in order, and each call that is answered leaves it so.
-use Rattle.std.proofs.Common.{◌≡◌, ℕ, zero, suc, ◌<◌, List, [], ◌∷◌, length, get_or, map, Bool, true, false, if◌then◌else◌, Option, Some, None, Result, Ok, Err, option_map, slice_get, refl, sym, ap, ◌∙◌, subst, arith}
-use Rattle.std.specs.Prelude.{option_and_then, filter, is_some}
+use Rattle.std.proofs.Common.{◌≡◌, ℕ, zero, suc, List, [], ◌∷◌, length, map, Bool, true, false, if◌then◌else◌, Option, Some, None, Result, Ok, Err, option_map, slice_get, refl, sym, ◌∙◌, subst}
+use Rattle.std.specs.Prelude.{option_and_then, is_some}
 use Rattle.std.specs.List.{All, list_any}
 use Rattle.std.proofs.lemmas.List.{length-map}
 use Rattle.std.proofs.lemmas.List.Elements.{All-nil, All-cons, All-head, All-tail}
 use Rattle.click_packet.specs.Packet.{Packet}
 use Rattle.click_classes.specs.Queues.{IsSound}
-use Rattle.click_classes.specs.Settings.{settings}
 use Rattle.click_classes.specs.State.{class}
 use Rattle.click_classes.specs.declared.state.State.{State}
 use Rattle.click_classes.proofs.Beginning.{fresh-begins, fresh-sound}
-use Rattle.click_expand.specs.declared.flat.Flat.{Flat}
 use Rattle.click_expand.specs.declared.flat.FlatElement.{FlatElement}
 use Rattle.click_ports.specs.Net.{IsLawfulNet, net_of, shape_of}
 use Rattle.click_ports.proofs.Resolved.{joined-within}
@@ -27,12 +25,11 @@ use Rattle.click_handlers.specs.declared.fault.HandlerFault.{HandlerFault}
 use Rattle.click_handlers.proofs.WritesKeep.{element-kept, fits-after}
 use Rattle.click_router.specs.Globals.{global_value}
 use Rattle.click_router.specs.One.{Answers, is_dot, is_hotconfig, place_of, found, before, after, written, write_element, write_found, with_plant, refusal_of, write, arrivals, entered, worked, sent}
-use Rattle.click_router.specs.Opened.{IsBegun, AreFresh, IsOpened}
+use Rattle.click_router.specs.Opened.{AreFresh, IsOpened}
 use Rattle.click_router.specs.State.{RouterState}
 use Rattle.click_router.specs.Swap.{Swaps, installed, refused}
 use Rattle.click_router.specs.declared.call.Call.{Call}
 use Rattle.click_router.specs.declared.call.Call.TheVariants as call
-use Rattle.click_router.specs.declared.call.Refusal.TheVariants as refusal
 use Rattle.click_router.specs.declared.call.Reply.{Reply}
 use Rattle.click_router.specs.declared.call.Reply.TheVariants as reply
 use Rattle.click_router.proofs.Begun.{length_fresh, states_of}

@@ -5,8 +5,8 @@ use Rattle.std.proofs.lemmas.List.Elements.{All-nil, All-cons}
 use Rattle.std.proofs.lemmas.Slice.Eq.{bytes_eq-Decides}
 use Rattle.clap.specs.declared.builder.arg.Arg.{Arg}
 use Rattle.clap.specs.Built.{FitsChain, HasDistinctIds, IsPlainArg}
-use Rattle.clap.proofs.CallerLemmas.{required_in_chain, some_of_text}
-use Rattle.click_prog.proofs.arguments.options_of.Goals as goal
+use Rattle.clap.proofs.CallerLemmas.{required_in_chain}
+use Rattle.click_prog.proofs.arguments.parsed.Goals as goal
 
 -- the first byte of an id, and 0 of the empty one
 abbrev first : List ℕ → ℕ
@@ -97,7 +97,7 @@ returns-clause-text c =
       ),
     ) in
     let new : differ xs ≡ true = rw (t.0, p.0, s.0, w.0, n.0, r.0) refl in
-    let given = required_in_chain c.about.result c.in_ok-command.command xs 0 text c.in_ok-matches.matches (
+    rw (← t.0) (required_in_chain c.about.result c.in_ok-command.command xs 0 text c.in_ok-matches.matches (
       c.in_ok-arg.field-0,
       c.in_ok-arg.ensures,
       (
@@ -111,5 +111,4 @@ returns-clause-text c =
       ),
     )
     (search rules) (search rules) (search rules) (search rules) all (distinct xs new) (omega arith) c.text_argument.ensures.takes
-    c.in_ok-matches.ensures.parsed in
-    some_of_text _ c.get_str.result _ c.get_str.ensures (rw (← t.0) given)
+    c.in_ok-matches.ensures.parsed)
