@@ -10,7 +10,7 @@ pub record IsLineOf (line : List ℕ) : Type 0 where
   pub no_end : HasNoEnd line
   pub short : length line ≤ longest_line
 
-line_then : (line : List ℕ) (e : ℕ) (ys : List ℕ) (s : Said) → IsLineOf line → is_end e ≡ true → said_of line ≡ s
+pub line_then : (line : List ℕ) (e : ℕ) (ys : List ℕ) (s : Said) → IsLineOf line → is_end e ≡ true → said_of line ≡ s
     → commands (line ++ e ∷ ys) ≡ listed s ++ commands_from (after_line s e) ys
 line_then line e ys s is end says =
     commands_from-within [] line (e ∷ ys) is.no_end (omega (arith, is.short)) ∙ commands_from-end line e ys end
@@ -62,7 +62,7 @@ after_last line e more c is end says h = ends_all line e more (whole c) is end s
 
 -- ---- a payload
 
-no_feed_before : (w : Way) (handler payload more : List ℕ) (n : ℕ) → 0 < length payload → BeginsNoFeed payload
+pub no_feed_before : (w : Way) (handler payload more : List ℕ) (n : ℕ) → 0 < length payload → BeginsNoFeed payload
     → commands_from (before_payload w handler n) (payload ++ more) ≡ commands_from (in_payload w handler n []) (payload ++ more)
 no_feed_before w handler [] more n some h = absurd (omega arith)
 no_feed_before w handler (b ∷ bs) more n some h = other_before_payload w handler n b (bs ++ more) h

@@ -4,3 +4,5 @@ pub mod Saying
 pub mod Sessions
 pub mod Streams
 pub mod Words
+pub mod Waiting
+pub mod LineWords

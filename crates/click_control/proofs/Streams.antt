@@ -172,7 +172,7 @@ after_before : (w : Way) (handler came : List ℕ) (n x : ℕ) → 1 < n → aft
 after_before w handler came n x q = rw (lt-leb n 1 q) refl
 
 -- one byte of a payload that is not the last
-payload_step : (w : Way) (handler came : List ℕ) (n x : ℕ) (ys : List ℕ) → 1 < n
+pub payload_step : (w : Way) (handler came : List ℕ) (n x : ℕ) (ys : List ℕ) → 1 < n
     → commands_from (in_payload w handler n came) (x ∷ ys) ≡ commands_from (in_payload w handler (n - 1) (came ++ x ∷ [])) ys
 unfolding commands_from
 payload_step w handler came n x ys q =
@@ -270,7 +270,7 @@ payload_after_end w handler n e (b ∷ bs) more q within = elim (cases_Bool (eqb
 ]
 
 -- too few bytes after the end of a line that announced a payload
-payload_short : (w : Way) (handler : List ℕ) (n e : ℕ) (ys : List ℕ) → length ys < n → commands_from (payload_after w handler n e) ys ≡ []
+pub payload_short : (w : Way) (handler : List ℕ) (n e : ℕ) (ys : List ℕ) → length ys < n → commands_from (payload_after w handler n e) ys ≡ []
 payload_short w handler n e [] q = commands_from-nil (payload_after w handler n e)
 payload_short w handler n e (b ∷ bs) q = elim (cases_Bool (eqb e 13 && eqb b 10)) [
   | inl h ↦ end_of_two w handler n e b bs h ∙ payload_part w handler [] bs n (omega arith)

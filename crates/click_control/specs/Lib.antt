@@ -1,6 +1,7 @@
 pub mod Alone
 pub mod Commands
 pub mod Devices
+pub mod LineWords
 pub mod Peers
 pub mod ReplyText
 pub mod Serving

@@ -1,11 +1,11 @@
 //! What holds of the definitions, in the protocol's words (Click manual, "ControlSocket"). A line is the bytes before its end, which has no CR and
 //! no LF in it, and its end is LF, CR LF, or a CR that no LF follows.
 
-ghost use Rattle.std.specs.Prelude.{◌≡◌, ◌≤◌, ◌++◌, ◌∷◌, [], ℕ, List, length, true, false};
+ghost use Rattle.std.specs.Prelude.{◌≡◌, ◌-◌, ◌<◌, ◌≤◌, ◌++◌, ◌∷◌, [], ℕ, List, length, true, false};
 ghost use Rattle.click_control.specs.declared.command.Command.{Command};
 ghost use Rattle.click_control.specs.declared.command.Command.TheVariants as command;
 ghost use Rattle.click_control.specs.declared.way.Way.{Way};
-ghost use Rattle.click_control.specs.Commands.{commands, said_of, blank, whole, announces, is_last, text_command, HasNoEnd, IsEndBefore};
+ghost use Rattle.click_control.specs.Commands.{commands, commands_from, in_line, in_payload, said_of, blank, whole, announces, is_last, text_command, HasNoEnd, IsEndBefore};
 ghost use Rattle.click_control.specs.Taking.{Pending, fresh, fed, to_come};
 
 /// The commands of the first bytes of a stream are the first commands of the stream.
@@ -42,6 +42,22 @@ pub fn commands_after_a_payload()
     ensures { (line end payload more : List ℕ) (w : Way) (handler : List ℕ) (n : ℕ) → HasNoEnd line → length line ≤ 65536 → IsEndBefore end payload
         → said_of line ≡ announces w handler n → length payload ≡ n
         → commands (line ++ (end ++ (payload ++ more))) ≡ text_command w handler payload ∷ commands more }
+{}
+
+/// A line of at most 65,536 bytes whose end has not come gives no command: what follows goes on in a line that begins with just those bytes.
+pub fn an_unfinished_line_gives_no_command()
+    ensures none { (line : List ℕ) → HasNoEnd line → length line ≤ 65536 → commands line ≡ [] }
+    ensures waits { (line more : List ℕ) → HasNoEnd line → length line ≤ 65536 → commands (line ++ more) ≡ commands_from (in_line line) more }
+{}
+
+/// A line that announces n bytes of payload gives no command before n bytes have come after its end: what follows goes on in a payload that begins with
+/// just those that came.
+pub fn an_unfinished_payload_gives_no_command()
+    ensures none { (line end came : List ℕ) (w : Way) (handler : List ℕ) (n : ℕ) → HasNoEnd line → length line ≤ 65536 → IsEndBefore end came
+        → said_of line ≡ announces w handler n → length came < n → commands (line ++ (end ++ came)) ≡ [] }
+    ensures waits { (line end came more : List ℕ) (w : Way) (handler : List ℕ) (n : ℕ) → HasNoEnd line → length line ≤ 65536 → IsEndBefore end came
+        → said_of line ≡ announces w handler n → 0 < length came → length came < n
+        → commands (line ++ (end ++ (came ++ more))) ≡ commands_from (in_payload w handler (n - length came) came) more }
 {}
 
 /// What is to come of a session that was fed a piece is what was to come with that piece; of a new one, the commands of the stream.

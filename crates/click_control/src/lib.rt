@@ -6,6 +6,7 @@ mod command;
 mod device;
 pub mod laws;
 mod line;
+pub mod line_laws;
 mod peer;
 mod port;
 mod reply;

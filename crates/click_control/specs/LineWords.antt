@@ -1,0 +1,37 @@
+-- The words of a line, and what stands between them.
+use Rattle.std.specs.Prelude.{◌≡◌, ℕ, ◌<◌, List, [], ◌∷◌, length, true, not, codes}
+use Rattle.std.specs.List.{list_all}
+use Rattle.click_handlers.specs.Blanks.{is_blank}
+use Rattle.click_control.specs.declared.way.Way.{Way}
+use Rattle.click_control.specs.declared.way.Way.TheVariants as way
+
+abbrev pub AreBlanks : List ℕ → Type 0
+AreBlanks bs = list_all is_blank bs ≡ true
+
+-- one blank or more
+abbrev pub IsGap : List ℕ → Type 0
+IsGap bs = (0 < length bs) × AreBlanks bs
+
+-- one byte or more, and no blank
+abbrev pub IsWord : List ℕ → Type 0
+IsWord w = (0 < length w) × (list_all (λ b. not (is_blank b)) w ≡ true)
+
+-- nothing, or a blank and more
+abbrev pub EndsWord : List ℕ → Type 0
+EndsWord [] = Unit {0}
+EndsWord (b ∷ bs) = is_blank b ≡ true
+
+-- the word that a line begins with which hands a handler a text
+abbrev pub text_word : Way → List ℕ
+text_word way.Read = codes "READ"
+text_word way.Write = codes "WRITE"
+
+-- which asks whether a handler can be used so
+abbrev pub check_word : Way → List ℕ
+check_word way.Read = codes "CHECKREAD"
+check_word way.Write = codes "CHECKWRITE"
+
+-- which announces a payload
+abbrev pub data_word : Way → List ℕ
+data_word way.Read = codes "READDATA"
+data_word way.Write = codes "WRITEDATA"
