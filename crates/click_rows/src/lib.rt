@@ -12,9 +12,15 @@ mod expand;
 #[cfg(test)]
 mod handlers;
 #[cfg(test)]
+mod overruns;
+#[cfg(test)]
 mod packet;
 #[cfg(test)]
+mod packets;
+#[cfg(test)]
 mod ports;
+#[cfg(test)]
+mod steps;
 #[cfg(test)]
 mod swapping;
 #[cfg(test)]
