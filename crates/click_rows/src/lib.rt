@@ -10,6 +10,8 @@ mod control;
 #[cfg(test)]
 mod expand;
 #[cfg(test)]
+mod faults;
+#[cfg(test)]
 mod handlers;
 #[cfg(test)]
 mod overruns;
