@@ -1,6 +1,6 @@
 //! Texts with their flat form or their first fault, worked out by hand.
 
-use click_expand::{flat_text, flatten};
+use click_expand::{Flat, FlatElement, flat_text, flatten};
 use click_text::parse;
 use std::alloc::Global;
 use std::test::Fail;
@@ -46,11 +46,40 @@ flat elementclass D { output -> Discard; } => 15 CompoundPort at bytes 17 to 23
 flat elementclass P { $x | input -> Strip(/$x) -> output; } Idle -> P(/1) -> Discard; => 17 BrokenText at P@2/Strip@1
 "#;
 
-/// The flat form of what a text spells, or its first fault.
+/// The flat form of what a text spells, or its first fault. A flat form that is read again has to be the same.
 pub fn flat(alloc: Global, text: &[u8]) -> Result<Vec<u8>, Fail> {
     let config = parse(alloc, text)?;
     match flatten(alloc, &config) {
-        Ok(flat) => Ok(flat_text(alloc, &flat)?),
+        Ok(flat) => {
+            let written = flat_text(alloc, &flat)?;
+            if is_flat(alloc, written.as_slice(), &flat)? {
+                Ok(written)
+            } else {
+                Err(Fail::from("a flat form that is read as another"))
+            }
+        }
         Err(fault) => Ok(fault.to_string(alloc)?.into_bytes()),
     }
+}
+
+/// Whether a text has just that flat form.
+fn is_flat(alloc: Global, text: &[u8], flat: &Flat) -> Result<bool, Fail> {
+    let config = parse(alloc, text)?;
+    let again = flatten(alloc, &config)?;
+    Ok(
+        again.connections.as_slice() == flat.connections.as_slice()
+            && are_same(again.elements.as_slice(), flat.elements.as_slice()),
+    )
+}
+
+fn are_same(elements: &[FlatElement], others: &[FlatElement]) -> bool {
+    for (element, other) in elements.iter().zip(others) {
+        if element.name.as_slice() != other.name.as_slice()
+            || element.class.as_slice() != other.class.as_slice()
+            || element.text.as_slice() != other.text.as_slice()
+        {
+            return false;
+        }
+    }
+    elements.len() == others.len()
 }

@@ -10,11 +10,19 @@ mod control;
 #[cfg(test)]
 mod expand;
 #[cfg(test)]
+mod faults;
+#[cfg(test)]
 mod handlers;
+#[cfg(test)]
+mod overruns;
 #[cfg(test)]
 mod packet;
 #[cfg(test)]
+mod packets;
+#[cfg(test)]
 mod ports;
+#[cfg(test)]
+mod steps;
 #[cfg(test)]
 mod swapping;
 #[cfg(test)]

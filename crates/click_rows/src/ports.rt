@@ -13,7 +13,7 @@ use std::test::Fail;
 /// Rows of `kinds`: of each element the inputs, a slash and the outputs, `h` for a push port and `l` for a pull port, and a comma. Chains and a ring; two
 /// connections at one port; two passages of one element; an Idle, which nothing passes; and second outputs.
 pub const ROWS: &str =
-    r#"kinds FromDevice(a) -> Queue -> Null -> ToDevice(b); m :: Null -> m; => /h,h/l,l/l,l/,h/h,
+    r#"kinds FromDevice(a) -> Queue -> n :: Null -> ToDevice(b); m :: Null -> m; => /h,h/l,l/l,l/,h/h,
 kinds a, b, c :: Null; a -> b -> c -> a; => h/h,h/h,h/h,
 kinds FromDevice(a) -> q :: Queue -> ToDevice(c); FromDevice(b) -> q -> ToDevice(d); => /h,h/l,l/,/h,l/,
 kinds FromDevice(a) -> s :: Suppressor -> Discard; FromDevice(b) -> Queue -> [1] s [1] -> ToDevice(c); => /h,hl/hl,h/,/h,h/l,l/,

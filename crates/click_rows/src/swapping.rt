@@ -1,145 +1,110 @@
-//! Swaps through `Router::step` to texts at the limit, which neither a line of calls nor a payload can have.
+//! Swaps of what runs: what is taken over, what is refused, and texts at the limit, which neither a line of calls nor a payload can have.
 
-use click_handlers::{Table, TakesTable, with_table};
-use click_packet::{Packet, StoredPacket};
-use click_router::{Call, Handlers, Refusal, Reply, Router, prepare};
+use crate::steps::Asked::{Arrive, Read, Swap, Transmit, Write};
+use crate::steps::Wanted::{Done, Entered, Line, NothingSent, Value};
+use crate::steps::{Case, walk};
 use click_text::LONGEST_TEXT;
-use click_text::sequence::Sequence;
-use std::alloc::{AllocError, Global};
-use std::sync::Wait;
 use std::test::Fail;
-use std::thread::Threads;
 
 /// What runs: its queue has room for three packets.
 const RUNNING: &[u8] = b"FromDevice(a) -> q :: Queue(3) -> ToDevice(b);";
 
-/// What a router answers before a swap that is refused, and after it: four packets entered.
-const STANDS: [(&[u8], &[u8]); 4] = [
-    (b"q.length", b"3"),
-    (b"q.drops", b"1"),
-    (b"q.highwater_length", b"3"),
-    (b"config", RUNNING),
+const TAKEN_OVER: &[Case<'static>] = &[
+    Case {
+        shows: "a queue takes what it has room for, a refused text changes nothing, and another class takes nothing",
+        text: RUNNING,
+        steps: &[
+            (Arrive(b"a", b"p1"), Entered(1)),
+            (Arrive(b"a", b"p2"), Entered(1)),
+            (Arrive(b"a", b"p3"), Entered(1)),
+            (
+                Swap(b"FromDevice(a) -> q :: Queue(2) -> ToDevice(b);"),
+                Done,
+            ),
+            (Read(b"q.length", b""), Value(b"2")),
+            (Read(b"q.drops", b""), Value(b"1")),
+            (Read(b"q.highwater_length", b""), Value(b"2")),
+            (
+                Write(b"hotconfig", b"FromDevice(a) -> q :: Queue(2);"),
+                Line(b"31 Count at q outputs 0"),
+            ),
+            (Read(b"q.length", b""), Value(b"2")),
+            (
+                Swap(b"FromDevice(a) -> q :: FrontDropQueue(5) -> ToDevice(b);"),
+                Done,
+            ),
+            (Read(b"q.length", b""), Value(b"0")),
+            (Read(b"q.drops", b""), Value(b"0")),
+            (Transmit(b"b"), NothingSent),
+        ],
+    },
+    Case {
+        shows: "the overruns go on",
+        text: b"FromDevice(a) -> n :: Null -> n;",
+        steps: &[
+            (Arrive(b"a", b"p1"), Entered(1)),
+            (Swap(b"Idle -> c :: Counter -> Discard;"), Done),
+            (Read(b"overruns", b""), Value(b"1")),
+        ],
+    },
+    Case {
+        shows: "a queue of another name takes nothing",
+        text: b"FromDevice(a) -> q :: Queue -> ToDevice(b);",
+        steps: &[
+            (Arrive(b"a", b"p1"), Entered(1)),
+            (Swap(b"FromDevice(a) -> r :: Queue -> ToDevice(b);"), Done),
+            (Read(b"r.length", b""), Value(b"0")),
+            (Read(b"r.drops", b""), Value(b"0")),
+        ],
+    },
+    Case {
+        shows: "a queue in a compound takes from the one of its whole name",
+        text: b"x :: { input -> q :: Queue -> output; }; FromDevice(a) -> x -> ToDevice(b);",
+        steps: &[
+            (Arrive(b"a", b"p1"), Entered(1)),
+            (
+                Swap(
+                    b"x :: { input -> Counter -> q :: Queue -> output; }; FromDevice(a) -> x -> ToDevice(b);",
+                ),
+                Done,
+            ),
+            (Read(b"x/q.length", b""), Value(b"1")),
+        ],
+    },
 ];
 
-fn kept(alloc: Global, bytes: &[u8]) -> Result<Sequence<u8>, AllocError> {
-    Ok(Sequence::of(Vec::from_slice(alloc, bytes)?))
-}
-
-/// A text of so many blanks, which has no elements.
-fn blanks(alloc: Global, count: usize) -> Result<Sequence<u8>, AllocError> {
-    Ok(Sequence::of(vec![in alloc; b' '; count]?))
-}
-
-fn is_value(reply: &Reply, value: &[u8]) -> bool {
-    match reply {
-        Reply::Value(read) => read.as_slice() == value,
-        _ => false,
-    }
-}
-
-/// Whether each name is read as its value.
-fn reads<T: Handlers>(
-    router: &mut Router<T>,
-    alloc: Global,
-    rows: &[(&[u8], &[u8])],
-) -> Result<bool, AllocError> {
-    for (name, value) in rows {
-        let call = Call::Read {
-            name: kept(alloc, name)?,
-            text: Sequence::new(alloc),
-        };
-        let Ok(reply) = router.step(alloc, &call) else {
-            return Ok(false);
-        };
-        if !is_value(&reply, value) {
-            return Ok(false);
-        }
-    }
-    Ok(true)
-}
-
-/// Whether the call is refused as a text that is too large.
-fn is_too_large<T: Handlers>(
-    router: &mut Router<T>,
-    alloc: Global,
-    call: &Call,
-) -> Result<bool, AllocError> {
-    match router.step(alloc, call) {
-        Ok(Reply::Refused(Refusal::Config(fault))) => {
-            Ok(fault.text(alloc)?.as_slice() == b"6 TooLarge".as_slice())
-        }
-        _ => Ok(false),
-    }
-}
-
-/// Whether four packets enter.
-fn fills<T: Handlers>(router: &mut Router<T>, alloc: Global) -> Result<bool, AllocError> {
-    for _ in 0..4 {
-        let device = kept(alloc, b"a")?;
-        let packet = StoredPacket::of(alloc, &Packet::empty())?;
-        if !matches!(
-            router.step(alloc, &Call::Arrive { device, packet }),
-            Ok(Reply::Entered(1))
-        ) {
-            return Ok(false);
-        }
-    }
-    Ok(true)
-}
-
-/// Whether swaps to a text of a byte too many are refused and change nothing.
-fn stands<T: Handlers>(router: &mut Router<T>, alloc: Global) -> Result<bool, AllocError> {
-    let swap = Call::Swap {
-        text: blanks(alloc, LONGEST_TEXT + 1)?,
-    };
-    let write = Call::Write {
-        name: kept(alloc, b"hotconfig")?,
-        text: blanks(alloc, LONGEST_TEXT + 1)?,
-    };
-    for call in [&swap, &write] {
-        if !reads(router, alloc, &STANDS)? || !is_too_large(router, alloc, call)? {
-            return Ok(false);
-        }
-    }
-    reads(router, alloc, &STANDS)
-}
-
-/// Whether a swap to a text of a byte less is made.
-fn swaps<T: Handlers>(router: &mut Router<T>, alloc: Global) -> Result<bool, AllocError> {
-    let longest = Call::Swap {
-        text: blanks(alloc, LONGEST_TEXT)?,
-    };
-    if !matches!(router.step(alloc, &longest), Ok(Reply::Done)) {
-        return Ok(false);
-    }
-    reads(router, alloc, &[(b"list", b"0\n")])
+#[test]
+fn like_named_queues_are_taken_over(rt: HostRuntime) -> Result<(), Fail> {
+    walk(&rt, rt.alloc(), TAKEN_OVER)
 }
 
 /// Swaps to a text of a byte too many are refused and change nothing; one to a text of a byte less is made.
-fn holds_at_the_limit<T: Handlers + Drop>(table: T, alloc: Global) -> Result<bool, AllocError> {
-    let Ok(prepared) = prepare(alloc, RUNNING) else {
-        return Ok(false);
-    };
-    let mut router = Router::open(table, prepared);
-    Ok(fills(&mut router, alloc)? && stands(&mut router, alloc)? && swaps(&mut router, alloc)?)
-}
-
-#[derive(Drop)]
-struct AtTheLimit {
-    alloc: Global,
-}
-
-impl TakesTable for AtTheLimit {
-    type Out = Result<bool, AllocError>;
-
-    fn take<R: Threads + Wait + Sync>(self, _rt: &R, table: Table) -> Result<bool, AllocError> {
-        holds_at_the_limit(table, self.alloc)
-    }
-}
-
 #[test]
 fn swaps_at_the_limit(rt: HostRuntime) -> Result<(), Fail> {
-    let alloc = rt.alloc();
-    assert!(&rt; matches!(with_table(&rt, alloc, AtTheLimit { alloc })?, Ok(true)));
-    Ok(())
+    let blanks = vec![in rt.alloc(); b' '; LONGEST_TEXT + 1]?;
+    let too_large = blanks.as_slice();
+    let refused = Line(b"6 TooLarge");
+    let case = Case {
+        shows: "texts at the limit",
+        text: RUNNING,
+        steps: &[
+            (Arrive(b"a", b"p1"), Entered(1)),
+            (Arrive(b"a", b"p2"), Entered(1)),
+            (Arrive(b"a", b"p3"), Entered(1)),
+            (Arrive(b"a", b"p4"), Entered(1)),
+            (Swap(too_large), refused),
+            (Read(b"q.length", b""), Value(b"3")),
+            (Read(b"q.drops", b""), Value(b"1")),
+            (Read(b"q.highwater_length", b""), Value(b"3")),
+            (Read(b"config", b""), Value(RUNNING)),
+            (Write(b"hotconfig", too_large), refused),
+            (Read(b"q.length", b""), Value(b"3")),
+            (Read(b"q.drops", b""), Value(b"1")),
+            (Read(b"q.highwater_length", b""), Value(b"3")),
+            (Read(b"config", b""), Value(RUNNING)),
+            (Swap(&too_large[1..]), Done),
+            (Read(b"list", b""), Value(b"0\n")),
+        ],
+    };
+    walk(&rt, rt.alloc(), &[case])
 }

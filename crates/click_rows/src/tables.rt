@@ -1,6 +1,6 @@
 //! Tables of rows: a call, a text, ` => `, and what the call shows of the text.
 
-use crate::{arguments, expand, ports};
+use crate::{arguments, expand, faults, ports};
 use std::alloc::{AllocError, Global};
 use std::test::Fail;
 
@@ -26,17 +26,18 @@ fn shown(alloc: Global, call: &str, text: &[u8]) -> Result<Vec<u8>, Fail> {
         "words" => Ok(arguments::words_of(alloc, text)?),
         "unquote" => Ok(arguments::unquoted(alloc, text)?),
         "flat" => expand::flat(alloc, text),
+        "prepared" => Ok(faults::prepared(alloc, text)?),
         "kinds" => ports::kinds(alloc, text),
         _ => Err(Fail::from("a call")),
     }
 }
 
 #[test]
-fn rows_hold(rt: HostRuntime) -> Result<(), Fail> {
-    for table in [arguments::ROWS, expand::ROWS, ports::ROWS] {
+fn texts_show_what_stands_beside_them(rt: HostRuntime) -> Result<(), Fail> {
+    for table in [arguments::ROWS, expand::ROWS, faults::ROWS, ports::ROWS] {
         for line in table.lines() {
             let (call, row) = line.split_once(' ').ok_or("a call")?;
-            let (text, want) = row.split_once(" => ").ok_or("a row")?;
+            let (text, want) = row.rsplit_once(" => ").ok_or("a row")?;
             let text = spelled(rt.alloc(), text)?;
             let want = spelled(rt.alloc(), want)?;
             let shown = shown(rt.alloc(), call, text.as_slice())?;
