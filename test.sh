@@ -37,6 +37,7 @@ tools/tries.sh
 tools/control_example.sh
 tools/client.sh
 tools/sessions.sh
+tools/hostile.sh
 examples/run.sh
 tools/language_examples.sh
 tools/fault_examples.sh

@@ -24,7 +24,7 @@ while IFS=$'\t' read -r fault example line; do
     '6 TooLarge')
         # No word of a command line is that long, so the limit is tried where a text comes from standard input.
         prepares 1048576 prepared
-        prepares 1048577 TooLarge ;;
+        prepares 1048577 "$fault" ;;
     '7 NoMemory') ;; # tools/refuse.sh
     *)
         ran "$program" -e "$example" < /dev/null

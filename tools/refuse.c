@@ -1,8 +1,10 @@
 // Refuses the Nth request for memory, where REFUSE names N. Preloaded into a program, it shows what that program answers. It refuses those of
-// click_prog and click_bench alone, so that another program may stand round them.
+// click_prog and click_bench alone, so that another program may stand round them. It writes to descriptor 9 when that request came: `refused`, or `smaller` where it
+// was to make a block of memory smaller.
 #define _GNU_SOURCE
 #include <dlfcn.h>
 #include <errno.h>
+#include <malloc.h>
 #include <stdlib.h>
 #include <string.h>
 #include <unistd.h>
@@ -11,7 +13,7 @@
 static long left;
 static int is_known;
 
-static int refused(void)
+static int refused(const char *what)
 {
     if (strncmp(program_invocation_short_name, "click_", 6) != 0) return 0;
     if (!is_known) {
@@ -21,8 +23,7 @@ static int refused(void)
     }
     // Several threads may ask at once.
     if (left > 0 && __atomic_sub_fetch(&left, 1, __ATOMIC_SEQ_CST) == 0) {
-        // Tells the caller of the program that the request came.
-        (void)!write(9, "refused\n", 8);
+        (void)!write(9, what, strlen(what));
         return 1;
     }
     return 0;
@@ -32,26 +33,26 @@ void *malloc(size_t size)
 {
     static void *(*real)(size_t);
     if (!real) real = (void *(*)(size_t))dlsym(RTLD_NEXT, "malloc");
-    return refused() ? 0 : real(size);
+    return refused("refused\n") ? 0 : real(size);
 }
 
 void *realloc(void *old, size_t size)
 {
     static void *(*real)(void *, size_t);
     if (!real) real = (void *(*)(void *, size_t))dlsym(RTLD_NEXT, "realloc");
-    return refused() ? 0 : real(old, size);
+    return refused(old && size <= malloc_usable_size(old) ? "smaller\n" : "refused\n") ? 0 : real(old, size);
 }
 
 void *aligned_alloc(size_t align, size_t size)
 {
     static void *(*real)(size_t, size_t);
     if (!real) real = (void *(*)(size_t, size_t))dlsym(RTLD_NEXT, "aligned_alloc");
-    return refused() ? 0 : real(align, size);
+    return refused("refused\n") ? 0 : real(align, size);
 }
 
 int posix_memalign(void **to, size_t align, size_t size)
 {
     static int (*real)(void **, size_t, size_t);
     if (!real) real = (int (*)(void **, size_t, size_t))dlsym(RTLD_NEXT, "posix_memalign");
-    return refused() ? 12 : real(to, align, size);
+    return refused("refused\n") ? 12 : real(to, align, size);
 }

@@ -122,41 +122,86 @@ LENGTH=2 VALUE=00 PROGRAM=$work/own SECONDS_TO_WAIT=1 is_refused 'a program with
 LENGTH=1 VALUE=7 PROGRAM=$work/own SECONDS_TO_WAIT=1 is_refused 'a program with another value at once' tools/client.sh
 LENGTH=1 VALUE='' PROGRAM=$work/own SECONDS_TO_WAIT=1 is_refused 'a program with no value' tools/client.sh
 
-# Sessions over TCP. sessions_wrong CASE WHAT LINE..: the case refuses a program that is started by these lines.
+# Sessions over TCP, and hostile use. sessions_wrong, hostile_wrong CASE WHAT LINE..: the case refuses a program that is started by these lines.
 # exchanged FROM TO: lines that start it with one word for another.
-exchanged() { printf 'for word; do if [ "$word" = %s ]; then word=%s; fi; words+=("$word"); done\nexec "$program" "${words[@]}"\n' "$1" "$2"; }
-sessions_wrong() {
-    local case=$1 what=$2
-    shift 2
-    { echo '#!/bin/bash'; printf '%s\n' "program='$program'" "$@"; } > "$work/listening"
+exchanged() { printf 'for word; do shift; if [ "$word" = %s ]; then word=%s; fi; set -- "$@" "$word"; done\nexec "$program" "$@"\n' "$1" "$2"; }
+case_wrong() {
+    local script=$1 case=$2 what=$3
+    shift 3
+    { echo '#!/bin/sh'; printf '%s\n' "program='$program'" "$@"; } > "$work/listening"
     chmod +x "$work/listening"
-    PROGRAM=$work/listening SECONDS_TO_WAIT=3 is_refused "a program with $what" tools/sessions.sh "$case"
+    PROGRAM=$work/listening SECONDS_TO_WAIT=3 is_refused "a program with $what" "$script" "$case"
 }
-printf '#!/bin/bash\nexec %q "$@"\n' "$program" > "$work/listening"
+sessions_wrong() { case_wrong tools/sessions.sh "$@"; }
+hostile_wrong() { case_wrong tools/hostile.sh "$@"; }
+printf '#!/bin/sh\nexec "%s" "$@"\n' "$program" > "$work/listening"
 chmod +x "$work/listening"
-PROGRAM=$work/listening ran tools/sessions.sh
-same_status 0 "$status" 'tools/sessions.sh, with a program that changes nothing'
+for script in tools/sessions.sh tools/hostile.sh; do
+    PROGRAM=$work/listening ran $script
+    same_status 0 "$status" "$script, with a program that changes nothing"
+done
 sessions_wrong counting 'a session less' "$(exchanged 17 16)"
 sessions_wrong counting 'no drivers' "$(exchanged 4 0)"
 sessions_wrong counting 'a round less' "$(exchanged 1000 999)"
 sessions_wrong counting 'a round more' "$(exchanged 1000 1001)"
-sessions_wrong reading 'writes where it may only read' "$(exchanged --readonly --rounds=1)"
+writes='for word; do shift; if [ "$word" != --readonly ]; then set -- "$@" "$word"; fi; done; exec "$program" "$@"'
+sessions_wrong reading 'writes where it may only read' "$writes"
 sessions_wrong clients 'a status that is always good' '"$program" "$@"' 'exit 0'
 sessions_wrong taken 'a status that is always good' '"$program" "$@"' 'exit 0'
 sessions_wrong swapping 'junk on standard output' 'echo junk' 'exec "$program" "$@"'
 cat > "$work/alone.py" << 'E'
 """Serves the sessions of a port one after another, each over a router of its own."""
+import os
 import socket
 import subprocess
 import sys
 
 program, words = sys.argv[1], sys.argv[2:]
-with socket.create_server(("127.0.0.1", int(words[words.index("-p") + 1]))) as listening:
+with socket.create_server((os.environ.get("ADDRESS", "127.0.0.1"), int(words[words.index("-p") + 1]))) as listening:
     for _ in range(int(words[words.index("-n") + 1])):
         with listening.accept()[0] as one:
-            subprocess.run([program, "-e", words[1]], stdin=one, stdout=one)
+            subprocess.run([program, "-e", words[1]], stdin=one, stdout=one, stderr=subprocess.DEVNULL)
 E
-sessions_wrong counting 'a router for each session, one after another' "exec python3 '$work/alone.py' \"\$program\" \"\$@\""
+alone="exec python3 '$work/alone.py' \"\$program\" \"\$@\""
+sessions_wrong counting 'a router for each session, one after another' "$alone"
+
+# Hostile use. A program that keeps what it reads before it passes it on.
+cat > "$work/keeps.py" << 'E'
+import os
+import subprocess
+import sys
+
+kept, program = [], subprocess.Popen(sys.argv[1:], stdin=subprocess.PIPE)
+while piece := os.read(0, 65536):
+    kept.append(piece)
+    program.stdin.write(piece)
+    program.stdin.flush()
+program.stdin.close()
+sys.exit(program.wait())
+E
+keeps="exec python3 '$work/keeps.py' \"\$program\" \"\$@\""
+hostile_wrong devices 'a status that is always good' '"$program" "$@"' 'exit 0'
+hostile_wrong devices 'an end of input where it cannot be read' 'if ! [ -p /dev/stdin ]; then exec < /dev/null; fi' 'exec "$program" "$@"'
+# What changes an answer has memory for that again.
+hostile_wrong memory 'another answer where memory runs out' "\"\$program\" \"\$@\" > '$work/kept'" 'status=$?' 'ulimit -S -v unlimited' \
+    "sed 's/^520 Out of memory/520 History full/' '$work/kept'" 'exit $status'
+hostile_wrong memory 'a good end where memory runs out' '"$program" "$@"' 'status=$?' 'if [ $status = 3 ]; then exit 0; fi' 'exit $status'
+hostile_wrong memory 'a crash where memory runs out' '"$program" "$@"' 'status=$?' 'if [ $status = 3 ]; then kill -SEGV $$; fi' 'exit $status'
+hostile_wrong memory 'a whole run wherever it can begin' 'if [ "$(ulimit -S -v)" -gt 3500 ]; then ulimit -S -v unlimited; fi' 'exec "$program" "$@"'
+hostile_wrong blank 'memory for what it read' "$keeps"
+hostile_wrong commands 'memory for what it read' "$keeps"
+hostile_wrong neighbours 'a session less' "$(exchanged 64 63)"
+hostile_wrong neighbours 'a status that is always good' '"$program" "$@"' 'exit 0'
+hostile_wrong neighbours 'a router for each session, one after another' "$alone"
+hostile_wrong crowd 'another text' 'for word; do shift; case $word in Idle*) word="$word " ;; esac; set -- "$@" "$word"; done' 'exec "$program" "$@"'
+hostile_wrong crowd 'a session less' "$(exchanged 64 63)"
+hostile_wrong crowd 'a driver less' "$(exchanged 16 15)"
+hostile_wrong crowd 'a round less' "$(exchanged 500 499)"
+hostile_wrong local 'an open door' 'export ADDRESS=0.0.0.0' "$alone"
+hostile_wrong readonly 'writes where it may only read' "$writes"
+hostile_wrong readonly 'no drivers' "$(exchanged 2 0)"
+hostile_wrong rounds 'a round less' "$(exchanged 200000 199999)"
+hostile_wrong rounds 'a round more' "$(exchanged 200000 200001)"
 
 # Memory.
 wrong F 'another answer where memory runs out' 'sed -i "s/^520 .*/511 No handler named '"'c.count'"'\r/" "$out"'
@@ -173,6 +218,16 @@ wrong_bench LF 'another place' 'sed -i "s/\.\./..1/" "$out"'
 wrong_bench F 'another fault where memory runs out' 'sed -i "s/NoMemory/BadNumber/" "$out"'
 wrong_bench F 'an element where memory runs out' 'sed -i "s/NoMemory/made/" "$out"'
 wrong_bench F 'a good end where memory runs out' 'status=0'
+wrong_bench F 'another fault of a configuration where memory runs out' 'sed -i "s/^7 NoMemory/16 TooMany/" "$out"'
+wrong_bench F 'a packet less after a refused swap' 'sed -i "/^out of memory/ { n; s/^3/2/ }" "$out"'
+wrong_bench F 'a drop less after a refused swap' 'sed -i "/^out of memory/ { n; n; s/^2/1/ }" "$out"'
+wrong_bench F 'another text after a refused swap' 'sed -i "/^out of memory/ { n; n; n; n; s/Queue(3)/Queue(2)/ }" "$out"'
+wrong_bench F 'an inlet that is not handed back' 'sed -i "/^handed back/d" "$out"'
+wrong_bench F 'a refused call in the list' 'if grep -q "^entry" "$out"; then sed -i "/^out of memory/a listed transmit b: sent [1]" "$out"; fi'
+wrong_bench F 'an entry of a refused call' 'if grep -q "^out of memory" "$out" && grep -q "^entry" "$out"; then echo "entry of seat 0: read c.count: value 0" >> "$out"; fi'
+# The poll is the second call at the desk.
+wrong_bench F 'a packet that a refused poll drew' 'if [ "$(sed -n 3p "$out")" = "out of memory" ]; then sed -i "s/poll a \[1\] \[2\]/poll a [2] [3]/; s/^left.*/left/" "$out"; fi'
+wrong_bench F 'a packet that a refused settle lost' 'if grep -q "^settle:" "$out"; then sed -i "s/^left.*/left/" "$out"; fi'
 wrong_bench A 'a limit that is greater' 'sed -i "s/TooLarge/prepared/" "$out"'
 wrong_bench A 'a limit that is less' 'sed -i "s/prepared/TooLarge/" "$out"'
 

@@ -3,7 +3,7 @@
 //!
 //! - `KIND SIZE` parses a text of that kind and size in bytes: its kind, its size, how many statements and bodies it has;
 //! - `input` parses what stands on standard input, `flat` expands it too, and `router` prepares a router from it;
-//! - `retry` swaps a router with queued packets to what stands on standard input, and again where memory was refused;
+//! - `retry COUNT` swaps a router that so many packets entered to what stands on standard input, and again where memory was refused;
 //! - `refeed` opens, calls, polls, closes and settles a desk with a feed, and each again where memory was refused;
 //! - `lookup COUNT`, `classifier COUNT` make an element of that many arguments;
 //! - `make CLASS` makes an element of the class with the configuration string on standard input.
@@ -14,6 +14,7 @@ mod making;
 mod preparing;
 mod refeeding;
 mod retrying;
+mod telling;
 
 use click_classes::Class;
 use click_text::{LONGEST_TEXT, parse};
@@ -119,8 +120,14 @@ fn read_input(rt: &HostRuntime) -> io::Result<()> {
 }
 
 /// What a word and a size ask for; nothing for another word.
-fn sized(rt: &HostRuntime, word: &str, size: usize) -> io::Result<()> {
+fn sized<R: Threads + Wait + Sync>(
+    threads: &R,
+    rt: &HostRuntime,
+    word: &str,
+    size: usize,
+) -> io::Result<()> {
     match word {
+        "retry" => retrying::input(threads, rt, size),
         "lookup" => making::many(rt, Class::StaticIPLookup, size),
         "classifier" => making::many(rt, Class::Classifier, size),
         _ => match kind_of(word) {
@@ -137,7 +144,6 @@ fn run<R: Threads + Wait + Sync>(threads: &R, rt: &HostRuntime) -> io::Result<()
             "input" => return read_input(rt),
             "flat" => return expanding::input(rt),
             "router" => return preparing::input(rt),
-            "retry" => return retrying::input(threads, rt),
             "refeed" => return refeeding::run(threads, rt),
             _ => {}
         }
@@ -147,7 +153,7 @@ fn run<R: Threads + Wait + Sync>(threads: &R, rt: &HostRuntime) -> io::Result<()
             return making::one(rt, size.as_str());
         }
         if let Ok(size) = size.parse::<usize>() {
-            return sized(rt, kind.as_str(), size);
+            return sized(threads, rt, kind.as_str(), size);
         }
     }
     for kind in KINDS {

@@ -10,6 +10,6 @@ pub fn input(rt: &HostRuntime) -> io::Result<()> {
     rt.stdin().read_to_end(&mut text)?;
     match prepare(rt.alloc(), text.as_slice()) {
         Ok(_) => println!(rt; "prepared"),
-        Err(fault) => println!(rt; "{:?}", fault.kind),
+        Err(fault) => println!(rt; "{fault}"),
     }
 }

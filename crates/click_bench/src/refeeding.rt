@@ -1,10 +1,12 @@
-//! A desk with a feed: it is opened, called, polled and settled, and each again where memory was refused; tools/refuse.sh refuses each request for memory of it.
+//! A desk with a feed: it is opened, called, polled and settled, and each again where memory was refused; tools/refuse.sh refuses each request for memory of it, and compares
+//! what was told: after each answer of the desk, refused or not, the whole list of the seat, and at last the whole history.
 
 ghost use Rattle.std.specs.Prelude.{◌≡◌, ◌<◌, [], ◌∷◌, codes, false, length, vec_len, vec_capacity, IfOk, IfSome};
 ghost use Rattle.std.specs.List.{All};
 ghost use Rattle.click_router.specs.Polls.{is_poll};
 
-use click_desk::{Book, Desk, Seat};
+use crate::telling::{tell_entries, tell_left, tell_list};
+use click_desk::{Book, Desk, DeskFault, Seat};
 use click_handlers::{Table, TakesTable, with_table};
 use click_packet::{Packet, StoredPacket};
 use click_rings::opening::feed as make_feed;
@@ -12,12 +14,15 @@ use click_rings::{Feed, FeedEnd, Inlet};
 use click_router::{Call, Handlers, Reply};
 use click_text::sequence::Sequence;
 use std::alloc::{AllocError, Global};
-use std::io;
 use std::sync::Wait;
 use std::thread::Threads;
+use std::{io, str};
 
-/// What runs: packets from the device are counted.
-const RUNNING: &[u8] = b"FromDevice(a) -> c :: Counter -> Discard;";
+/// What runs at first: packets from the device are counted and queued.
+const RUNNING: &[u8] = b"FromDevice(a) -> c :: Counter -> q :: Queue(4) -> ToDevice(b);";
+
+/// What takes over: its queue has room for one of the packets.
+const NEXT: &[u8] = b"FromDevice(a) -> c :: Counter -> q :: Queue(1) -> ToDevice(b);";
 
 /// The bytes of the packets that are put. A poll takes two of them.
 const PUT: [u8; 3] = [1, 2, 3];
@@ -45,6 +50,17 @@ fn put_all(alloc: Global, mut feed: Feed) -> Result<Feed, AllocError>
     Ok(feed)
 }
 
+/// Tells of which devices inlets were handed back.
+fn tell_inlets(host: &HostRuntime, inlets: &[Inlet]) -> io::Result<()> {
+    for inlet in inlets {
+        println!(host;
+            "handed back {}",
+            str::from_utf8(inlet.device()).unwrap_or("?")
+        )?;
+    }
+    Ok(())
+}
+
 /// Opens a desk with one seat, and again where memory was refused.
 fn open_again<T: Drop, R: Wait>(
     rt: &R,
@@ -60,44 +76,81 @@ fn open_again<T: Drop, R: Wait>(
         Ok(opened) => Ok(Some(opened)),
         Err(refused) => {
             println!(host; "open: {}", refused.fault)?;
+            tell_inlets(host, refused.inlets.as_slice())?;
             Ok(Desk::open(rt, alloc, refused.table, RUNNING, 10, 1, refused.inlets).ok())
         }
     }
 }
 
-/// Tells what a call was answered.
-fn tell(host: &HostRuntime, reply: &Reply) -> io::Result<()> {
-    match reply {
-        Reply::Value(value) => println!(host; "value {:?}", value.as_slice()),
-        Reply::Entered(count) => println!(host; "entered {count}"),
-        _ => println!(host; "another reply"),
-    }
-}
-
-fn read(alloc: Global) -> Result<Call, AllocError>
+/// A call that reads.
+fn read(alloc: Global, name: &[u8]) -> Result<Call, AllocError>
     ensures { IfOk result (λ call. is_poll call ≡ false) }
 {
     Ok(Call::Read {
-        name: Sequence::of(Vec::from_slice(alloc, b"c.count")?),
+        name: Sequence::of(Vec::from_slice(alloc, name)?),
         text: Sequence::new(alloc),
     })
 }
 
-/// Reads the count, and again where memory was refused.
-fn read_again<T: Handlers, R: Wait>(
+/// A call that writes the queue's capacity.
+fn write(alloc: Global) -> Result<Call, AllocError>
+    ensures { IfOk result (λ call. is_poll call ≡ false) }
+{
+    Ok(Call::Write {
+        name: Sequence::of(Vec::from_slice(alloc, b"q.capacity")?),
+        text: Sequence::of(Vec::from_slice(alloc, b"3")?),
+    })
+}
+
+/// A call that swaps to what takes over.
+fn swap(alloc: Global) -> Result<Call, AllocError>
+    ensures { IfOk result (λ call. is_poll call ≡ false) }
+{
+    Ok(Call::Swap {
+        text: Sequence::of(Vec::from_slice(alloc, NEXT)?),
+    })
+}
+
+/// A call by which a packet leaves.
+fn transmit(alloc: Global) -> Result<Call, AllocError>
+    ensures { IfOk result (λ call. is_poll call ≡ false) }
+{
+    Ok(Call::Transmit {
+        device: Sequence::of(Vec::from_slice(alloc, b"b")?),
+    })
+}
+
+/// Tells what came of a call, and what the seat's list has then; whether it was answered.
+fn tell<T>(
+    host: &HostRuntime,
+    seat: &Seat<T>,
+    answer: Result<Reply, DeskFault>,
+) -> io::Result<bool> {
+    match &answer {
+        Ok(_) => println!(host; "answered")?,
+        Err(fault) => println!(host; "{fault}")?,
+    }
+    tell_list(host, seat.calls())?;
+    Ok(answer.is_ok())
+}
+
+/// Makes a call, and again where memory was refused.
+fn call_again<T: Handlers, R: Wait>(
     rt: &R,
     host: &HostRuntime,
     desk: &Desk<T>,
     seat: &mut Seat<T>,
+    call: &Call,
 ) -> io::Result<()>
-    requires { seat.old.desk ≡ desk.now }
+    requires seat { seat.old.desk ≡ desk.now }
+    requires call { is_poll call.now ≡ false }
     ensures { (seat.new.desk ≡ seat.old.desk) × (seat.new.feeds ≡ seat.old.feeds) }
 {
     for _ in 0..2 {
-        let call = read(host.alloc())?;
-        match desk.call(rt, seat, call) {
-            Ok(reply) => return tell(host, &reply),
-            Err(fault) => println!(host; "call: {fault}")?,
+        let made = call.copy(host.alloc())?;
+        let answer = desk.call(rt, seat, made);
+        if tell(host, seat, answer)? {
+            return Ok(());
         }
     }
     Ok(())
@@ -114,15 +167,15 @@ fn poll_again<T: Handlers, R: Wait>(
     ensures { (seat.new.desk ≡ seat.old.desk) × (seat.new.feeds ≡ seat.old.feeds) }
 {
     for _ in 0..2 {
-        match desk.poll(rt, seat, b"a", 2) {
-            Ok(reply) => return tell(host, &reply),
-            Err(fault) => println!(host; "poll: {fault}")?,
+        let answer = desk.poll(rt, seat, b"a", 2);
+        if tell(host, seat, answer)? {
+            return Ok(());
         }
     }
     Ok(())
 }
 
-/// Reads, polls, and reads again.
+/// A read, a poll, a write, a swap, a packet that leaves, and a read.
 fn work<T: Handlers, R: Wait>(
     rt: &R,
     host: &HostRuntime,
@@ -132,18 +185,20 @@ fn work<T: Handlers, R: Wait>(
     requires { seat.desk ≡ desk.now }
     ensures { IfOk result (λ s. (s.desk ≡ seat.desk) × (s.feeds ≡ seat.feeds)) }
 {
-    read_again(rt, host, desk, &mut seat)?;
+    let alloc = host.alloc();
+    call_again(rt, host, desk, &mut seat, &read(alloc, b"c.count")?)?;
     poll_again(rt, host, desk, &mut seat)?;
-    read_again(rt, host, desk, &mut seat)?;
+    call_again(rt, host, desk, &mut seat, &write(alloc)?)?;
+    call_again(rt, host, desk, &mut seat, &swap(alloc)?)?;
+    call_again(rt, host, desk, &mut seat, &transmit(alloc)?)?;
+    call_again(rt, host, desk, &mut seat, &read(alloc, b"q.drops")?)?;
     Ok(seat)
 }
 
-/// Tells which packets were left, and how many entries the book has.
-fn tell_left<T>(host: &HostRuntime, book: &Book<T>, left: &[StoredPacket]) -> io::Result<()> {
-    for packet in left {
-        println!(host; "left {:?}", packet.bytes())?;
-    }
-    println!(host; "{} entries", book.entries.len())
+/// Tells which packets were left, and the history.
+fn tell_settled<T>(host: &HostRuntime, book: &Book<T>, left: &[StoredPacket]) -> io::Result<()> {
+    tell_left(host, left)?;
+    tell_entries(host, book.entries.as_slice())
 }
 
 /// Settles the feed, and again where memory was refused.
@@ -152,11 +207,11 @@ fn settle_again<T>(host: &HostRuntime, book: &mut Book<T>, end: FeedEnd) -> io::
 {
     let alloc = host.alloc();
     match book.settle(alloc, b"a", end) {
-        Ok(left) => tell_left(host, book, left.as_slice()),
+        Ok(left) => tell_settled(host, book, left.as_slice()),
         Err(refused) => {
             println!(host; "settle: {}", refused.fault)?;
             match book.settle(alloc, b"a", refused.end) {
-                Ok(left) => tell_left(host, book, left.as_slice()),
+                Ok(left) => tell_settled(host, book, left.as_slice()),
                 Err(refused) => println!(host; "settle: {}", refused.fault),
             }
         }

@@ -12,17 +12,18 @@ use std::thread::Threads;
 /// What runs before the swap.
 const RUNNING: &[u8] = b"FromDevice(a) -> q :: Queue(3) -> ToDevice(b);";
 
-/// The bytes of the packets that enter before the swap: the last two find no room.
+/// The bytes of the packets that may enter before the swap. Three find room.
 const ENTERING: [u8; 5] = [1, 2, 3, 4, 5];
 
 /// What is read after each swap.
 const READ: [&[u8]; 4] = [b"q.length", b"q.drops", b"q.highwater_length", b"config"];
 
-/// The swap that is tried.
+/// The swap that is tried, and how many packets enter before it.
 #[derive(Drop)]
 struct Retry<'a> {
     alloc: Global,
     call: &'a Call,
+    count: usize,
 }
 
 fn kept(alloc: Global, bytes: &[u8]) -> Result<Sequence<u8>, AllocError> {
@@ -53,10 +54,14 @@ fn enter<T: Handlers>(router: &mut Router<T>, alloc: Global, byte: u8) -> Result
     }
 }
 
-/// Packets of one byte enter.
-fn fill<T: Handlers>(router: &mut Router<T>, alloc: Global) -> Result<(), AllocError> {
-    for byte in ENTERING {
-        enter(router, alloc, byte)?;
+/// So many packets of one byte enter.
+fn fill<T: Handlers>(
+    router: &mut Router<T>,
+    alloc: Global,
+    count: usize,
+) -> Result<(), AllocError> {
+    for byte in ENTERING.iter().take(count) {
+        enter(router, alloc, *byte)?;
     }
     Ok(())
 }
@@ -162,11 +167,11 @@ fn empty<T: Handlers>(
 fn tell_all<T: Handlers>(
     said: &mut String,
     router: &mut Router<T>,
-    alloc: Global,
-    call: &Call,
+    retry: &Retry<'_>,
 ) -> Result<(), AllocError> {
-    fill(router, alloc)?;
-    swap_and_tell(said, router, alloc, call)?;
+    let alloc = retry.alloc;
+    fill(router, alloc, retry.count)?;
+    swap_and_tell(said, router, alloc, retry.call)?;
     empty(said, router, alloc)
 }
 
@@ -175,12 +180,7 @@ fn told<T: Handlers + Drop>(table: T, retry: &Retry<'_>) -> Result<String, Alloc
     let alloc = retry.alloc;
     let mut said = String::new(alloc);
     match prepare(alloc, RUNNING) {
-        Ok(prepared) => tell_all(
-            &mut said,
-            &mut Router::open(table, prepared),
-            alloc,
-            retry.call,
-        )?,
+        Ok(prepared) => tell_all(&mut said, &mut Router::open(table, prepared), retry)?,
         Err(_) => return Err(AllocError),
     }
     Ok(said)
@@ -194,16 +194,24 @@ impl<'a> TakesTable for Retry<'a> {
     }
 }
 
-/// Swaps a router that holds packets to the text on standard input, and again where memory was refused; tells what each swap answered and what stood then,
-/// and which packets leave at last.
-pub fn input<R: Threads + Wait + Sync>(threads: &R, rt: &HostRuntime) -> io::Result<()> {
+/// Swaps a router that so many packets entered to the text on standard input, and again where memory was refused; tells what each swap answered and what stood
+/// then, and which packets leave at last.
+pub fn input<R: Threads + Wait + Sync>(
+    threads: &R,
+    rt: &HostRuntime,
+    count: usize,
+) -> io::Result<()> {
     let alloc = rt.alloc();
     let mut text = Vec::new(alloc);
     rt.stdin().read_to_end(&mut text)?;
     let call = Call::Swap {
         text: Sequence::of(text),
     };
-    let retry = Retry { alloc, call: &call };
+    let retry = Retry {
+        alloc,
+        call: &call,
+        count,
+    };
     let said = with_table(threads, alloc, retry)??;
     print!(rt; "{said}")
 }
