@@ -31,7 +31,7 @@ impl Model for Driver {
 }
 
 /// The packet of a number: its two bytes, the higher first.
-fn packet(alloc: Global, number: u16) -> Option<StoredPacket> {
+pub(crate) fn packet(alloc: Global, number: u16) -> Option<StoredPacket> {
     StoredPacket::of(alloc, &Packet::of(&number.to_be_bytes()).ok()?).ok()
 }
 

@@ -6,13 +6,13 @@ ghost use Rattle.std.specs.Thread.{IsSync};
 ghost use Rattle.click_rings.specs.Feeds.{are_apart};
 ghost use Rattle.click_router.specs.Polls.{is_poll};
 
-use crate::drivers::{Driver, close_and_settle, count_on, drivers_of, hands_back, puts};
+use crate::drivers::{Driver, close_and_settle, count_on, drivers_of, hands_back, packet, puts};
 use click_desk::{Book, Desk, Entry, Seat, SettleFault};
 use click_handlers::{Table, TakesTable, with_table};
 use click_packet::StoredPacket;
 use click_rings::opening::feed as make_feed;
-use click_rings::{FeedEnd, FeedFault};
-use click_router::{Call, Handlers, Reply};
+use click_rings::{FeedEnd, FeedFault, Inlet, Tap};
+use click_router::{Call, Handlers, Kept, Reply};
 use click_text::sequence::Sequence;
 use std::alloc::{AllocError, Global};
 use std::sync::Wait;
@@ -188,7 +188,7 @@ fn small<T: Handlers + Drop, R: Wait>(rt: &R, alloc: Global, table: T) -> Option
     Some(good & has_polled(&book, left.as_slice(), 1, 2))
 }
 
-/// While a swap has taken the device away a poll takes nothing; once it is back, all that was put comes in by one poll.
+/// While a swap has taken the device away a poll takes nothing; once it is back, what was put comes in.
 fn away_and_back<T: Handlers, R: Wait>(
     rt: &R,
     alloc: Global,
@@ -199,11 +199,41 @@ fn away_and_back<T: Handlers, R: Wait>(
     requires { seat.old.desk ≡ desk.now }
     ensures { (seat.new.desk ≡ seat.old.desk) × (seat.new.feeds ≡ seat.old.feeds) × (drivers.new.items ≡ drivers.old.items) }
 {
-    let put = puts(alloc, drivers) & puts(alloc, drivers);
+    let put = puts(alloc, drivers);
     let away = swaps(rt, alloc, desk, seat, COUNTED) & finds_none(rt, desk, seat);
-    let back = swaps(rt, alloc, desk, seat, DEVICE) & enters(rt, desk, seat, 32, 2);
-    let none = enters(rt, desk, seat, 32, 0);
-    put & away & back & none
+    let back = swaps(rt, alloc, desk, seat, DEVICE) & enters(rt, desk, seat, 32, 1);
+    put & away & back
+}
+
+/// Whether an entry is a poll of the device that took so many packets, numbered from `first` on.
+fn is_poll(entry: &Entry, first: u16, count: u16) -> bool {
+    match &entry.call {
+        Call::Poll { device, taken } => {
+            (device.as_slice() == b"a".as_slice())
+                & (count_on(taken.as_slice(), first) == first.checked_add(count))
+        }
+        _ => false,
+    }
+}
+
+/// Whether in an entry so many packets entered by a poll, numbered from `first` on.
+fn has_entered(entry: &Entry, first: u16, count: u16) -> bool {
+    match entry.reply.kept() {
+        Kept::Entered(entered) => (*entered == u64::from(count)) & is_poll(entry, first, count),
+        _ => false,
+    }
+}
+
+/// Whether a poll without the device took nothing, and one with it the packet.
+fn are_away_and_back(entries: &[Entry]) -> bool {
+    match entries {
+        [_, away, _, back] => {
+            matches!(away.reply.kept(), Kept::NoDevice)
+                & is_poll(away, 0, 0)
+                & has_entered(back, 0, 1)
+        }
+        _ => false,
+    }
 }
 
 /// Nothing is left then.
@@ -211,25 +241,31 @@ fn swapped<T: Handlers + Drop, R: Wait>(rt: &R, alloc: Global, table: T) -> Opti
     let (desk, mut seat, mut drivers) = open(rt, alloc, table, DEVICE, b"a", 4)?;
     let good = away_and_back(rt, alloc, &desk, &mut seat, &mut drivers);
     let (book, left) = close(rt, alloc, desk, seat, drivers)?;
-    Some(good & has_polled(&book, left.as_slice(), 2, 0))
+    let entered = are_away_and_back(book.entries.as_slice());
+    Some(good & entered & has_polled(&book, left.as_slice(), 1, 0))
 }
 
-/// The end of another feed of `z`.
-fn another_end(alloc: Global) -> Option<FeedEnd> {
-    let (feed, _inlet) = make_feed(alloc, b"z", 1).ok()?;
-    feed.finish()
+/// What is left in the ring of this inlet, whose feed has this end.
+fn left_in(alloc: Global, inlet: Inlet, mut end: FeedEnd) -> Option<Vec<StoredPacket>>
+    requires { end.ring ≡ inlet.ring }
+{
+    let mut tap = Tap::of(inlet);
+    tap.drain(alloc, &mut end).ok()
 }
 
-/// A second feed of the device is not settled.
-fn settles_no_more<T>(alloc: Global, book: &mut Book<T>) -> bool
+/// A second feed of the device is not settled: its end is handed back, and what it put is still to be had by it.
+fn settles_no_more<T>(alloc: Global, book: &mut Book<T>) -> Option<bool>
     requires { book.old.taps ≡ [] }
 {
-    match another_end(alloc) {
-        Some(end) => match book.settle(alloc, b"z", end) {
-            Ok(_) => false,
-            Err(refused) => refused.fault == SettleFault::NoFeed,
-        },
-        None => false,
+    let (mut feed, inlet) = make_feed(alloc, b"z", 1).ok()?;
+    feed.put(packet(alloc, 0)?).ok()?;
+    match book.settle(alloc, b"z", feed.finish()?) {
+        Ok(_) => Some(false),
+        Err(refused) => {
+            let unknown = refused.fault == SettleFault::NoFeed;
+            let left = left_in(alloc, inlet, refused.end)?;
+            Some(unknown & (count_on(left.as_slice(), 0) == Some(1)))
+        }
     }
 }
 
@@ -239,11 +275,11 @@ fn unpolled<T: Handlers + Drop, R: Wait>(rt: &R, alloc: Global, table: T) -> Opt
     let put = puts(alloc, &mut drivers);
     let (mut book, left) = close(rt, alloc, desk, seat, drivers)?;
     let had = has_polled(&book, left.as_slice(), 0, 1);
-    Some(put & had & settles_no_more(alloc, &mut book))
+    Some(put & had & settles_no_more(alloc, &mut book)?)
 }
 
-/// Whether the desk is closed with this seat, and its book has one entry.
-fn closes_with_one_entry<T: Drop, R: Wait>(
+/// Whether the desk is closed with this seat, and all that its book has are two polls, of which the first took two packets and the second none.
+fn closes_with_polls<T: Drop, R: Wait>(
     rt: &R,
     alloc: Global,
     desk: Desk<T>,
@@ -254,7 +290,10 @@ fn closes_with_one_entry<T: Drop, R: Wait>(
     let mut seats = Vec::with_capacity(alloc, 1).ok()?;
     seats.push_reserved(seat);
     let book = desk.close(rt, seats).ok()?;
-    Some(book.entries.len() == 1)
+    match book.entries.as_slice() {
+        [first, second] => Some(has_entered(first, 0, 2) & has_entered(second, 2, 0)),
+        _ => Some(false),
+    }
 }
 
 /// A feed that is dropped and does not finish: what was put is polled, and the desk is closed.
@@ -263,7 +302,8 @@ fn dropped<T: Handlers + Drop, R: Wait>(rt: &R, alloc: Global, table: T) -> Opti
     let put = puts(alloc, &mut drivers) & puts(alloc, &mut drivers);
     drop(drivers);
     let entered = enters(rt, &desk, &mut seat, 32, 2);
-    Some(put & entered & closes_with_one_entry(rt, alloc, desk, seat)?)
+    let none = enters(rt, &desk, &mut seat, 32, 0);
+    Some(put & entered & none & closes_with_polls(rt, alloc, desk, seat)?)
 }
 
 /// Each driver puts its packets, in a thread of its own.
@@ -443,7 +483,7 @@ fn feeds_lose_nothing(rt: HostRuntime) -> Result<(), Fail> {
     let alloc = rt.alloc();
     for case in CASES {
         let fed = Fed { alloc, case };
-        assert!(rt; with_table(&rt, alloc, fed)? == Some(true));
+        assert!(rt; with_table(&rt, alloc, fed)? == Some(true), "{case:?}");
     }
     Ok(())
 }

@@ -8,8 +8,14 @@ mod drivers;
 #[cfg(test)]
 mod feeds;
 #[cfg(test)]
+mod gates;
+#[cfg(test)]
+mod peers;
+#[cfg(test)]
 mod runs;
 #[cfg(test)]
 mod seats;
+#[cfg(test)]
+mod sessions;
 #[cfg(test)]
 mod workers;

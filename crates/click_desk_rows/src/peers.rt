@@ -90,3 +90,34 @@ impl Sink for Keeper {
         Ok(len)
     }
 }
+
+/// Gives one blank a read, for ever.
+#[derive(Drop)]
+pub struct Blanks {
+    failed: bool,
+    /// How many calls have not failed.
+    pub reads: usize,
+}
+
+impl Blanks {
+    pub fn new() -> Blanks {
+        Blanks {
+            failed: false,
+            reads: 0,
+        }
+    }
+}
+
+impl Source for Blanks {
+    ghost input = { λ blanks. record { remaining = None; failed = blanks.failed; reads = blanks.reads } };
+
+    fn read(&mut self, piece: &mut [u8]) -> Result<usize, Failed> {
+        if self.failed || self.reads == usize::MAX {
+            self.failed = true;
+            return Err(Failed);
+        }
+        self.reads += 1;
+        piece[0] = b' ';
+        Ok(1)
+    }
+}
