@@ -1,11 +1,11 @@
 #!/usr/bin/env bash
 # Refuses each request for memory of some runs in turn, until a run has none refused: the program's stored session and some others, handlers that are read and written, the
-# preparing and the parsing of some texts, the making of some elements, swaps that are tried again. The programs must have been built.
+# preparing and the parsing of some texts, the making of some elements, swaps that are tried again, a capture through a router. The programs must have been built.
 #
-#   tools/refuse.sh [program|calls|bench]    the runs of click_prog, of click_calls, or of click_bench, alone
+#   tools/refuse.sh [program|calls|pcap|bench]    the runs of click_prog, of click_calls, of click_pcap, or of click_bench, alone
 set -eu
 . "$(dirname "$(readlink -f "$0")")/checking.sh"
-is_built "$program" "$calls" "$bench"
+is_built "$program" "$calls" "$pcap" "$bench"
 if ! command -v cc > /dev/null; then fail 'there is no C compiler cc, which tools/refuse.c needs'; fi
 if ! cc -O1 -shared -fPIC -o "$work/refuse.so" "$top/tools/refuse.c" -ldl; then fail 'tools/refuse.c does not compile'; fi
 tried=0 answered=0 first=1
@@ -242,6 +242,43 @@ swapped_back() {
     passed "$work/answer" "in a swap of a router with $2 of $1 packets"
 }
 
+# A capture of three packets: where a request is refused the run ends with status 3, after some first bytes of what it writes, and says why once the router is there. The
+# line of numbers at its end alone may be lacking where all else is done, so that a close that fails is told.
+refuse_pcap() {
+    local nth=1 unnoticed=0 late=0 run gateway three=$top/examples/pcap/three.pcap
+    gateway=$(cat "$top/examples/pcap/gateway.click")
+    ran "$pcap" -e "$gateway" --in eth0 --out eth1 < "$three"
+    same_status 0 "$status" 'a capture'
+    mv "$work/out" "$work/capture"
+    mv "$work/err" "$work/numbers"
+    is_not_empty "$work/numbers" 'the numbers of a capture'
+    while :; do
+        run="a capture, request $nth for memory refused"
+        if [ "$nth" -gt 5000 ]; then fail "$run: there is no end"; fi
+        : > "$work/refused"
+        LD_PRELOAD="$work/refuse.so" REFUSE=$nth ran "$pcap" -e "$gateway" --in eth0 --out eth1 < "$three" 9> "$work/refused"
+        if ! [ -s "$work/refused" ]; then break; fi
+        if [ "$status" = 0 ]; then
+            same_bytes "$work/capture" "$work/out" "$run"
+            if [ -s "$work/err" ]; then
+                same_bytes "$work/numbers" "$work/err" "$run: the numbers"
+                if ! may_pass; then fail "$run: it goes unnoticed"; fi
+                unnoticed=$((unnoticed + 1))
+            fi
+        else
+            same_status 3 "$status" "$run"
+            begins "$work/out" "$work/capture" "$run"
+            if cmp -s "$work/capture" "$work/out"; then
+                same 'error: out of memory' "$(head -n 1 "$work/err")" "$run: what is said once all is written"
+                late=$((late + 1))
+            fi
+        fi
+        nth=$((nth + 1)) tried=$((tried + 1))
+    done
+    if [ "$late" = 0 ]; then fail 'a capture: no request is refused once all is written, so that no close failed'; fi
+    passed none 'while a capture goes through a router'
+}
+
 refuse_bench() {
     # click_bench writes the fault, or fails to read its input.
     : > "$work/nothing"
@@ -304,10 +341,12 @@ E
 case "${1:-both}" in
 program) refuse_program ;;
 calls) refuse_calls ;;
+pcap) refuse_pcap ;;
 bench) refuse_bench ;;
 both)
     refuse_program
     refuse_calls
+    refuse_pcap
     refuse_bench ;;
 *) fail "there are no runs of $1" ;;
 esac

@@ -1,6 +1,7 @@
 -- Lists of feeds, of which the first is settled.
-use Rattle.std.proofs.Common.{◌≡◌, ◌<◌, ℕ, suc, true, List, [], ◌∷◌, length, get_or, map, refl, sym, ap, ◌∙◌, arith}
+use Rattle.std.proofs.Common.{◌≡◌, ◌<◌, ℕ, suc, true, List, [], ◌∷◌, ◌++◌, length, get_or, map, refl, sym, ap, ◌∙◌, arith}
 use Rattle.std.specs.List.{All, remove}
+use Rattle.std.proofs.lemmas.List.{append_assoc, append-nil}
 use Rattle.click_rings.specs.Feeds.{FeedName, Drawing, name_of, are_apart}
 use Rattle.click_desk.specs.Polls.{without}
 use Rattle.click_desk.proofs.Settling.{own_ring, others_left}
@@ -39,3 +40,12 @@ same-each (x ∷ xs) (y ∷ ys) many each =
     let first : y ≡ x = each 0 x (omega arith) in
     let rest : ys ≡ xs = same-each xs ys (omega arith) (λ i d below. each (suc i) d (omega arith)) in
     (λ k. first k ∷ rest k)
+
+-- the first of those that are left goes over to those that are done
+pub one-over : (done left old whole : List FeedName) (n : FeedName) → n ∷ left ≡ old → done ++ old ≡ whole → (done ++ n ∷ []) ++ left ≡ whole
+one-over done left old whole n first so_far = append_assoc done (n ∷ []) left ∙ ap (λ x. done ++ x) first ∙ so_far
+
+-- where none is left, all are done
+pub all-over : (done left whole : List FeedName) → length left ≡ 0 → done ++ left ≡ whole → done ≡ whole
+all-over done [] whole none so_far = sym (append-nil done) ∙ so_far
+all-over done (n ∷ left) whole none so_far = absurd (omega arith)

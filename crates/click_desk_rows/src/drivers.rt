@@ -1,13 +1,13 @@
 //! Drivers of devices in tests, and the settling of their feeds.
 
-ghost use Rattle.std.specs.Prelude.{◌≡◌, ◌<◌, ◌+◌, [], true, map, IfSome, OnSome, vec_len};
+ghost use Rattle.std.specs.Prelude.{◌≡◌, ◌<◌, ◌+◌, ◌∷◌, [], true, map, IfSome, OnSome, vec_len};
 ghost use Rattle.std.specs.List.{All};
 ghost use Rattle.click_rings.specs.Feeds.{name_of, are_apart};
 
 use click_desk::{Book, Desk, Seat};
 use click_packet::{Packet, StoredPacket};
 use click_rings::opening::feed as make_feed;
-use click_rings::{Feed, Inlet};
+use click_rings::{Feed, FeedEnd, Inlet};
 use click_text::sequence::Sequence;
 use std::alloc::{AllocError, Global};
 use std::marker::Model;
@@ -147,46 +147,82 @@ pub(crate) fn count_on(packets: &[StoredPacket], first: u16) -> Option<u16> {
     Some(next)
 }
 
-/// Settles the feed of the first driver.
-fn settle_first<T>(
-    alloc: Global,
-    book: &mut Book<T>,
-    drivers: &mut Vec<Driver>,
-) -> Option<Vec<StoredPacket>>
-    requires names { map name_of book.old.taps ≡ drivers.old.items }
-    requires apart { are_apart drivers.old.items ≡ true }
-    requires some { 0 < vec_len drivers.old }
-    ensures names { OnSome result (map name_of book.new.taps ≡ drivers.new.items) }
-    ensures apart { are_apart drivers.new.items ≡ true }
-    ensures len { vec_len drivers.old ≡ vec_len drivers.new + 1 }
+/// The end of a driver's feed, and its device.
+#[derive(Drop)]
+struct Finished {
+    device: Sequence<u8>,
+    end: FeedEnd,
+}
+
+impl Model for Finished {
+    ghost use Rattle.click_rings.specs.Feeds.{FeedName};
+
+    ghost Value = { FeedName };
+
+    ghost view = { λ f. record { device = f.device; ring = f.end.ring } };
+}
+
+/// Ends the feed of the first driver.
+fn finish_first(drivers: &mut Vec<Driver>) -> Option<Finished>
+    requires { 0 < vec_len drivers.old }
+    ensures { IfSome result (λ first. first ∷ drivers.new.items ≡ drivers.old.items) }
 {
     let Driver { device, feed, .. } = drivers.remove(0);
     let end = feed.finish()?;
+    Some(Finished { device, end })
+}
+
+/// Ends the feeds of these drivers.
+fn finish_all(alloc: Global, mut drivers: Vec<Driver>) -> Option<Vec<Finished>>
+    ensures { IfSome result (λ all. all.items ≡ drivers.items) }
+{
+    let mut all = Vec::new(alloc);
+    while !drivers.is_empty() {
+        let first = finish_first(&mut drivers)?;
+        all.push(first).ok()?;
+    }
+    Some(all)
+}
+
+/// Settles the first of these feeds.
+fn settle_first<T>(
+    alloc: Global,
+    book: &mut Book<T>,
+    finished: &mut Vec<Finished>,
+) -> Option<Vec<StoredPacket>>
+    requires names { map name_of book.old.taps ≡ finished.old.items }
+    requires apart { are_apart finished.old.items ≡ true }
+    requires some { 0 < vec_len finished.old }
+    ensures names { OnSome result (map name_of book.new.taps ≡ finished.new.items) }
+    ensures apart { are_apart finished.new.items ≡ true }
+    ensures len { vec_len finished.old ≡ vec_len finished.new + 1 }
+{
+    let Finished { device, end } = finished.remove(0);
     match book.settle(alloc, device.as_slice(), end) {
         Ok(left) => Some(left),
         Err(_) => None,
     }
 }
 
-/// Settles the feeds of these drivers, one after another: what was left of each.
+/// Settles these feeds, one after another: what was left of each.
 fn settle_all<T>(
     alloc: Global,
     book: &mut Book<T>,
-    mut drivers: Vec<Driver>,
+    mut finished: Vec<Finished>,
 ) -> Option<Vec<Vec<StoredPacket>>>
-    requires names { map name_of book.old.taps ≡ drivers.items }
-    requires apart { are_apart drivers.items ≡ true }
+    requires names { map name_of book.old.taps ≡ finished.items }
+    requires apart { are_apart finished.items ≡ true }
     ensures { OnSome result (book.new.taps ≡ []) }
 {
     let mut all = Vec::new(alloc);
-    while !drivers.is_empty() {
-        let left = settle_first(alloc, book, &mut drivers)?;
+    while !finished.is_empty() {
+        let left = settle_first(alloc, book, &mut finished)?;
         all.push(left).ok()?;
     }
     Some(all)
 }
 
-/// Closes the desk, and settles the feeds of all its drivers.
+/// Ends the feeds of all drivers, closes the desk, and settles the feeds.
 pub(crate) fn close_and_settle<T: Drop, R: Wait>(
     rt: &R,
     alloc: Global,
@@ -199,9 +235,10 @@ pub(crate) fn close_and_settle<T: Drop, R: Wait>(
     requires some { 0 < vec_len seats }
     ensures { IfSome result (λ r. r.0.taps ≡ []) }
 {
+    let finished = finish_all(alloc, drivers)?;
     match desk.close(rt, seats) {
         Ok(mut book) => {
-            let left = settle_all(alloc, &mut book, drivers)?;
+            let left = settle_all(alloc, &mut book, finished)?;
             Some((book, left))
         }
         Err(_) => None,

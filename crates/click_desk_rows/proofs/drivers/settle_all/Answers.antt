@@ -5,5 +5,5 @@ use Rattle.click_desk_rows.proofs.drivers.settle_all.Goals as goal
 
 pub returns : goal.returns
 returns g c =
-    let none : length c.loop-alloc.drivers.items ≡ 0 = grind (arith, nat_tests, c.loop-alloc.drivers.ok.0) in
-    nothing-named c.loop-alloc.drivers.items c.loop-alloc.book.taps none c.loop-alloc.invariant.names
+    let none : length c.loop-alloc.finished.items ≡ 0 = grind (arith, nat_tests, c.loop-alloc.finished.ok.0) in
+    nothing-named c.loop-alloc.finished.items c.loop-alloc.book.taps none c.loop-alloc.invariant.names

@@ -4,9 +4,9 @@ use Rattle.click_desk_rows.proofs.drivers.settle_all.Given as goal
 
 abbrev pub invariant-loop-alloc : goal.invariant-loop-alloc
 invariant-loop-alloc g l = record {
-  names : map name_of l.book.taps ≡ l.drivers.items;
-  apart : are_apart l.drivers.items ≡ true;
+  names : map name_of l.book.taps ≡ l.finished.items;
+  apart : are_apart l.finished.items ≡ true;
 }
 
 abbrev pub decreases-loop-alloc : goal.decreases-loop-alloc
-decreases-loop-alloc g l = vec_len l.drivers
+decreases-loop-alloc g l = vec_len l.finished

@@ -9,8 +9,8 @@ pub settle-requires : goal.settle-requires
 settle-requires g c = λ k d below same.
     let n : FeedName = c.remove.result in
     let device : c.as_slice.result.now ≡ n.device = c.as_slice.ensures ∙ ap (λ (f : FeedName). f.device) c.device.view_is in
-    let ring : n.ring ≡ c.in_ok-end.end.ring = sym (ap (λ (f : FeedName). f.ring) c.device.view_is) ∙ sym c.in_ok-end.ensures.0 in
-    first-ring c.args.drivers.now.items n c.args.book.now.taps (omega (arith, c.requires.some, c.args.drivers.now.ok.0)) c.remove.ensures.value c.requires.names c.requires.apart k d below
+    let ring = sym (ap (λ (f : FeedName). f.ring) c.device.view_is) in
+    first-ring c.args.finished.now.items n c.args.book.now.taps (omega (arith, c.requires.some, c.args.finished.now.ok.0)) c.remove.ensures.value c.requires.names c.requires.apart k d below
     (same ∙ device) ∙ ring
 
 pub returns-in-Ok-clause-names : goal.returns-in-Ok-clause-names
@@ -19,5 +19,5 @@ returns-in-Ok-clause-names g c =
     let device : c.as_slice.result.now ≡ n.device = c.as_slice.ensures ∙ ap (λ (f : FeedName). f.device) c.device.view_is in
     let gone : c.settle.new.self.taps ≡ without n.device c.args.book.now.taps =
     ap (λ (b : Booklet). b.taps) c.in-Ok.ensures.settled ∙ ap (λ d. without d c.args.book.now.taps) device in
-    ap (map name_of) gone ∙ first-settled c.args.drivers.now.items n c.args.book.now.taps (omega (arith, c.requires.some, c.args.drivers.now.ok.0)) c.remove.ensures.value c.requires.names
+    ap (map name_of) gone ∙ first-settled c.args.finished.now.items n c.args.book.now.taps (omega (arith, c.requires.some, c.args.finished.now.ok.0)) c.remove.ensures.value c.requires.names
     ∙ sym c.remove.ensures.items
