@@ -1,5 +1,5 @@
 // Refuses the Nth request for memory, where REFUSE names N. Preloaded into a program, it shows what that program answers. It refuses those of
-// click_prog and click_bench alone, so that another program may stand round them. It writes to descriptor 9 when that request came: `refused`, or `smaller` where it
+// our own programs alone (click_..), so that another may stand round them. It writes to descriptor 9 when that request came: `refused`, or `smaller` where it
 // was to make a block of memory smaller.
 #define _GNU_SOURCE
 #include <dlfcn.h>
