@@ -76,7 +76,7 @@ module _ (net : Wiring) (cost : ℕ → ℕ) where
 
 -- a packet that enters has no overrun where the plant is within its cost
 pub arrive-cost : (cost : ℕ → ℕ) (v : Plant) → IsCost (wiring v) cost v.elements → (device : List ℕ) (p : Packet)
-    → ((at : ℕ) → source_of v device ≡ Some at → crossing_cost (wiring v) cost at 0 ≤ 256) → (arrive v device p).overruns ≡ v.overruns
+    → ((at : ℕ) → source_of v device ≡ Some at → crossing_cost (wiring v) cost at 0 ≤ most_crossings) → (arrive v device p).overruns ≡ v.overruns
 arrive-cost cost v is device p h = go (source_of v device) refl
   where
     go : (o : Option ℕ) → source_of v device ≡ o → (arrive v device p).overruns ≡ v.overruns

@@ -14,7 +14,7 @@ use Rattle.click_engine.specs.World.{Wiring, World}
 
 -- how many pushes and pulls over connections one run may make
 abbrev pub most_crossings : ℕ
-most_crossings = 256
+most_crossings = 1024
 
 -- The places of the elements with a task, those where packets of a device enter and leave, and the elements in flat order. Runs change only elements and
 -- overruns.

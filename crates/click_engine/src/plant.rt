@@ -17,7 +17,7 @@ use std::marker::Model;
 use std::mem;
 
 /// The most crossings of one run.
-pub const CROSSINGS: usize = 256;
+pub const CROSSINGS: usize = 1_024;
 
 /// The elements of a net with their connections.
 #[derive(Drop)]
