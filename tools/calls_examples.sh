@@ -1,13 +1,15 @@
 #!/usr/bin/env bash
-# The examples of examples/calls and of docs/CALLS.md, through the program crates/click_calls/out/click_calls, which must have been built: over the
-# configuration of NAME.click the calls of NAME.calls are answered as NAME.out says. A line of wrong_lines.txt is what is wrong and, after a tab, a
-# line that has it.
+# The examples of examples/calls, of docs/CALLS.md and of docs/HOTSWAP.md, through the program crates/click_calls/out/click_calls, which must have been
+# built: over the configuration of NAME.click the calls of NAME.calls are answered as NAME.out says. A line of wrong_lines.txt is what is wrong and, after
+# a tab, a line that has it.
 #
-#   tools/calls_examples.sh [PAGE]
+#   tools/calls_examples.sh [PAGE..]
 set -eu
 . "$(dirname "$(readlink -f "$0")")/checking.sh"
 is_built "$calls"
-page=$(readlink -f "${1:-$top/docs/CALLS.md}")
+if [ $# = 0 ]; then set -- "$top/docs/CALLS.md" "$top/docs/HOTSWAP.md"; fi
+pages=()
+for page in "$@"; do pages+=("$(readlink -f "$page")"); done
 cd "$top/examples/calls"
 passed=0
 
@@ -34,15 +36,17 @@ for file in *.calls *.out; do
     if ! [ -e "${file%.*}.click" ]; then fail "$file stands beside no ${file%.*}.click"; fi
 done
 
-# The page's example: behind `> ` is what is sent, and all else has to come.
-text=$(sed -n "s/^An example, with \`-e '\(.*\)'\`.*/\1/p" "$page")
-if [ -z "$text" ]; then fail "$page shows no example"; fi
-sed -n '/^An example, with/,/^## /s/^    //p' "$page" > "$work/example"
-sed -n 's/^> //p' "$work/example" > "$work/sent"
-sed '/^> /d' "$work/example" > "$work/wanted"
-is_not_empty "$work/sent" "what $page sends"
-ran "$calls" -e "$text" < "$work/sent"
-answered 0 "the example of $page"
+# Each page's example: behind `> ` is what is sent, and all else has to come.
+for page in "${pages[@]}"; do
+    text=$(sed -n "s/^An example of calls, with \`-e '\(.*\)'\`.*/\1/p" "$page")
+    if [ -z "$text" ]; then fail "$page shows no example"; fi
+    sed -n '/^An example of calls, with/,/^## /s/^    //p' "$page" > "$work/example"
+    sed -n 's/^> //p' "$work/example" > "$work/sent"
+    sed '/^> /d' "$work/example" > "$work/wanted"
+    is_not_empty "$work/sent" "what $page sends"
+    ran "$calls" -e "$text" < "$work/sent"
+    answered 0 "the example of $page"
+done
 
 # A line that is no call ends the program; the calls before it were answered, and those after it are not.
 text='FromDevice(a) -> q :: Queue -> ToDevice(b);'

@@ -241,7 +241,7 @@ wrong_calls 'late replies' ''
 wrong_calls 'no answer' ': > "$out"'
 wrong_calls 'a reply left out' 'sed -i 1d "$out"'
 wrong_calls 'a reply given twice' 'sed -i 1p "$out"'
-wrong_calls 'another value' 'sed -i "s/^value 313238/value 313237/" "$out"'
+wrong_calls 'another value' 'sed -i "s/^value 353132/value 353131/" "$out"'
 wrong_calls 'digits in upper case' 'sed -i "/^sent/y/abcdef/ABCDEF/" "$out"'
 wrong_calls 'no paint' 'sed -i "s/ 7 / 0 /" "$out"'
 wrong_calls 'another destination' 'sed -i "s/192.168.1.10/10.1.168.192/" "$out"'
@@ -388,7 +388,8 @@ wrong_page tools/control_example.sh docs/CONTROL.md '/^An example, with/d' 's/^ 
 wrong_page tools/control_example.sh docs/HOTSWAP.md '/^An example, with/d' 's/^    > QUIT/    > STOP/' 's/^    520 31/    520 32/' 's/^    2> /    3> /' 's/^    >   ->/    > ->/' \
     's/^      ->/     ->/'
 wrong_page tools/feed_page.sh docs/FEEDS.md 's/self.count >= packets/self.count > packets/' '/thread::yield_now/d' '/^    /d'
-wrong_page tools/calls_examples.sh docs/CALLS.md '/^An example, with/d' 's/^    > transmit b/    > transmit a/' 's/^    value 32/    value 33/' '/^    sent none/d'
+wrong_page tools/calls_examples.sh docs/CALLS.md '/^An example of calls, with/d' 's/^    > transmit b/    > transmit a/' 's/^    value 32/    value 33/' '/^    sent none/d'
+wrong_page tools/calls_examples.sh docs/HOTSWAP.md '/^An example of calls, with/d' 's/^    value 36/    value 30/' 's/^    value 31/    value 30/' 's/^    value 30/    value 31/' '/^    > arrive a 0708/d'
 QUICK=1 PCAP=$pcap wrong_page tools/pcap_example.sh docs/PCAP.md '/^An example/d' 's/^    read 3/    read 4/' 's/--in eth0/--in eth1/' \
     's/^    > click_pcap/    > click_calls/' 's/^    rt -> DecIPTTL/    rt -> Paint(1)/' '/^The configuration/d'
 CALLS=$calls wrong_page tools/element_pages.sh docs/ELEMENTS.md 's/^## Tee$/## Tea/' '/^## Tee$/,/^## PullTee$/d' 's/Tee(2)/Tee(3)/' 's/Packets pass\./Packets pass on./' \

@@ -1,4 +1,4 @@
-//! Runs that make 256 crossings and would go on.
+//! Runs that make 1,024 crossings and would go on.
 
 use crate::steps::Asked::{Arrive, Read};
 use crate::steps::Wanted::{Entered, Value};
@@ -20,7 +20,7 @@ const LOOPS: &[Case<'static>] = &[
         text: b"FromDevice(a) -> t :: Tee -> t; t [1] -> c :: Counter -> Discard;",
         steps: &[
             (Arrive(b"a", b"p1"), Entered(1)),
-            (Read(b"overruns", b""), Value(b"257")),
+            (Read(b"overruns", b""), Value(b"1025")),
             (Read(b"c.count", b""), Value(b"0")),
         ],
     },
@@ -30,7 +30,7 @@ const LOOPS: &[Case<'static>] = &[
         steps: &[
             (Arrive(b"a", b"p1"), Entered(1)),
             (Read(b"overruns", b""), Value(b"2")),
-            (Read(b"c.count", b""), Value(b"85")),
+            (Read(b"c.count", b""), Value(b"341")),
         ],
     },
 ];
@@ -51,14 +51,14 @@ fn runs_end_at_the_limit(rt: HostRuntime) -> Result<(), Fail> {
     let alloc = rt.alloc();
     walk(&rt, alloc, LOOPS)?;
     let rows: [(usize, &[u8], &[u8]); 3] = [
-        (254, b"1", b"0"),
-        (255, b"1", b"1"),
-        (256, b"0", b"1"),
+        (1_022, b"1", b"0"),
+        (1_023, b"1", b"1"),
+        (1_024, b"0", b"1"),
     ];
     for (nulls, count, overruns) in rows {
         let text = chain(alloc, nulls)?;
         let case = Case {
-            shows: "a chain is followed for 256 crossings",
+            shows: "a chain is followed for 1,024 crossings",
             text: text.as_slice(),
             steps: &[
                 (Arrive(b"a", b"p1"), Entered(1)),

@@ -9,6 +9,12 @@ use std::test::Fail;
 /// What runs: its queue has room for three packets.
 const RUNNING: &[u8] = b"FromDevice(a) -> q :: Queue(3) -> ToDevice(b);";
 
+/// A Counter that no packet comes to.
+const COUNTING: &[u8] = b"Idle -> c :: Counter -> Discard;";
+
+/// A Switch with two outputs.
+const SWITCHING: &[u8] = b"Idle -> s :: Switch(0) -> Discard; s [1] -> Discard;";
+
 const TAKEN_OVER: &[Case<'static>] = &[
     Case {
         shows: "a queue takes what it has room for, a refused text changes nothing, and another class takes nothing",
@@ -43,8 +49,101 @@ const TAKEN_OVER: &[Case<'static>] = &[
         text: b"FromDevice(a) -> n :: Null -> n;",
         steps: &[
             (Arrive(b"a", b"p1"), Entered(1)),
-            (Swap(b"Idle -> c :: Counter -> Discard;"), Done),
+            (Swap(COUNTING), Done),
             (Read(b"overruns", b""), Value(b"1")),
+        ],
+    },
+    Case {
+        shows: "a Counter goes on counting, and one that was not there just before begins anew",
+        text: b"FromDevice(a) -> c :: Counter -> Discard;",
+        steps: &[
+            (Arrive(b"a", b"abc"), Entered(1)),
+            (Arrive(b"a", b"def"), Entered(1)),
+            (Swap(COUNTING), Done),
+            (Read(b"c.count", b""), Value(b"2")),
+            (Read(b"c.byte_count", b""), Value(b"6")),
+            (Swap(b"Idle -> Discard;"), Done),
+            (Swap(COUNTING), Done),
+            (Read(b"c.count", b""), Value(b"0")),
+            (Read(b"c.byte_count", b""), Value(b"0")),
+        ],
+    },
+    Case {
+        shows: "a Counter of another name, or for an element of another class, begins anew",
+        text: b"x :: { input -> c :: Counter -> output; }; FromDevice(a) -> x -> d :: Counter -> e :: Null -> Discard;",
+        steps: &[
+            (Arrive(b"a", b"abc"), Entered(1)),
+            (
+                Swap(
+                    b"FromDevice(a) -> c :: Counter -> x :: { input -> c :: Counter -> output; } -> d :: Null -> e :: Counter -> Discard;",
+                ),
+                Done,
+            ),
+            (Read(b"c.count", b""), Value(b"0")),
+            (Read(b"x/c.count", b""), Value(b"1")),
+            (Read(b"e.count", b""), Value(b"0")),
+            (Arrive(b"a", b"defg"), Entered(1)),
+            (Read(b"c.count", b""), Value(b"1")),
+            (Read(b"x/c.count", b""), Value(b"2")),
+            (Read(b"x/c.byte_count", b""), Value(b"7")),
+            (Read(b"e.count", b""), Value(b"1")),
+        ],
+    },
+    Case {
+        shows: "a Switch keeps its output where the new one has it, and -1 always",
+        text: SWITCHING,
+        steps: &[
+            (Write(b"s.switch", b"1"), Done),
+            (Swap(SWITCHING), Done),
+            (Read(b"s.switch", b""), Value(b"1")),
+            (Swap(b"Idle -> s :: Switch(0) -> Discard;"), Done),
+            (Read(b"s.switch", b""), Value(b"0")),
+            (Write(b"s.switch", b"-1"), Done),
+            (Swap(SWITCHING), Done),
+            (Read(b"s.switch", b""), Value(b"-1")),
+        ],
+    },
+    Case {
+        shows: "what a Switch has goes before its argument, but for an output past its last; a PullSwitch begins anew",
+        text: b"Idle -> s :: Switch(0); s -> Discard; s [1] -> Discard; s [2] -> Discard; Idle -> p :: PullSwitch(0) -> Discard; Idle -> [1] p;",
+        steps: &[
+            (Write(b"s.switch", b"2"), Done),
+            (Write(b"p.switch", b"1"), Done),
+            (
+                Swap(
+                    b"Idle -> s :: Switch(1); s -> Discard; s [1] -> Discard; Idle -> p :: PullSwitch(0) -> Discard; Idle -> [1] p;",
+                ),
+                Done,
+            ),
+            (Read(b"s.switch", b""), Value(b"1")),
+            (Read(b"p.switch", b""), Value(b"0")),
+            (Write(b"s.switch", b"0"), Done),
+            (
+                Swap(b"Idle -> s :: Switch(1); s -> Discard; s [1] -> Discard;"),
+                Done,
+            ),
+            (Read(b"s.switch", b""), Value(b"0")),
+            (Write(b"s.switch", b"-1"), Done),
+            (Swap(b"Idle -> s :: Switch(0) -> Discard;"), Done),
+            (Read(b"s.switch", b""), Value(b"-1")),
+            (Swap(b"Idle -> s :: RoundRobinSwitch -> Discard;"), Done),
+            (Swap(b"Idle -> s :: Switch(0) -> Discard;"), Done),
+            (Read(b"s.switch", b""), Value(b"0")),
+        ],
+    },
+    Case {
+        shows: "a refused swap leaves counts and switches as they were",
+        text: b"FromDevice(a) -> c :: Counter -> s :: Switch(0) -> Discard; s [1] -> Discard;",
+        steps: &[
+            (Arrive(b"a", b"abc"), Entered(1)),
+            (Write(b"s.switch", b"1"), Done),
+            (
+                Swap(b"Idle -> s :: Switch(0) -> Discard; Idle -> c :: Counter;"),
+                Line(b"31 Count at c outputs 0"),
+            ),
+            (Read(b"c.count", b""), Value(b"1")),
+            (Read(b"c.byte_count", b""), Value(b"3")),
+            (Read(b"s.switch", b""), Value(b"1")),
         ],
     },
     Case {
@@ -74,7 +173,7 @@ const TAKEN_OVER: &[Case<'static>] = &[
 ];
 
 #[test]
-fn like_named_queues_are_taken_over(rt: HostRuntime) -> Result<(), Fail> {
+fn like_named_elements_are_taken_over(rt: HostRuntime) -> Result<(), Fail> {
     walk(&rt, rt.alloc(), TAKEN_OVER)
 }
 

@@ -211,7 +211,7 @@ pub(crate) const COMMANDS: [Case<'static>; 16] = [
 ];
 
 /// Configurations that are read and swapped.
-pub(crate) const CONFIGURATIONS: [Case<'static>; 4] = [
+pub(crate) const CONFIGURATIONS: [Case<'static>; 6] = [
     Case {
         shows: "compounds with a parameter, without their scopes",
         text: b"elementclass P { $n | input -> q :: Queue($n) -> u :: Unqueue -> output; } elementclass R { $m | input -> p :: P($m) -> output; } Idle -> x :: R(5) -> Discard;",
@@ -279,6 +279,60 @@ pub(crate) const CONFIGURATIONS: [Case<'static>; 4] = [
             },
         ],
         entries: 13,
+    },
+    Case {
+        shows: "a Counter that goes on counting, and one that was not there just before",
+        text: b"FromDevice(a) -> c :: Counter -> Discard;",
+        room: ROOM,
+        steps: &[
+            Step::Arrives {
+                device: b"a",
+                packet: b"abc",
+            },
+            Step::Arrives {
+                device: b"a",
+                packet: b"def",
+            },
+            Step::Talks(Talk {
+                input: b"WRITE hotconfig Idle -> c :: Counter -> Discard;\nREAD c.count\nREAD c.byte_count\n",
+                readonly: false,
+                replies: b"200 Write handler 'hotconfig' OK\r\n200 Read handler 'c.count' OK\r\nDATA 1\r\n2200 Read handler 'c.byte_count' OK\r\nDATA 1\r\n6",
+                end: Ended::EndOfInput,
+            }),
+            Step::Talks(Talk {
+                input: b"WRITE hotconfig Idle -> Discard;\nWRITE hotconfig Idle -> c :: Counter -> Discard;\nREAD c.count\n",
+                readonly: false,
+                replies: b"200 Write handler 'hotconfig' OK\r\n200 Write handler 'hotconfig' OK\r\n200 Read handler 'c.count' OK\r\nDATA 1\r\n0",
+                end: Ended::EndOfInput,
+            }),
+        ],
+        entries: 8,
+    },
+    Case {
+        shows: "a Switch that keeps its output, one that does not have it, and one that drops",
+        text: b"Idle -> s :: Switch(0) -> Discard; s [1] -> Discard;",
+        room: ROOM,
+        steps: &[
+            Step::Talks(Talk {
+                input: b"WRITE s.switch 1\nWRITE hotconfig Idle -> s :: Switch(0) -> Discard; s [1] -> Discard;\nREAD s.switch\n",
+                readonly: false,
+                replies: b"200 Write handler 's.switch' OK\r\n200 Write handler 'hotconfig' OK\r\n200 Read handler 's.switch' OK\r\nDATA 1\r\n1",
+                end: Ended::EndOfInput,
+            }),
+            Step::Talks(Talk {
+                input: b"WRITE hotconfig Idle -> s :: Switch(0) -> Discard;\nREAD s.switch\n",
+                readonly: false,
+                replies: b"200 Write handler 'hotconfig' OK\r\n200 Read handler 's.switch' OK\r\nDATA 1\r\n0",
+                end: Ended::EndOfInput,
+            }),
+            Step::Talks(Talk {
+                input: b"WRITE s.switch -1\nWRITE hotconfig Idle -> s :: Switch(0) -> Discard; s [1] -> Discard;\nREAD s.switch\n",
+                readonly: false,
+                replies: b"200 Write handler 's.switch' OK\r\n200 Write handler 'hotconfig' OK\r\n200 Read handler 's.switch' OK\r\nDATA 2\r\n-1",
+                end: Ended::EndOfInput,
+            }),
+        ],
+        entries: 8,
     },
     Case {
         shows: "the longest prefixes of addresses, in a line and in a payload, and what is no address",
@@ -357,7 +411,7 @@ pub(crate) const PACKETS: [Case<'static>; 9] = [
         entries: 6,
     },
     Case {
-        shows: "a loop ends after 256 crossings",
+        shows: "a loop ends after 1,024 crossings",
         text: b"FromDevice(a) -> n :: Null -> n;",
         room: ROOM,
         steps: &[
@@ -386,7 +440,7 @@ pub(crate) const PACKETS: [Case<'static>; 9] = [
             Step::Talks(Talk {
                 input: b"READ overruns\nREAD c.count\n",
                 readonly: false,
-                replies: b"200 Read handler 'overruns' OK\r\nDATA 3\r\n257200 Read handler 'c.count' OK\r\nDATA 1\r\n0",
+                replies: b"200 Read handler 'overruns' OK\r\nDATA 4\r\n1025200 Read handler 'c.count' OK\r\nDATA 1\r\n0",
                 end: Ended::EndOfInput,
             }),
         ],
@@ -404,7 +458,7 @@ pub(crate) const PACKETS: [Case<'static>; 9] = [
             Step::Talks(Talk {
                 input: b"READ overruns\nREAD c.count\n",
                 readonly: false,
-                replies: b"200 Read handler 'overruns' OK\r\nDATA 1\r\n2200 Read handler 'c.count' OK\r\nDATA 2\r\n85",
+                replies: b"200 Read handler 'overruns' OK\r\nDATA 1\r\n2200 Read handler 'c.count' OK\r\nDATA 3\r\n341",
                 end: Ended::EndOfInput,
             }),
         ],
