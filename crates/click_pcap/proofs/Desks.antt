@@ -5,7 +5,7 @@ use Rattle.std.proofs.lemmas.Bool.Decides.{nat_tests}
 use Rattle.std.proofs.lemmas.List.Sums.{sum_by-cons}
 use Rattle.std.specs.List.{All}
 use Rattle.std.proofs.lemmas.List.Elements.{All-head, All-tail}
-use Rattle.click_rings.specs.Feeds.{RingName, FeedName, Drawing, name_of, are_apart}
+use Rattle.click_rings.specs.Feeds.{RingName, FeedName, Feeding, Putting, Drawing, name_of, are_apart}
 use Rattle.click_desk.specs.Booklet.{Booklet}
 use Rattle.click_desk.specs.Closing.{Closes, IsEachOnce, IsEntered}
 use Rattle.click_desk.specs.Openings.{IsOpenFault, AreFit}
@@ -16,11 +16,12 @@ use Rattle.click_desk.specs.History.{Legal, entries, entry}
 use Rattle.click_desk.specs.Polls.{polled}
 use Rattle.click_desk.specs.declared.entry.Entry.{Entry}
 use Rattle.click_packet.specs.Packet.{Packet}
-use Rattle.std.specs.Prelude.{OnOk}
+use Rattle.std.specs.Prelude.{◌≢◌, OnOk, IfErr, IfSome, Option, Some}
 use Rattle.click_pcap.specs.declared.stop.Stop.{Stop}
-use Rattle.click_pcap.proofs.Legs.{on_ok}
+use Rattle.click_pcap.specs.declared.stop.Stop.TheVariants as stop
+use Rattle.click_pcap.proofs.Legs.{on_ok, on_err}
 use Rattle.click_pcap.specs.Ways.{Way}
-use Rattle.click_pcap.specs.Runs.{IsTrueFault, IsLate, no_passage, alone, Closed}
+use Rattle.click_pcap.specs.Runs.{IsTrueFault, IsLate, no_passage, alone, Closed, Unsettled}
 
 -- the only seat of a new desk
 pub only-new : (desk : DeskName) (feeds : List FeedName) (seats : List Sitting) (x : Sitting) → seats ≡ seats_below desk feeds 1 → seats ≡ x ∷ [] → x ≡ new_seat desk feeds 0
@@ -90,31 +91,43 @@ own-alone s (e ∷ es) zeroth all =
 pub whole : (desk : DeskName) (s : Sitting) (book : Booklet) → s.number ≡ 0 → Closes desk (s ∷ []) book → book.entries ≡ alone s.calls
 whole desk s book zeroth closes = own-alone s book.entries zeroth closes.numbered ∙ ap alone (All-head (IsEntered book.entries) s [] closes.entered).0
 
+-- what the polls of such a history took
+pub taken-of : (desk : DeskName) (s : Sitting) (book : Booklet) (d e : List ℕ) → s.number ≡ 0 → Closes desk (s ∷ []) book → d ≡ e → polled book.entries d ≡ polled (alone s.calls) e
+taken-of desk s book d e zeroth closes same = ap (λ (l : List Entry). polled l d) (whole desk s book zeroth closes) ∙ ap (λ (x : List ℕ). polled (alone s.calls) x) same
+
 -- what is left of a closed passage
 pub closed-of : (w : Way) (desk : DeskName) (s : Sitting) (book : Booklet) → desk.terms.opening ≡ w.opening → s.number ≡ 0 → s.calls ≡ w.calls → Closes desk (s ∷ []) book
-    → w.put ≡ polled book.entries w.source → Closed w
+    → w.put ≡ polled (alone w.calls) w.source → Closed w
 closed-of w desk s book opening zeroth calls closes taken =
     let all : book.entries ≡ alone w.calls = whole desk s book zeroth closes ∙ ap alone calls in
     record {
       router = book.router;
       legal = subst (λ t. Legal t (alone w.calls) book.router) (closes.opening ∙ opening) (subst (λ (l : List Entry). Legal book.opening l book.router) all closes.replayed);
-      taken = taken ∙ ap (λ (l : List Entry). polled l w.source) all;
+      taken = taken;
     }
 
 -- the feeds of a closed desk
 pub feeds-of : (desk : DeskName) (s : Sitting) (book : Booklet) → Closes desk (s ∷ []) book → map name_of book.taps ≡ s.feeds
 feeds-of desk s book closes = sym (closes.feeds s)
 
+-- the end of a feed, which has one
+pub end-of : (o : Option Feeding) (end : Feeding) (f : Putting) → o ≡ Some end → IfSome o (λ e. (e.ring ≡ f.ring) × (e.put ≡ f.put)) → (end.ring ≡ f.ring) × (end.put ≡ f.put)
+end-of o end f is ends = subst (λ (o : Option Feeding). IfSome o (λ e. (e.ring ≡ f.ring) × (e.put ≡ f.put))) is ends
+
 -- the only tap is the feed's
-pub own-one : (n : FeedName) (is : List Drawing) → map name_of is ≡ n ∷ [] → All (λ i. i.device ≡ n.device → i.ring ≡ n.ring) is
-own-one n [] same k x below = absurd (omega arith)
-own-one n (i ∷ []) same zero x below = λ here. let e : name_of i ≡ n = cc in ap (λ (f : FeedName). f.ring) e
-own-one n (i ∷ []) same (suc k) x below = absurd (omega arith)
-own-one n (i ∷ j ∷ is) same k x below = absurd (let e : length (map name_of (i ∷ j ∷ is)) ≡ 1 = ap length same in omega arith)
+pub own-one : (n : FeedName) (r : RingName) (is : List Drawing) → map name_of is ≡ n ∷ [] → r ≡ n.ring → All (λ i. i.device ≡ n.device → i.ring ≡ r) is
+own-one n r [] same ring k x below = absurd (omega arith)
+own-one n r (i ∷ []) same ring zero x below = λ here. let e : name_of i ≡ n = cc in ap (λ (f : FeedName). f.ring) e ∙ sym ring
+own-one n r (i ∷ []) same ring (suc k) x below = absurd (omega arith)
+own-one n r (i ∷ j ∷ is) same ring k x below = absurd (let e : length (map name_of (i ∷ j ∷ is)) ≡ 1 = ap length same in omega arith)
 
 -- where nothing is left, all was polled
 pub all-taken : {T : Type 0} (r : Result T Stop) (put had left : List Packet) → put ≡ had ++ left → OnOk r (left ≡ []) → OnOk r (put ≡ had)
 all-taken r put had left is none = on_ok r (λ e. is ∙ ap (λ (l : List Packet). had ++ l) e ∙ append-nil had) none
+
+-- where something is left, it was put behind what was polled
+pub left-over : {T : Type 0} (r : Result T Stop) (put had left : List Packet) → put ≡ had ++ left → IfErr r (λ s. (s ≡ stop.FeedStuck) × (left ≢ [])) → IfErr r (Unsettled put had)
+left-over r put had left is some = on_err r (λ s h. subst (Unsettled put had) (sym h.0) (left, is, h.1)) some
 
 -- the feed of the same device by another name
 pub feed-at : (d e : List ℕ) (r : RingName) (taps : List Drawing) → map name_of taps ≡ (record { device = d; ring = r }) ∷ [] → e ≡ d → map name_of taps ≡ (record { device = e; ring = r }) ∷ []

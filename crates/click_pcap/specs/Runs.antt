@@ -62,11 +62,15 @@ abbrev pub alone : List (Call × Reply) → List Entry
 alone [] = []
 alone (c ∷ cs) = entry 0 c.0 c.1 ∷ alone cs
 
--- why a run is not closed: memory runs out, or the feed did not give back what was left of it, or a packet was left
-abbrev pub Unclosed : Stop → Type 0
-Unclosed stop.NoMemory = Unit {0}
-Unclosed stop.FeedStuck = Unit {0}
-Unclosed _ = ⊥
+-- why a feed that put these packets, of which polls took those, is not settled with none left: memory runs out, or packets are left behind those that were taken
+abbrev pub Unsettled : List Packet → List Packet → Stop → Type 0
+Unsettled put taken stop.NoMemory = Unit {0}
+Unsettled put taken stop.FeedStuck = (left : List Packet) × (put ≡ taken ++ left) × (left ≢ [])
+Unsettled put taken _ = ⊥
+
+-- why a run is not closed: by what its polls took
+abbrev pub Unclosed : Way → Stop → Type 0
+Unclosed w s = Unsettled w.put (polled (alone w.calls) w.source) s
 
 -- The calls of a run are the history of one thread that begins with what the text opens, and its polls took from the feed just what was put there: no packet was lost.
 pub record Closed (w : Way) : Type 0 where

@@ -133,7 +133,7 @@ fn carried<T: Handlers + Drop, R: Wait>(
 ) -> Result<(), Stop> {
     let mut tally = Tally::default();
     let came = carried_from(wait, rt, &mut passage, &mut tally);
-    // What broke the run off is told first, then a packet that was left in the feed.
+    // What broke the run off is told first, then packets that were left in the feed.
     let ended = came.and(passage.close(wait, rt.alloc()));
     tell(rt, ended, &tally);
     ended

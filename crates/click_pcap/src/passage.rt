@@ -1,6 +1,6 @@
 //! The router's side of a run: a desk with one seat, and the feed of the source.
 
-ghost use Rattle.std.specs.Prelude.{◌≡◌, ℕ, ◌≤◌, [], ◌∷◌, List, length, map, IfOk, IfErr, IfSome, OnOk, OnErr};
+ghost use Rattle.std.specs.Prelude.{◌≡◌, ◌≢◌, ℕ, ◌≤◌, [], ◌∷◌, List, length, map, IfOk, IfErr, IfSome, OnOk, OnErr};
 ghost use Rattle.click_rings.specs.Feeds.{name_of};
 ghost use Rattle.click_desk.specs.Closing.{Closes};
 ghost use Rattle.click_desk.specs.Polls.{polled};
@@ -11,12 +11,12 @@ ghost use Rattle.click_router.specs.declared.call.Reply.{Reply as AReply};
 ghost use Rattle.click_pcap.specs.Stops.{desk_stop};
 ghost use Rattle.click_pcap.specs.Ways.{went, called, sent_packet, polling, round, worked_reply, transmit, IsPollReply, Enters, NoCall};
 ghost use Rattle.click_pcap.specs.Carrying.{CanBreak, NotPut, NotEntered, Breaks};
-ghost use Rattle.click_pcap.specs.Runs.{IsTrueFault, AsksEnds, AsksSource, AsksSink, Closed, Unclosed, IsLate, no_passage};
+ghost use Rattle.click_pcap.specs.Runs.{IsTrueFault, AsksEnds, AsksSource, AsksSink, Closed, Unclosed, Unsettled, IsLate, no_passage};
 
 use crate::stop::Stop;
 use click_desk::{Book, Desk, DeskFault, OpenFault, Seat};
 use click_packet::{Packet, StoredPacket};
-use click_rings::{Feed, FeedEnd, Inlet, opening};
+use click_rings::{Feed, Inlet, opening};
 use click_router::{Call, ConfigFault, Handlers, Reply};
 use click_text::sequence::Sequence;
 use std::alloc::{AllocError, Global};
@@ -300,10 +300,10 @@ impl<T: Handlers + Drop> Passage<T> {
         }
     }
 
-    /// Ends the feed and closes the desk. Each packet that was fed was taken by a poll, or the answer is `FeedStuck`.
+    /// Closes the desk and ends the feed. The answer is `FeedStuck` where packets are left that no poll took, and then alone.
     pub fn close<R: Wait>(self, rt: &R, alloc: Global) -> Result<(), Stop>
         ensures ok { OnOk result (Closed self) }
-        ensures err { IfErr result Unclosed }
+        ensures err { IfErr result (Unclosed self) }
     {
         let Passage {
             desk,
@@ -313,7 +313,7 @@ impl<T: Handlers + Drop> Passage<T> {
             sink: _,
         } = self;
         match closed(rt, alloc, desk, seat) {
-            Ok(book) => finished(alloc, book, source.as_slice(), feed),
+            Ok(book) => settled(alloc, book, source.as_slice(), feed),
             Err(stop) => Err(stop),
         }
     }
@@ -338,7 +338,7 @@ fn closed<T: Drop, R: Wait>(
 ) -> Result<Book<T>, Stop>
     requires { (seat.desk ≡ desk) × (seat.number ≡ 0) × (desk.terms.seats ≡ 1) }
     ensures ok { IfOk result (λ book. Closes desk (seat ∷ []) book) }
-    ensures err { IfErr result Unclosed }
+    ensures err { IfErr result (λ stop. stop ≡ Stop.NoMemory) }
 {
     let Ok(mut seats) = Vec::with_capacity(alloc, 1) else {
         return Err(Stop::NoMemory);
@@ -350,39 +350,22 @@ fn closed<T: Drop, R: Wait>(
     }
 }
 
-/// Ends the only feed of a book. Each packet that was put was polled, or the answer is `FeedStuck`.
-fn finished<T: Drop>(alloc: Global, book: Book<T>, device: &[u8], feed: Feed) -> Result<(), Stop>
+/// Ends the only feed of a book and settles it. Each packet that was put was polled, or the answer is `FeedStuck`.
+fn settled<T: Drop>(alloc: Global, mut book: Book<T>, device: &[u8], feed: Feed) -> Result<(), Stop>
     requires { map name_of book.taps ≡ (record { device = device.now; ring = feed.ring }) ∷ [] }
     ensures ok { OnOk result (feed.put ≡ polled book.entries device.now) }
-    ensures err { IfErr result Unclosed }
+    ensures err { IfErr result (Unsettled feed.put (polled book.entries device.now)) }
 {
-    match feed.finish() {
-        Some(end) => settled(alloc, book, device, end),
-        None => Err(Stop::FeedStuck),
-    }
-}
-
-/// Settles the only feed of a book.
-fn settled<T: Drop>(
-    alloc: Global,
-    mut book: Book<T>,
-    device: &[u8],
-    end: FeedEnd,
-) -> Result<(), Stop>
-    requires { map name_of book.taps ≡ (record { device = device.now; ring = end.ring }) ∷ [] }
-    ensures ok { OnOk result (end.put ≡ polled book.entries device.now) }
-    ensures err { IfErr result Unclosed }
-{
-    match book.settle(alloc, device, end) {
+    match book.settle(alloc, device, feed.finish().unwrap()) {
         Ok(left) => none_left(&left),
         Err(_refused) => Err(Stop::NoMemory),
     }
 }
 
-/// Tells a packet that was left in the feed.
+/// Tells packets that were left in the feed.
 fn none_left(left: &Vec<StoredPacket>) -> Result<(), Stop>
     ensures ok { OnOk result (left.now.items ≡ []) }
-    ensures err { IfErr result Unclosed }
+    ensures err { IfErr result (λ stop. (stop ≡ Stop.FeedStuck) × (left.now.items ≢ [])) }
 {
     if left.is_empty() {
         Ok(())

@@ -32,7 +32,7 @@ pub enum Stop {
     /// The router's history is full.
     #[error("a run has room for 1048576 calls, and made them all")]
     HistoryFull,
-    /// A packet was not taken from the feed. No run answers it.
+    /// A packet was put that no poll took. No run answers it.
     #[error("a packet was left in the feed")]
     FeedStuck,
     #[error("out of memory")]

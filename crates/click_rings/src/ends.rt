@@ -1,10 +1,10 @@
 //! The two ends of a feed.
 
-ghost use Rattle.std.specs.Prelude.{◌≡◌, ◌<◌, ◌++◌, ◌∷◌, [], length, IsOk, IfErr, IfSome, OnOk};
+ghost use Rattle.std.specs.Prelude.{◌≡◌, ◌<◌, ◌++◌, ◌∷◌, [], length, IsOk, IsSome, IfErr, IfSome, OnOk};
 
 use click_packet::StoredPacket;
 use click_text::sequence::Sequence;
-use rtrb::{Consumer, Finished, Producer, PushError};
+use rtrb::{Consumer, Producer, PushError};
 use std::marker::Model;
 
 /// The end that a driver has.
@@ -26,19 +26,19 @@ impl Model for Feed {
     ghost invariant = { λ f. producer_capacity f.producer ≤ length (sent f.producer) + known_free f.producer };
 }
 
-/// What a feed that has finished put in all.
+/// What a feed that has finished put in all. It holds the ring, whose inlet may be gone, and nobody puts more.
 #[derive(Drop)]
 pub struct FeedEnd {
-    pub(crate) finished: Finished<StoredPacket>,
+    pub(crate) producer: Producer<StoredPacket>,
 }
 
 impl Model for FeedEnd {
     ghost use Rattle.click_rings.specs.Feeds.{Feeding};
-    ghost use Rattle.rtrb.specs.Ring.{all_sent};
+    ghost use Rattle.rtrb.specs.Ring.{sent};
 
     ghost Value = { Feeding };
 
-    ghost view = { λ f. record { ring = record { words = f.finished.end.words; slots = f.finished.end.slots; names = f.finished.end.names }; put = all_sent f.finished } };
+    ghost view = { λ f. record { ring = record { words = f.producer.end.words; slots = f.producer.end.slots; names = f.producer.end.names }; put = sent f.producer } };
 }
 
 /// The end that a desk is opened with. Nothing was drawn from it.
@@ -74,13 +74,13 @@ impl Feed {
         }
     }
 
-    /// Ends the feed, and keeps what it put.
+    /// Ends the feed, and keeps what it put. There always is an end.
     pub fn finish(self) -> Option<FeedEnd>
-        ensures { IfSome result (λ end. (end.ring ≡ self.ring) × (end.put ≡ self.put)) }
+        ensures some { IsSome result }
+        ensures end { IfSome result (λ end. (end.ring ≡ self.ring) × (end.put ≡ self.put)) }
     {
         let Feed { producer } = self;
-        let finished = producer.finish()?;
-        Some(FeedEnd { finished })
+        Some(FeedEnd { producer })
     }
 }
 

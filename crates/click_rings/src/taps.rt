@@ -77,7 +77,7 @@ impl Tap {
         ensures ok { IfOk result (λ left. (end.old.put ≡ self.old.drawn ++ left.items) × (self.new.drawn ≡ end.old.put)) }
         ensures err { OnErr result (self.new.drawn ≡ self.old.drawn) }
     {
-        let count = self.consumer.slots_after(&mut end.finished);
+        let count = self.consumer.slots_beside(&mut end.producer);
         let mut left = Vec::with_capacity(alloc, count)?;
         for _ in 0..count {
             left.push_reserved(self.consumer.pop_known());

@@ -11,5 +11,5 @@ settle_again-requires g c =
     let items : c.push_reserved.new.self.items ≡ c.args.seat ∷ [] = c.push_reserved.ensures.items ∙ ap (λ l. l ++ c.args.seat ∷ []) c.in_ok-seats.ensures.items in
     let names : map name_of taps ≡ n ∷ [] =
     sym (c.in-Ok-Some.ensures.ok.1.feeds c.args.seat) ∙ (ap (λ (l : List Sitting). (slice_index_or l 0 c.args.seat).feeds) items ∙ c.requires.1) in
-    let ring : c.in-Ok-Some.end.ring ≡ n.ring = c.in-Ok-Some.ensures'.0 in
+    let ring : c.in-Ok-Some.end.ring ≡ n.ring = c.in-Ok-Some.ensures'.end.0 in
     λ k d below here. own_ring n [] taps names (ap are_apart names) k d below here ∙ sym ring
