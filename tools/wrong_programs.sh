@@ -414,7 +414,7 @@ for change in 1d '$d' '$p' 's/^3 statements/2 statements/' 's/BadByte 5\.\.6/Bad
 done
 echo "$refused times a wrong page was refused"
 
-# run.sh, and what it takes from tools/built.sh.
+# run.sh, and what it takes from tools/built.sh and tools/how_far.sh.
 refused=0
 wrong_front() {
     changed run.sh "$1"
@@ -424,10 +424,18 @@ wrong_built() {
     changed tools/built.sh "$1"
     is_refused "tools/built.sh with the change $1" tools/front_door.sh run.sh "$work/page"
 }
-for change in 's/ < \/dev\/null > "\$log"/ > "$log"/' 's/> "\$log" 2>&1/2>\&1/' 's/> "\$log" 2>&1/> "$log"/' 's/^exec //' 's/^exec \(.*\)"\$@"/exec \1$@/' \
-    's/^exec \(.*\) "\$@"/exec \1/' 's/^exec /cd "$top"; exec /' 's/exit 5/exit 1/' '/write_stamp/d' '/changed while/d' '/command -v rt/d' 's/^if ! is_built_from.*/if true; then/' \
-    's/^if ! is_built_from.*/if ! [ -x "$built" ]; then/'; do
+wrong_how_far() {
+    changed tools/how_far.sh "$1"
+    is_refused "tools/how_far.sh with the change $1" tools/front_door.sh run.sh tools/built.sh "$work/page"
+}
+for change in 's/ < \/dev\/null 2>&1/ 2>\&1/' 's/ 2>&1 | tee/ | tee/' 's/ | tee -i "\$log"//' 's/ | how_far click_prog//' 's/set -o pipefail; //' '/^    trap broken_off INT/d' \
+    's/kill -INT/exit 1; kill/' 's/how_far click_prog/how_far middle/' 's/^exec //' 's/^exec \(.*\)"\$@"/exec \1$@/' 's/^exec \(.*\) "\$@"/exec \1/' 's/^exec /cd "$top"; exec /' \
+    's/exit 5/exit 1/' '/write_stamp/d' '/changed while/d' '/command -v rt/d' 's/^if ! is_built_from.*/if true; then/' 's/^if ! is_built_from.*/if ! [ -x "$built" ]; then/'; do
     wrong_front "$change"
+done
+for change in 's/place=\$((at + 1))/place=$at/' 's/count=\${#crates\[@\]}/count=7/' 's/END { put(last) }/END { print last }/' 's/functions=\${line#\*functions=}/functions=0/' \
+    's/proved=\$((proved + 1))/proved=0/' "s/printf '.r%s/printf '%s/" 's/if \[ -t 2 \]; then printf .*; else/if false; then :; else/' "/'0:logic=proved/,/crate=/d"; do
+    wrong_how_far "$change"
 done
 for change in 's/in src specs proofs/in src proofs/' 's/"\$version" //' 's/find crates.txt HANDLES/find HANDLES/' 's/find crates.txt HANDLES/find crates.txt/' \
     's/"crates\/\$crate\/\$part")/"crates\/$crate")/' 's/crates=\$(crates_below click_prog)/crates=$(ls crates)/' 's/crates=\$(crates_below click_prog)/crates=click_prog/' \
