@@ -398,6 +398,20 @@ CALLS=$calls wrong_page tools/element_pages.sh docs/ELEMENTS.md 's/^## Tee$/## T
 wrong_page tools/fault_examples.sh docs/FAULTS.md '/^| 23 /d' 's/^| 23 BadText/| 23 BadWord/' 's/^| 23 /| 27 /' '/^| 23 /p' 's/at 1:48/at 1:49/' \
     's/17 BrokenText in P@2/17 BrokenText in P@3/' 's/Idle => Discard/Idle -> Discard/' 's/^| /- /'
 
+# wrong_names PAGE CHANGE..: links, paths and names that are none, and a README that is too large.
+wrong_names() {
+    local page=$1 change
+    shift
+    for change in "$@"; do
+        changed "$page" "$change"
+        is_refused "$page with the change $change" tools/links.py "$work/page" "$page"
+    done
+}
+wrong_names README.md 's/(docs\/CALLS\.md)/(docs\/CALL.md)/' 's/(docs\/CALLS\.md)/(CALLS.md)/' 's/`parse`/`parse_texts`/' 's/`Desk::close`/`Desk::shut_down`/' '1s/$/'"$(printf '%120s')"'/' '1,40p'
+wrong_names docs/TESTS.md 's/tools\/refuse\.sh/tools\/refuses.sh/' 's/feeds::feeds_lose_nothing/feeds::feeds_lose_all/' 's/(DEFINITIONS\.md)/(DEFINITIONS.md#no-heading)/' 's/examples\/run\.sh/examples\/runs.sh/'
+wrong_names docs/ARCHITECTURE.md 's/`specs\/Acts\.antt`/`specs\/Actions.antt`/' '$a see NOPAGE.md' '$a `src/nowhere.rt`' '$a `NoSuchThing`'
+wrong_names examples/README.md '/^| `hotswap` /d'
+
 # The examples of the language: a page and the list of what is read have to agree.
 wrong_language() {
     changed docs/LANGUAGE.md "$1"
