@@ -386,7 +386,8 @@ PROGRAM=$program PCAP=$pcap wrong_page tools/readme.sh README.md '/^    \.\/run\
     's/--in eth0/--in eth1/'
 wrong_page tools/tries.sh README.md '/^    rt try/d' '/^    cd crates/d' 's/^    cd crates\/click_prog/    cd crates\/click_text/' '/^which answers/d' \
     's/^    0200/    200/'
-wrong_page tools/control_example.sh docs/CONTROL.md '/^An example, with/d' 's/^    > QUIT/    > STOP/' 's/^    510/    511/' '/^    DATA 1/d'
+wrong_page tools/control_example.sh docs/CONTROL.md '/^An example, with/d' 's/^    > QUIT/    > STOP/' 's/^    510/    511/' '/^    DATA 1/d' \
+    '/^With `\.\/run\.sh/d' 's/^READ c.none \["511/READ c.none ["510/' 's/== "-":$/== "x":/' 's/\["520-Write/["520 Write/'
 wrong_page tools/control_example.sh docs/HOTSWAP.md '/^An example, with/d' 's/^    > QUIT/    > STOP/' 's/^    520 31/    520 32/' 's/^    2> /    3> /' 's/^    >   ->/    > ->/' \
     's/^      ->/     ->/'
 wrong_page tools/feed_page.sh docs/FEEDS.md 's/self.count >= packets/self.count > packets/' '/thread::yield_now/d' '/^    /d'
