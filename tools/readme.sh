@@ -1,7 +1,7 @@
 #!/usr/bin/env bash
 # Runs README's first command, the first indented line that begins with ./run.sh, as it stands there, from the top, and compares the answer with the
 # block that README shows after the line 'which answers': without carriage returns, which a page does not show. Then README's capture, the indented command
-# that begins with the program of click_pcap, which has to say what stands in backquotes after 'which says'.
+# that begins with the program of click_pcap, which has to say what stands in backquotes after 'which says'. The toolchain is the one that README names.
 #
 #   tools/readme.sh [PAGE]
 set -eu
@@ -43,4 +43,7 @@ same_status 0 "$status" "README's capture"
 same "$says" "$(cat "$work/err")" "what README's capture says"
 is_empty "$work/out" "standard output of README's capture"
 is_not_empty out.pcap "what README's capture writes"
+
+version=$(sed -n 's/.*`rt version` is `\([^`]*\)`.*/\1/p' "$page")
+same "$version" "$(rt version)" "the toolchain that $page names"
 echo "README's first command answers as it shows, and its capture says what it shows"

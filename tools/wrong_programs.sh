@@ -383,7 +383,7 @@ wrong_page() {
 }
 PROGRAM=$program PCAP=$pcap wrong_page tools/readme.sh README.md '/^    \.\/run\.sh/d' 's/^    \.\/run\.sh -e/    .\/run.sh -x/' '/^which answers/d' \
     '/^    DATA 1/d' 's/^    200 Read/    201 Read/' 's/^    0200/    200/' '/^    crates\/click_pcap/d' '/^which says/d' 's/^which says `read 3/which says `read 4/' \
-    's/--in eth0/--in eth1/'
+    's/--in eth0/--in eth1/' 's/rattle-kit-13b/rattle-kit-13/'
 wrong_page tools/tries.sh README.md '/^    rt try/d' '/^    cd crates/d' 's/^    cd crates\/click_prog/    cd crates\/click_text/' '/^which answers/d' \
     's/^    0200/    200/'
 wrong_page tools/control_example.sh docs/CONTROL.md '/^An example, with/d' 's/^    > QUIT/    > STOP/' 's/^    510/    511/' '/^    DATA 1/d' \
