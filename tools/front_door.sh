@@ -39,8 +39,9 @@ run)
         echo 'so far: 0 of 7 functions checked; the verdict comes last'
         echo "fn \$crate::one: proved"
         if [ -e "$work/waits" ] && [ \$crate = middle ]; then touch "$work/waiting"; sleep 60; exit 1; fi
+        printf 'logic=proved func'
         if [ -e "$work/slow" ] && [ \$crate = middle ]; then sleep 1.5; fi
-        echo 'logic=proved functions=7 sum=0 statements=trusted'
+        echo 'tions=7 sum=0 statements=trusted'
         touch "$work/proved/\$crate"
     done
     mkdir -p out

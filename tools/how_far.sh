@@ -21,7 +21,7 @@ since() { if [ $SECONDS -lt 60 ]; then echo "$SECONDS s"; else printf '%d min %0
 # how_far NAME: reads what `rt run` of the crate says and writes a line on standard error for each crate as it is proved: which of how many it is, its name, its functions, and the
 # time from the start. On a terminal the crate at work stands in the last line, which is written anew. Crates that were proved before are passed over: rt says nothing of them.
 how_far() {
-    local crates count crate='' place=0 proved=0 functions='' line heard at
+    local crates count crate='' place=0 proved=0 functions='' line begun='' heard at
     # Ctrl-C ends rt, and with that what is read here.
     trap '' INT
     mapfile -t crates < <(crates_in_order "$1")
@@ -29,6 +29,9 @@ how_far() {
     while :; do
         heard=0
         IFS= read -r -t 1 line || heard=$?
+        # Where the second is over in a line, what was read of it is its beginning.
+        line=$begun$line begun=''
+        if [ $heard -gt 128 ]; then begun=$line; fi
         case $heard:$line in
         '0:rt: chose --jobs '*)
             crate=${line##* } proved=0 functions=''

@@ -451,7 +451,7 @@ for change in 's/ < \/dev\/null 2>&1/ 2>\&1/' 's/ 2>&1 | tee/ | tee/' 's/ | tee 
     wrong_front "$change"
 done
 for change in 's/place=\$((at + 1))/place=$at/' 's/count=\${#crates\[@\]}/count=7/' 's/END { put(last) }/END { print last }/' 's/functions=\${line#\*functions=}/functions=0/' \
-    's/proved=\$((proved + 1))/proved=0/' "s/printf '.r%s/printf '%s/" 's/if \[ -t 2 \]; then printf .*; else/if false; then :; else/' "/'0:logic=proved/,/crate=/d"; do
+    's/proved=\$((proved + 1))/proved=0/' "s/printf '.r%s/printf '%s/" 's/if \[ -t 2 \]; then printf .*; else/if false; then :; else/' "/'0:logic=proved/,/crate=/d" 's/line=\$begun\$line //'; do
     wrong_how_far "$change"
 done
 for change in 's/in src specs proofs/in src proofs/' 's/"\$version" //' 's/find crates.txt HANDLES/find HANDLES/' 's/find crates.txt HANDLES/find crates.txt/' \
