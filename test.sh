@@ -43,6 +43,7 @@ tools/language_examples.sh
 tools/fault_examples.sh
 tools/element_pages.sh
 tools/feed_page.sh
+tools/links.py
 tools/calls_examples.sh
 tools/pcap_example.sh
 tools/swap_faults.sh

@@ -381,10 +381,13 @@ wrong_page() {
         is_refused "$file with the change $change" "$script" "$work/page"
     done
 }
-PROGRAM=$program wrong_page tools/readme.sh README.md '/^    \.\/run\.sh/d' 's/^    \.\/run\.sh -e/    .\/run.sh -x/' '/^which answers/d' \
-    '/^    DATA 1/d' 's/^    200 Read/    201 Read/' 's/^    0200/    200/'
-wrong_page tools/tries.sh README.md '/^    rt try/d' '/^    cd crates/d' 's/^    cd crates\/click_prog/    cd crates\/click_text/'
-wrong_page tools/control_example.sh docs/CONTROL.md '/^An example, with/d' 's/^    > QUIT/    > STOP/' 's/^    510/    511/' '/^    DATA 1/d'
+PROGRAM=$program PCAP=$pcap wrong_page tools/readme.sh README.md '/^    \.\/run\.sh/d' 's/^    \.\/run\.sh -e/    .\/run.sh -x/' '/^which answers/d' \
+    '/^    DATA 1/d' 's/^    200 Read/    201 Read/' 's/^    0200/    200/' '/^    crates\/click_pcap/d' '/^which says/d' 's/^which says `read 3/which says `read 4/' \
+    's/--in eth0/--in eth1/' 's/rattle-kit-13b/rattle-kit-13/'
+wrong_page tools/tries.sh README.md '/^    rt try/d' '/^    cd crates/d' 's/^    cd crates\/click_prog/    cd crates\/click_text/' '/^which answers/d' \
+    's/^    0200/    200/'
+wrong_page tools/control_example.sh docs/CONTROL.md '/^An example, with/d' 's/^    > QUIT/    > STOP/' 's/^    510/    511/' '/^    DATA 1/d' \
+    '/^With `\.\/run\.sh/d' 's/^READ c.none \["511/READ c.none ["510/' 's/== "-":$/== "x":/' 's/\["520-Write/["520 Write/'
 wrong_page tools/control_example.sh docs/HOTSWAP.md '/^An example, with/d' 's/^    > QUIT/    > STOP/' 's/^    520 31/    520 32/' 's/^    2> /    3> /' 's/^    >   ->/    > ->/' \
     's/^      ->/     ->/'
 wrong_page tools/feed_page.sh docs/FEEDS.md 's/self.count >= packets/self.count > packets/' '/thread::yield_now/d' '/^    /d'
@@ -396,6 +399,20 @@ CALLS=$calls wrong_page tools/element_pages.sh docs/ELEMENTS.md 's/^## Tee$/## T
     '0,/^```calls$/s//```/' '0,/^> transmit b/s//> transmit a/' 's/^sent 61 255 /sent 61 254 /' '/^nodevice$/d' '$a ```calls\nIdle;\n> round\nworked 0\n```' '$d'
 wrong_page tools/fault_examples.sh docs/FAULTS.md '/^| 23 /d' 's/^| 23 BadText/| 23 BadWord/' 's/^| 23 /| 27 /' '/^| 23 /p' 's/at 1:48/at 1:49/' \
     's/17 BrokenText in P@2/17 BrokenText in P@3/' 's/Idle => Discard/Idle -> Discard/' 's/^| /- /'
+
+# wrong_names PAGE CHANGE..: links, paths and names that are none, and a README that is too large.
+wrong_names() {
+    local page=$1 change
+    shift
+    for change in "$@"; do
+        changed "$page" "$change"
+        is_refused "$page with the change $change" tools/links.py "$work/page" "$page"
+    done
+}
+wrong_names README.md 's/(docs\/CALLS\.md)/(docs\/CALL.md)/' 's/(docs\/CALLS\.md)/(CALLS.md)/' 's/`parse`/`parse_texts`/' 's/`Desk::close`/`Desk::shut_down`/' '1s/$/'"$(printf '%120s')"'/' '1,40p'
+wrong_names docs/TESTS.md 's/tools\/refuse\.sh/tools\/refuses.sh/' 's/feeds::feeds_lose_nothing/feeds::feeds_lose_all/' 's/(DEFINITIONS\.md)/(DEFINITIONS.md#no-heading)/' 's/examples\/run\.sh/examples\/runs.sh/'
+wrong_names docs/ARCHITECTURE.md 's/`specs\/Acts\.antt`/`specs\/Actions.antt`/' '$a see NOPAGE.md' '$a `src/nowhere.rt`' '$a `NoSuchThing`'
+wrong_names examples/README.md '/^| `hotswap` /d'
 
 # The examples of the language: a page and the list of what is read have to agree.
 wrong_language() {
@@ -415,7 +432,7 @@ for change in 1d '$d' '$p' 's/^3 statements/2 statements/' 's/BadByte 5\.\.6/Bad
 done
 echo "$refused times a wrong page was refused"
 
-# run.sh, and what it takes from tools/built.sh.
+# run.sh, and what it takes from tools/built.sh and tools/how_far.sh.
 refused=0
 wrong_front() {
     changed run.sh "$1"
@@ -425,10 +442,18 @@ wrong_built() {
     changed tools/built.sh "$1"
     is_refused "tools/built.sh with the change $1" tools/front_door.sh run.sh "$work/page"
 }
-for change in 's/ < \/dev\/null > "\$log"/ > "$log"/' 's/> "\$log" 2>&1/2>\&1/' 's/> "\$log" 2>&1/> "$log"/' 's/^exec //' 's/^exec \(.*\)"\$@"/exec \1$@/' \
-    's/^exec \(.*\) "\$@"/exec \1/' 's/^exec /cd "$top"; exec /' 's/exit 5/exit 1/' '/write_stamp/d' '/changed while/d' '/command -v rt/d' 's/^if ! is_built_from.*/if true; then/' \
-    's/^if ! is_built_from.*/if ! [ -x "$built" ]; then/'; do
+wrong_how_far() {
+    changed tools/how_far.sh "$1"
+    is_refused "tools/how_far.sh with the change $1" tools/front_door.sh run.sh tools/built.sh "$work/page"
+}
+for change in 's/ < \/dev\/null 2>&1/ 2>\&1/' 's/ 2>&1 | tee/ | tee/' 's/ | tee -i "\$log"//' 's/ | how_far click_prog//' 's/set -o pipefail; //' '/^    trap broken_off INT/d' \
+    's/kill -INT/exit 1; kill/' 's/how_far click_prog/how_far middle/' 's/^exec //' 's/^exec \(.*\)"\$@"/exec \1$@/' 's/^exec \(.*\) "\$@"/exec \1/' 's/^exec /cd "$top"; exec /' \
+    's/exit 5/exit 1/' '/write_stamp/d' '/changed while/d' '/command -v rt/d' 's/^if ! is_built_from.*/if true; then/' 's/^if ! is_built_from.*/if ! [ -x "$built" ]; then/'; do
     wrong_front "$change"
+done
+for change in 's/place=\$((at + 1))/place=$at/' 's/count=\${#crates\[@\]}/count=7/' 's/END { put(last) }/END { print last }/' 's/functions=\${line#\*functions=}/functions=0/' \
+    's/proved=\$((proved + 1))/proved=0/' "s/printf '.r%s/printf '%s/" 's/if \[ -t 2 \]; then printf .*; else/if false; then :; else/' "/'0:logic=proved/,/crate=/d" 's/line=\$begun\$line //'; do
+    wrong_how_far "$change"
 done
 for change in 's/in src specs proofs/in src proofs/' 's/"\$version" //' 's/find crates.txt HANDLES/find HANDLES/' 's/find crates.txt HANDLES/find crates.txt/' \
     's/"crates\/\$crate\/\$part")/"crates\/$crate")/' 's/crates=\$(crates_below click_prog)/crates=$(ls crates)/' 's/crates=\$(crates_below click_prog)/crates=click_prog/' \
