@@ -1,5 +1,5 @@
 -- What an element of a new configuration takes over from the element of the same name in the one before (Click manual, "hot swapping").
-use Rattle.std.specs.Prelude.{ℕ, ◌-◌, length, take}
+use Rattle.std.specs.Prelude.{ℕ, ◌-◌, length, take, nat_lt, Option, Some, None, if◌then◌else◌}
 use Rattle.click_classes.specs.PacketList.{PacketList}
 use Rattle.click_classes.specs.declared.state.State.{State}
 use Rattle.click_classes.specs.declared.state.State.TheVariants as state
@@ -12,9 +12,16 @@ filled q old = record q { packets = take q.capacity old.packets }
 abbrev pub left_over : PacketList → PacketList → ℕ
 left_over q old = length old.packets - q.capacity
 
--- A queue takes the packets of one of its class: those that have no room are its drops, and the number that it took is its high-water mark. All other
--- elements begin anew.
-abbrev pub taken_over : State → State → State
-taken_over (state.Queue q d h) (state.Queue old e i) = state.Queue (filled q old) (left_over q old) (length (filled q old).packets)
-taken_over (state.FrontDropQueue q d h) (state.FrontDropQueue old e i) = state.FrontDropQueue (filled q old) (left_over q old) (length (filled q old).packets)
-taken_over s old = s
+-- The position of a Switch with so many outputs, after one that stood at the second of these: that one, if it is -1 or one of the outputs, else its own.
+abbrev pub kept_position : ℕ → Option ℕ → Option ℕ → Option ℕ
+kept_position outputs own None = None
+kept_position outputs own (Some k) = if nat_lt k outputs then Some k else own
+
+-- What an element with so many outputs takes over from one of its class: a queue the packets, of which those that have no room are its drops, and the number that it
+-- took is its high-water mark; a Counter both counts; a Switch the position. All other elements begin anew.
+abbrev pub taken_over : ℕ → State → State → State
+taken_over outputs (state.Queue q d h) (state.Queue old e i) = state.Queue (filled q old) (left_over q old) (length (filled q old).packets)
+taken_over outputs (state.FrontDropQueue q d h) (state.FrontDropQueue old e i) = state.FrontDropQueue (filled q old) (left_over q old) (length (filled q old).packets)
+taken_over outputs (state.Counter n b) (state.Counter old_count old_bytes) = state.Counter old_count old_bytes
+taken_over outputs (state.Switch own) (state.Switch k) = state.Switch (kept_position outputs own k)
+taken_over outputs s old = s

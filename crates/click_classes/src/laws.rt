@@ -150,19 +150,41 @@ pub fn ports_stay_there()
     ensures first { (inputs outputs : ℕ) (s : State) → settings s ≡ s → (counts s).inputs.0 ≤ inputs → (counts s).outputs.0 ≤ outputs → HasTurn inputs outputs s }
 {}
 
-/// A queue that takes over from one of its class has a front of its packets, in order, and counts the others as drops, so that it loses none silently. All other elements
-/// begin as their arguments say.
+/// A queue that takes over from one of its class has a front of its packets, in order, and counts the others as drops, so that it loses none silently.
 pub fn taken_queues_lose_nothing()
-    ensures front { (s old : State) (q before : Queued) → class s ≡ class old → queue_of s ≡ Some q → queue_of old ≡ Some before
-        → (t : Queued) × (queue_of (taken_over s old) ≡ Some t) × (t.list ≡ record { packets = take q.list.capacity before.list.packets; capacity = q.list.capacity })
+    ensures { (outputs : ℕ) (s old : State) (q before : Queued) → class s ≡ class old → queue_of s ≡ Some q → queue_of old ≡ Some before
+        → (t : Queued) × (queue_of (taken_over outputs s old) ≡ Some t) × (t.list ≡ record { packets = take q.list.capacity before.list.packets; capacity = q.list.capacity })
         × (length t.list.packets + t.drops ≡ length before.list.packets) × (t.highest ≡ length t.list.packets) }
-    ensures other_class { (s old : State) → (class s ≡ class old → ⊥) → taken_over s old ≡ s }
-    ensures no_queue { (s old : State) → queue_of s ≡ None → taken_over s old ≡ s }
 {}
 
-/// What is taken over changes nothing that an element's arguments set, fits its ports as before, and no queue has more packets than room.
+/// A Counter that takes over from another goes on from both its counts.
+pub fn taken_counters_go_on()
+    ensures { (outputs count byte_count passed passed_bytes : ℕ) → taken_over outputs (State.Counter count byte_count) (State.Counter passed passed_bytes)
+        ≡ State.Counter passed passed_bytes }
+{}
+
+/// A Switch that takes over from another sends on to the output that this one sent to, or as this one to none, while it has that output itself; else it begins with its own.
+/// So where the one before fitted the same ports, it stands just as that one did.
+pub fn taken_switches_keep_their_position()
+    ensures none { (outputs : ℕ) (own : Option ℕ) → taken_over outputs (State.Switch own) (State.Switch None) ≡ State.Switch None }
+    ensures there { (outputs k : ℕ) (own : Option ℕ) → k < outputs → taken_over outputs (State.Switch own) (State.Switch (Some k)) ≡ State.Switch (Some k) }
+    ensures past { (outputs k : ℕ) (own : Option ℕ) → outputs ≤ k → taken_over outputs (State.Switch own) (State.Switch (Some k)) ≡ State.Switch own }
+    ensures fitting { (inputs outputs : ℕ) (own k : Option ℕ) → FitsPorts inputs outputs (State.Switch k)
+        → taken_over outputs (State.Switch own) (State.Switch k) ≡ State.Switch k }
+{}
+
+/// An element of any other class begins as its arguments say, and so does one whose like-named predecessor was of another class.
+pub fn all_others_begin_anew()
+    ensures other_class { (outputs : ℕ) (s old : State) → (class s ≡ class old → ⊥) → taken_over outputs s old ≡ s }
+    ensures not_taken { (outputs : ℕ) (s old : State) → (class s ≡ Class.Queue → ⊥) → (class s ≡ Class.FrontDropQueue → ⊥) → (class s ≡ Class.Counter → ⊥)
+        → (class s ≡ Class.Switch → ⊥) → taken_over outputs s old ≡ s }
+{}
+
+/// What is taken over changes no element's class, and nothing that its arguments set but a Switch's position; the element fits its ports as before, and no queue has more
+/// packets than room.
 pub fn taking_over_keeps_elements_sound()
-    ensures settings { (s old : State) → settings (taken_over s old) ≡ settings s }
-    ensures ports { (inputs outputs : ℕ) (s old : State) → FitsPorts inputs outputs s → FitsPorts inputs outputs (taken_over s old) }
-    ensures sound { (s old : State) → IsSound s → IsSound (taken_over s old) }
+    ensures class { (outputs : ℕ) (s old : State) → class (taken_over outputs s old) ≡ class s }
+    ensures settings { (outputs : ℕ) (s old : State) → (class s ≡ Class.Switch → ⊥) → settings (taken_over outputs s old) ≡ settings s }
+    ensures ports { (inputs outputs : ℕ) (s old : State) → FitsPorts inputs outputs s → FitsPorts inputs outputs (taken_over outputs s old) }
+    ensures sound { (outputs : ℕ) (s old : State) → IsSound s → IsSound (taken_over outputs s old) }
 {}

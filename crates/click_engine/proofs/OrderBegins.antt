@@ -11,8 +11,7 @@ use Rattle.click_classes.specs.State.{class}
 use Rattle.click_classes.specs.declared.class.Class.TheVariants as kind
 use Rattle.click_classes.specs.declared.state.State.{State}
 use Rattle.click_classes.specs.declared.state.State.TheVariants as state
-use Rattle.click_classes.proofs.Settings.{class-settings}
-use Rattle.click_classes.proofs.Taking.{keeps_settings}
+use Rattle.click_classes.proofs.Taking.{keeps_class}
 use Rattle.click_ports.specs.Net.{Net, IsLawfulNet, shape_of}
 use Rattle.click_ports.specs.declared.shape.Shape.{Shape}
 use Rattle.click_engine.specs.declared.world.Element.{Element}
@@ -107,7 +106,7 @@ after-alike e None = record { inputs = refl; outputs = refl; its_class = refl }
 after-alike e (Some before) = record {
   inputs = refl;
   outputs = refl;
-  its_class = sym (class-settings (after_it e (Some before)).state) ∙ ap class (keeps_settings e.state before.state) ∙ class-settings e.state;
+  its_class = keeps_class e.outputs e.state before.state;
 }
 
 taken-alike : (old : Plant) (names : List (List ℕ)) (es : List Element) (at : ℕ) → IsAlike (get_or es at blank) (get_or (each_taken old names es) at blank)

@@ -118,7 +118,7 @@ each_by_name old (n ∷ ns) (d ∷ ds) (suc at) name e h k = each_by_name old ns
 -- elements stay sound and fitting
 after-sound : (e : Element) (o : Option Element) → IsSound e.state → IsSound (after_it e o).state
 after-sound e None h = h
-after-sound e (Some before) h = stays_sound e.state before.state h
+after-sound e (Some before) h = stays_sound e.outputs e.state before.state h
 
 after-fitting : (e : Element) (o : Option Element) → FitsPorts e.inputs e.outputs e.state → FitsPorts (after_it e o).inputs (after_it e o).outputs (after_it e o).state
 after-fitting e None h = h

@@ -12,10 +12,10 @@ place_of v name = position (bytes_eq name) v.net.names
 abbrev pub named : Plant → List ℕ → Option Element
 named v name = option_and_then (slice_get v.elements) (place_of v name)
 
--- an element takes over from the one before
+-- an element takes over from the one before, by its own number of outputs
 abbrev pub after_it : Element → Option Element → Element
 after_it e None = e
-after_it e (Some before) = record e { state = taken_over e.state before.state }
+after_it e (Some before) = record e { state = taken_over e.outputs e.state before.state }
 
 -- each element takes over from the one that had its name
 abbrev pub each_taken : Plant → List (List ℕ) → List Element → List Element

@@ -338,7 +338,8 @@ impl Plant {
     }
 
     /// Takes over from the plant of the configuration before: each Queue and FrontDropQueue takes the packets of the element there that has its flat name and
-    /// its class, the first that it has room for, and the number of overruns goes on. It takes no memory.
+    /// its class, the first that it has room for; each Counter that one's counts; each Switch that one's position, where that is -1 or one of its own outputs; and
+    /// the number of overruns goes on. It takes no memory.
     pub fn take_over(&mut self, old: &mut Plant)
         ensures { self.new ≡ taken self.old old.old }
     {
@@ -360,8 +361,11 @@ impl Plant {
         };
         let keeps = self.place(name) != Some(at);
         if at < self.work.elements.len() && place < old.work.elements.len() {
-            let state = &mut self.work.elements[at].state;
-            state.take_over(&mut old.work.elements[place].state, keeps);
+            let element = &mut self.work.elements[at];
+            let before = &mut old.work.elements[place];
+            element
+                .state
+                .take_over(element.outputs, &mut before.state, keeps);
         }
     }
 }

@@ -8,7 +8,8 @@ use Rattle.click_router.specs.declared.call.Reply.{Reply}
 use Rattle.click_router.specs.declared.call.Reply.TheVariants as reply
 use Rattle.click_router.specs.declared.fault.ConfigFault.{ConfigFault}
 
--- A router that takes the place of an old one: it is as it was opened, but that like-named queues have the packets of the old ones, and that the overruns go on.
+-- A router that takes the place of an old one: it is as it was opened, but that elements go on from like-named ones of their class, queues with the packets, Counters with the counts, Switches
+-- with the position where they have that output, and that the overruns go on.
 abbrev pub taken : RouterState → RouterState → RouterState
 taken new old = record new { plant = plants.taken new.plant old.plant }
 

@@ -2,6 +2,8 @@
 
 ghost use Rattle.std.specs.Prelude.{◌≡◌, ℕ, List, Some, slice_get, true};
 ghost use Rattle.std.specs.List.{list_any};
+ghost use Rattle.click_classes.specs.State.{class};
+ghost use Rattle.click_classes.specs.declared.class.Class.TheVariants as class_kind;
 ghost use Rattle.click_engine.specs.Keeps.{AreFitting, AreSound};
 ghost use Rattle.click_engine.specs.TakeOver.{after_it};
 ghost use Rattle.click_engine.specs.declared.world.Element.{Element};
@@ -68,6 +70,16 @@ pub fn same_names_take_over_from_themselves()
     ensures { (old new : RouterState) (text : List ℕ) (at : ℕ) (e before : Element) → IsOpened text new → old.plant.net.names ≡ new.plant.net.names
         → slice_get new.plant.elements at ≡ Some e → slice_get old.plant.elements at ≡ Some before
         → slice_get (taken new old).plant.elements at ≡ Some (after_it e (Some before)) }
+{}
+
+/// So where the whole net is that of the router that runs, as it is with the text that runs, each Counter goes on from its counts, and each Switch stands as it stood.
+pub fn counters_and_switches_go_on()
+    ensures counter { (old new : RouterState) (text : List ℕ) (at : ℕ) (e before : Element) → IsOpened text new → IsInOrder old → old.plant.net ≡ new.plant.net
+        → slice_get new.plant.elements at ≡ Some e → slice_get old.plant.elements at ≡ Some before → class before.state ≡ class_kind.Counter
+        → slice_get (taken new old).plant.elements at ≡ Some (record e { state = before.state }) }
+    ensures switch { (old new : RouterState) (text : List ℕ) (at : ℕ) (e before : Element) → IsOpened text new → IsInOrder old → old.plant.net ≡ new.plant.net
+        → slice_get new.plant.elements at ≡ Some e → slice_get old.plant.elements at ≡ Some before → class before.state ≡ class_kind.Switch
+        → slice_get (taken new old).plant.elements at ≡ Some (record e { state = before.state }) }
 {}
 
 /// A text opens a router that is in order, and each call that is answered leaves it so: its net is lawful, each element is in its place and in a state that allows its

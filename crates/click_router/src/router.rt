@@ -51,8 +51,8 @@ impl<T> Router<T> {
         self.running.has_source(device)
     }
 
-    /// What was prepared takes the place of what runs: a swap to a text that opens. Like-named queues of one class keep the packets that they have room for, and
-    /// the overruns go on. It takes no memory.
+    /// What was prepared takes the place of what runs: a swap to a text that opens. Like-named queues of one class keep the packets that they have room for,
+    /// Counters their counts, and Switches their positions where they have these outputs; and the overruns go on. It takes no memory.
     pub fn install(&mut self, prepared: Prepared)
         ensures { self.new ≡ taken prepared self.old }
     {

@@ -14,14 +14,14 @@ use Rattle.click_engine.proofs.plant.Plant.take_over_at.Goals as goal
 pub returns-then-place-len-clause-taken : goal.returns-then-place-len-clause-taken
 returns-then-place-len-clause-taken c =
     let v = c.self.view_is in let at = c.args.at in let old = c.args.old.now in let place = c.in-Some.place in
-    let es = c.self.inside.work.elements.items in let r = c.index_mut.result.now in
-    let os = c.old.inside.work.elements.items in let b = c.index_mut-then-place-len.result.now in
+    let es = c.self.inside.work.elements.items in let r = c.index_mut-element.result.now in
+    let os = c.old.inside.work.elements.items in let b = c.index_mut-before.result.now in
     let here : at < length es = omega (arith, c.if-at-len.true, c.len.ensures, c.self.inside.work.elements.ok.0) in
     let there : place < length os = omega (arith, c.if-place-len.true, c.len-then-at-len.ensures, c.old.inside.work.elements.ok.0) in
-    let lent : r ≡ get_or es at blank = c.index_mut.ensures.value ∙ get_or_default es at _ blank here in
+    let lent : r ≡ get_or es at blank = c.index_mut-element.ensures.value ∙ get_or_default es at _ blank here in
     let name : c.name-name.result.now ≡ slice_index_or c.self.inside.wires.names at [] = c.name-name.ensures.value ∙ ap (λ ns. slice_index_or ns at []) (ap (λ n. n.names) c.net.ensures) in
     let found : Some b ≡ named old (slice_index_or c.self.inside.wires.names at []) =
-    sym (slice_get_read os (length os) place b refl there c.index_mut-then-place-len.ensures.value) ∙ ap (λ (p : Plant). slice_get p.elements place) c.old.view_is
+    sym (slice_get_read os (length os) place b refl there c.index_mut-before.ensures.value) ∙ ap (λ (p : Plant). slice_get p.elements place) c.old.view_is
     ∙ ap (λ o. option_and_then (slice_get old.elements) o) c.in-Some.ensures ∙ ap (named old) name in
     let after : record r { state = c.take_over.new.self } ≡ after_it (get_or es at blank) (named old (slice_index_or c.self.inside.wires.names at [])) =
     ap (λ s. record r { state = s }) c.take_over.ensures.taken ∙ ap (after_it r) found ∙ ap (λ (e : Element). after_it e (named old (slice_index_or c.self.inside.wires.names at []))) lent in
@@ -30,13 +30,13 @@ returns-then-place-len-clause-taken c =
 pub returns-then-place-len-clause-kept : goal.returns-then-place-len-clause-kept
 returns-then-place-len-clause-kept c =
     let at = c.args.at in let place = c.in-Some.place in let names = c.args.self.now.net.names in let name = c.name-name.result.now in
-    let os = c.old.inside.work.elements.items in let b = c.index_mut-then-place-len.result.now in
+    let os = c.old.inside.work.elements.items in let b = c.index_mut-before.result.now in
     let e : Element = record b { state = c.take_over.new.old } in
     let found : Some place ≡ position (bytes_eq name) c.old.inside.wires.names = c.in-Some.ensures ∙ ap (λ (p : Plant). place_of p name) (sym c.old.view_is) in
     record {
       overruns = ap (λ (p : Plant). p.overruns) c.old.view_is;
       finds = λ j before.
-          finds_before names at c.old.inside.wires.names os place b e name c.place-2.result c.place-2.ensures found c.index_mut-then-place-len.ensures.value
+          finds_before names at c.old.inside.wires.names os place b e name c.place-2.result c.place-2.ensures found c.index_mut-before.ensures.value
           (λ k. ap (λ s. record b { state = s }) (c.take_over.ensures.kept (c.ne-keeps.ensures ∙ k))) j before
           ∙ ap (λ (p : Plant). named p (slice_index_or names j [])) c.old.view_is;
     }

@@ -1,0 +1,5 @@
+use Rattle.click_router.proofs.SameText.{counts_on, stands_on}
+use Rattle.click_router.proofs.laws.counters_and_switches_go_on.Goals as goal
+
+pub returns : goal.returns
+returns c = record { counter = counts_on; switch = stands_on }
