@@ -14,6 +14,8 @@ mod faults;
 #[cfg(test)]
 mod handlers;
 #[cfg(test)]
+mod lists;
+#[cfg(test)]
 mod overruns;
 #[cfg(test)]
 mod packet;
