@@ -45,6 +45,10 @@ wrong_arguments -x
 wrong_arguments -e '' --readonly=1
 wrong_arguments -e '' --readonly --readonly
 wrong_arguments --help
+# As the router's own handler `version` answers.
+wrong_arguments --version
+echo 'click_prog 1' > "$work/wanted"
+same_bytes "$work/wanted" "$work/err" 'the version'
 for words in '-p' '-p 0' '-p 65536' '-p x' '-n 0' '-n 65' '-n 1 -n 1' '-w 17' '-w -1' '--rounds 1000001' '--rounds 1.5' '--rounds' \
     '-p +7777' '-n +1' '-w +1' '--rounds +2' '--rounds=+2' '-w -0' '-w 0x1'; do
     # shellcheck disable=SC2086 # several words

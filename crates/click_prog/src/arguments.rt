@@ -72,6 +72,7 @@ fn parsed<'a>(alloc: Global, words: &'a [String]) -> Result<ArgMatches<'a>, Erro
         .long("rounds")
         .help("How many rounds each worker makes (0 to 1000000; 1000 if not given)");
     let command = Command::new(alloc, "click_prog")
+        .version("1")
         .about("A Click router with control sessions on standard input and output")
         .arg(text_argument(alloc))?
         .arg(port)?
