@@ -87,7 +87,7 @@ class Surface:
     """What of a crate's code others can name: of a program, which nobody stands on, all that its modules show one another."""
 
     def __init__(self, texts):
-        self.is_program = "main" in texts
+        self.is_program = "lib" not in texts
         self.modules, self.functions, self.types = set(), set(), set()
         waiting = [] if self.is_program else ["lib"]
         while waiting:
