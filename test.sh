@@ -44,6 +44,7 @@ tools/fault_examples.sh
 tools/element_pages.sh
 tools/feed_page.sh
 tools/links.py
+tools/definitions.py
 tools/calls_examples.sh
 tools/pcap_example.sh
 tools/swap_faults.sh

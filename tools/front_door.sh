@@ -112,7 +112,7 @@ for file in crates/low/src/file crates/middle/specs/file crates/click_prog/proof
 done
 rm "$tree/crates/click_prog/src/new"
 runs 1 'after a file is gone'
-for file in crates/click_bench/src/file crates/low/wrong-bodies/file README.md; do
+for file in crates/click_bench/src/file crates/low/wrong-bodies/file crates/low/README.md README.md; do
     echo more >> "$tree/$file"
     runs 0 "after a change of $file"
 done

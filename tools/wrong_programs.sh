@@ -414,6 +414,21 @@ wrong_names docs/TESTS.md 's/tools\/refuse\.sh/tools\/refuses.sh/' 's/feeds::fee
 wrong_names docs/ARCHITECTURE.md 's/`specs\/Acts\.antt`/`specs\/Actions.antt`/' '$a see NOPAGE.md' '$a `src/nowhere.rt`' '$a `NoSuchThing`'
 wrong_names examples/README.md '/^| `hotswap` /d'
 
+# wrong_definitions PAGE CHANGE..: a definition that is cited and has no row, one that is not there, one in another file, and others than what the crate stands on.
+wrong_definitions() {
+    local page=$1 change
+    shift
+    for change in "$@"; do
+        changed "$page" "$change"
+        is_refused "$page with the change $change" tools/definitions.py "$work/page" "$page"
+    done
+}
+wrong_definitions crates/click_packet/README.md '/^| `longest_packet` /d' 's/^| `longest_packet` /| `longest_packet`, `longest_header` /' 's/^\(| `longest_packet` .*\)| Packet |/\1| Header |/' \
+    '/^| `longest_packet` /p' '/^| Definition /d' 's/^| `longest_packet` .*/| `longest_packet` | | Packet | |/' '/^What it stands on: /d' 's/^What it stands on: .*/What it stands on: `thiserror`./' \
+    's/^What it stands on: /&[click_text](..\/click_text\/README.md), /'
+wrong_definitions crates/click_expand/README.md 's/`IsFlat c flat`/`flatten`/'
+wrong_definitions docs/DEFINITIONS.md '/click_packet/d'
+
 # The examples of the language: a page and the list of what is read have to agree.
 wrong_language() {
     changed docs/LANGUAGE.md "$1"
