@@ -1,4 +1,4 @@
-# Sourced by run.sh, test.sh and tools/by_hand.sh: whether crates/click_prog/out/click_prog is the program of these sources, proved. A stamp beside it
+# Sourced by run.sh and test.sh: whether crates/click_prog/out/click_prog is the program of these sources, proved. A stamp beside it
 # says what it was built from: the toolchain, the files crates.txt and HANDLES, and src/, specs/ and proofs/ of each crate that it stands on; and what
 # was built.
 
