@@ -3,7 +3,7 @@
 # It takes the program's own arguments, and builds the program first where it is not built from these sources, saying on standard error how far it is.
 # Its statuses are the program's own (docs/CONTROL.md), and 5 where there is no program to become.
 set -eu
-. "$(dirname "$(readlink -f "$0")")/tools/built.sh"
+. "$(dirname "$(readlink -f "$0")")/tools/lib/built.sh"
 
 stop() {
     printf 'run.sh: %s\n' "$@" >&2
@@ -37,7 +37,7 @@ build() {
 command -v rt > /dev/null || stop 'the toolchain'\''s command rt is not on the PATH: the proved program can neither be built nor be known to be up to date'
 sources=$(sum_of_sources) || stop 'the sources could not be read'
 if ! is_built_from "$sources"; then
-    . "$top/tools/how_far.sh"
+    . "$top/tools/lib/how_far.sh"
     build
     [ "$(sum_of_sources)" = "$sources" ] || stop 'the sources changed while the program was built: run it again'
     write_stamp "$sources"

@@ -3,7 +3,7 @@
 # prover has to refuse, and the scripts that try the programs and the pages; and at last these scripts themselves, against programs and edits that are wrong.
 set -eu
 cd "$(dirname "$(readlink -f "$0")")"
-. tools/built.sh
+. tools/lib/built.sh
 times_file=$(mktemp)
 trap 'rm -f "$times_file"' EXIT
 
@@ -19,7 +19,7 @@ took() {
 }
 
 sources=$(sum_of_sources)
-# A check for each processor, where there are 4 GB for each: the tests of click_desk_rows were seen to take 4.7, and most others less than 3. By itself rt
+# A check for each processor, where there are 4 GB for each: the tests of click_desk_tests were seen to take 4.7, and most others less than 3. By itself rt
 # expects them to take several times as much, and leaves processors idle.
 most=$(awk -v most="$(nproc)" '/^MemAvailable:/ { room = int($2 / 4000000); print room < 1 ? 1 : room < most ? room : most }' /proc/meminfo)
 RT_JOBS=${RT_JOBS:-$most} rt ci
@@ -29,24 +29,16 @@ if [ "$(sum_of_sources)" != "$sources" ]; then
 fi
 write_stamp "$sources"
 took 'what is proved from nothing, with the tests and the stored runs,'
-tools/wrong_bodies.py
+# The tenth of by-hand is another one with each change of the sources, and the same one for the same sources.
+tools/wrong_bodies.py --tenth --seed $((16#${sources:0:8}))
 took 'what is wrong and has to be refused'
 tools/front_door.sh
-tools/readme.sh
-tools/tries.sh
-tools/control_example.sh
+tools/examples.py
 tools/client.sh
 tools/sessions.sh
 tools/hostile.sh
-examples/run.sh
-tools/language_examples.sh
-tools/fault_examples.sh
-tools/element_pages.sh
-tools/feed_page.sh
 tools/links.py
 tools/definitions.py
-tools/calls_examples.sh
-tools/pcap_example.sh
 tools/swap_faults.sh
 tools/swap_sizes.sh
 tools/refuse.sh

@@ -2,7 +2,7 @@
 # A client as operators write them: over two pipes it sends a command only once the reply to the one before has come whole, and reads a value by its length.
 # A program that answers late, or writes more or less than its reply, is refused.
 set -eu
-. "$(dirname "$(readlink -f "$0")")/checking.sh"
+. "$(dirname "$(readlink -f "$0")")/lib/checking.sh"
 is_built "$program"
 export LC_ALL=C
 seconds=${SECONDS_TO_WAIT:-20}

@@ -4,13 +4,13 @@
 #
 #   tools/front_door.sh [RUN_SH [BUILT_SH [HOW_FAR_SH]]]
 set -eu
-. "$(dirname "$(readlink -f "$0")")/checking.sh"
+. "$(dirname "$(readlink -f "$0")")/lib/checking.sh"
 tree=$work/tree
-mkdir -p "$tree/tools" "$work/bin" "$work/elsewhere"
+mkdir -p "$tree/tools/lib" "$work/bin" "$work/elsewhere"
 cp "${1:-$top/run.sh}" "$tree/run.sh"
 chmod +x "$tree/run.sh"
-cp "${2:-$top/tools/built.sh}" "$tree/tools/built.sh"
-cp "${3:-$top/tools/how_far.sh}" "$tree/tools/how_far.sh"
+cp "${2:-$top/tools/lib/built.sh}" "$tree/tools/lib/built.sh"
+cp "${3:-$top/tools/lib/how_far.sh}" "$tree/tools/lib/how_far.sh"
 printf 'low:\nmiddle: low itoa # a library\nclick_prog: middle\nclick_bench: click_prog\n' > "$tree/crates.txt"
 printf 'Handles allowed: none.\n' > "$tree/HANDLES"
 for crate in low middle click_prog click_bench; do

@@ -3,7 +3,7 @@
 #
 #   tools/hostile.sh [CASE..]
 set -eu
-. "$(dirname "$(readlink -f "$0")")/checking.sh"
+. "$(dirname "$(readlink -f "$0")")/lib/checking.sh"
 is_built "$program"
 if [ $# = 0 ]; then set -- devices memory blank commands neighbours crowd local readonly rounds; fi
 for case in "$@"; do

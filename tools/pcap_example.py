@@ -3,10 +3,11 @@
     pcap_example.py PROGRAM GATEWAY THREE [quick]
 
 GATEWAY is the configuration of the gateway, and THREE a capture that the page has. The first thing that is wrong ends it with status 1.
-A capture is what pcap-savefile(5) says. With `quick` the run that fills the router's history is left out.
+A capture is what pcap-savefile(5) says. With `quick` the captures of a million packets are left out.
 """
 
 import os
+import resource
 import struct
 import subprocess
 import sys
@@ -213,7 +214,10 @@ def headers():
     whole = header()
     for length in range(24):
         broken(f"a header of {length} bytes", whole[:length], 0, b"", f"byte {length}: the capture ends inside its header of 24 bytes")
-    for magic in (0, 0x0A0D0D0A, 0xA1B2CD34, 0xA1B2C3D5, 0xC3D4A1B2):
+    newer = "byte 0: a pcapng capture, of which `editcap -F pcap` of Wireshark makes a pcap capture"
+    for order in "<>":
+        broken("a section header block of pcapng", header(order, 0x0A0D0D0A), 0, b"", newer)
+    for magic in (0, 0x0A0D0D0B, 0x0A0D0A0D, 0xA1B2CD34, 0xA1B2C3D5, 0xC3D4A1B2):
         for order in "<>":
             broken(f"the magic number {magic:x}", header(order, magic), 0, b"", "byte 0: no magic number of a pcap capture")
     for major, minor in ((2, 3), (2, 5), (1, 4), (4, 2), (0x0204, 0)):
@@ -323,12 +327,18 @@ def failures():
     has("a folder as standard input", done, 4, b"", b"error: a read failed\n" + numbers())
 
 
-def history():
-    """A run has room for 1,048,576 calls: two at first, and four for each of 262,143 packets; the next has a poll and a round."""
-    one_more = record(b"x")
-    done = run(PLAIN, header() + one_more * 262_200)
-    wanted = b"error: a run has room for 1048576 calls, and made them all\n" + numbers(262_144, 0, 262_144, 262_143)
-    has("a history that is full", done, 1, header() + one_more * 262_143, wanted)
+def million():
+    """A million packets in 64 MiB, all that the program has mapped; and one packet of which a million come, and more would."""
+    count = 1_000_000
+    given = header() + record(b"x", (7, 8)) * count
+    room = 64 << 20
+    done = run(PLAIN, given, preexec_fn=lambda: resource.setrlimit(resource.RLIMIT_AS, (room, room)))
+    has("a million packets", done, 0, given, numbers(count, 0, count, count))
+    again = "FromDevice(eth0) -> q :: Queue -> t :: PullTee(2) -> ToDevice(eth1); t [1] -> q;"
+    given = header() + record(b"\x07" * 1601) + record(b"x", (7, 8)) + record(b"y")
+    asked = 1_048_576
+    wanted = b"error: packet 2, byte 1641: the sink was asked 1048576 times after it, and gave a packet each time\n"
+    has("a packet that comes again and again", run(again, given), 1, header() + record(b"x", (7, 8)) * asked, wanted + numbers(2, 1, 1, asked))
 
 
 def three():
@@ -349,5 +359,5 @@ if __name__ == "__main__":
     for part in (three, kinds, sizes, elements, headers, records, devices, arguments, failures):
         part()
     if sys.argv[4:] != ["quick"]:
-        history()
+        million()
     print(f"{checked} captures came through as they should")

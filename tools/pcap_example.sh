@@ -1,10 +1,10 @@
 #!/usr/bin/env bash
 # Captures through the program crates/click_pcap/out/click_pcap, which must have been built: those that tools/pcap_example.py makes and checks, and the
-# example of docs/PCAP.md. QUICK=1 leaves out the run that fills the router's history.
+# example of docs/PCAP.md. QUICK=1 leaves out those of a million packets.
 #
 #   tools/pcap_example.sh [PAGE]
 set -eu
-. "$(dirname "$(readlink -f "$0")")/checking.sh"
+. "$(dirname "$(readlink -f "$0")")/lib/checking.sh"
 is_built "$pcap"
 page=$(readlink -f "${1:-$top/docs/PCAP.md}")
 gateway=$top/examples/pcap/gateway.click

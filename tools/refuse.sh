@@ -4,7 +4,7 @@
 #
 #   tools/refuse.sh [program|calls|pcap|bench]    the runs of click_prog, of click_calls, of click_pcap, or of click_bench, alone
 set -eu
-. "$(dirname "$(readlink -f "$0")")/checking.sh"
+. "$(dirname "$(readlink -f "$0")")/lib/checking.sh"
 is_built "$program" "$calls" "$pcap" "$bench"
 if ! command -v cc > /dev/null; then fail 'there is no C compiler cc, which tools/refuse.c needs'; fi
 if ! cc -O1 -shared -fPIC -o "$work/refuse.so" "$top/tools/refuse.c" -ldl; then fail 'tools/refuse.c does not compile'; fi
@@ -205,15 +205,24 @@ fed_lines=(
     'read c.count: value 0'
     'poll a [1] [2]: entered 2'
     'write q.capacity 3: done'
-    'swap FromDevice(a) -> c :: Counter -> q :: Queue(1) -> ToDevice(b);: done'
+    'swap FromDevice(a) -> c :: Counter -> q :: Queue(1) -> ToDevice(b); Idle -> n :: Counter -> Discard;: done'
     'transmit b: sent [1]'
     'read q.drops: value 1')
 
 # fed_list COUNT: the seat's list once so many steps were answered.
 fed_list() { if [ "$1" != 0 ]; then printf 'listed %s\n' "${fed_lines[@]:0:$1}"; fi; }
 
-# fed_desk STEP: what `refeed` writes where that step has a request refused: after each answer the seat's list, which a refused step leaves as it was; then the one packet that no
-# poll took, and the history, in which a refused step has no entry.
+# fed_view HEARD SHOWN: what the view answers of a handler that the swap brings, before and after it learns what the seat was told, with so many steps answered.
+fed_view() {
+    local at=("$1" "$2") steps
+    for steps in "${at[@]}"; do
+        if [ "$steps" -ge 4 ]; then echo Yes; else echo NoElement; fi
+    done | { read -r heard; read -r shown; printf 'heard %s\nshown %s\n' "$heard" "$shown"; }
+}
+
+# fed_desk STEP: what `refeed` writes where that step has a request refused: after each answer the seat's list, which a refused step leaves as it was, and what the view answers,
+# which no refused step changes; then the one packet that no poll took, and the history, in which a refused step has no entry. Where the bell has its request refused the view does not
+# hear of the swap, and shows it once it was told.
 fed_desk() {
     local at
     if [ "$1" = open ]; then printf 'open: out of memory\nhanded back a\n'; fi
@@ -221,9 +230,11 @@ fed_desk() {
         if [ "$1" = "${fed_names[at]}" ]; then
             echo 'out of memory'
             fed_list "$at"
+            fed_view "$at" "$at"
         fi
         echo 'answered'
         fed_list $((at + 1))
+        if [ "$1" = ring ] && [ "${fed_names[at]}" = swap ]; then fed_view "$at" $((at + 1)); else fed_view $((at + 1)) $((at + 1)); fi
     done
     if [ "$1" = settle ]; then echo 'settle: out of memory'; fi
     echo 'left [3]'
@@ -242,10 +253,10 @@ swapped_back() {
     passed "$work/answer" "in a swap of a router with $2 of $1 packets"
 }
 
-# A capture of three packets: where a request is refused the run ends with status 3, after some first bytes of what it writes, and says why once the router is there. The
-# line of numbers at its end alone may be lacking where all else is done, so that a close that fails is told.
+# A capture of three packets: where a request is refused the run ends with status 3, after some first bytes of what it writes, and says why once some are written. The line
+# of numbers at its end alone may be lacking where all else is done.
 refuse_pcap() {
-    local nth=1 unnoticed=0 late=0 run gateway three=$top/examples/pcap/three.pcap
+    local nth=1 unnoticed=0 said=0 run gateway three=$top/examples/pcap/three.pcap
     gateway=$(cat "$top/examples/pcap/gateway.click")
     ran "$pcap" -e "$gateway" --in eth0 --out eth1 < "$three"
     same_status 0 "$status" 'a capture'
@@ -268,14 +279,14 @@ refuse_pcap() {
         else
             same_status 3 "$status" "$run"
             begins "$work/out" "$work/capture" "$run"
-            if cmp -s "$work/capture" "$work/out"; then
-                same 'error: out of memory' "$(head -n 1 "$work/err")" "$run: what is said once all is written"
-                late=$((late + 1))
+            if [ -s "$work/out" ]; then
+                same 'error: out of memory' "$(head -n 1 "$work/err")" "$run: what is said once some is written"
+                said=$((said + 1))
             fi
         fi
         nth=$((nth + 1)) tried=$((tried + 1))
     done
-    if [ "$late" = 0 ]; then fail 'a capture: no request is refused once all is written, so that no close failed'; fi
+    if [ "$said" = 0 ]; then fail 'a capture: no request is refused once some is written'; fi
     passed none 'while a capture goes through a router'
 }
 
@@ -304,7 +315,7 @@ refuse_bench() {
 
     # A desk with a feed: what is refused is made again, and nothing was drawn, listed, entered or lost.
     mkdir -p "$work/steps"
-    for step in none open "${fed_names[@]}" settle; do fed_desk "$step" > "$work/steps/$step"; done
+    for step in none open "${fed_names[@]}" ring settle; do fed_desk "$step" > "$work/steps/$step"; done
     mv "$work/steps/none" "$work/whole"
     : > "$work/came"
     in_turn 'a desk with a feed' /dev/null "$work/whole" "$work/steps" 1 "$work/whole" "$bench" refeed

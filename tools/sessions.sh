@@ -4,7 +4,7 @@
 #
 #   tools/sessions.sh [CASE..]
 set -eu
-. "$(dirname "$(readlink -f "$0")")/checking.sh"
+. "$(dirname "$(readlink -f "$0")")/lib/checking.sh"
 is_built "$program"
 
 # tried CASE

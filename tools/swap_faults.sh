@@ -1,16 +1,38 @@
 #!/usr/bin/env bash
 # Swaps to faulty texts: those of docs/FAULTS.md, of examples/faults.txt and of the faulty configurations of examples/. Each is refused with its own
 # fault by a router that runs with packets queued, and by one under a session, which both stay as they were; then a good text takes over. Every fault has
-# to be among them but 6 TooLarge and 7 NoMemory: a text that is too large fits in no line of calls and in no payload (click_rows tries it), and want of
+# to be among them but 6 TooLarge and 7 NoMemory: a text that is too large fits in no line of calls and in no payload (click_tests tries it), and want of
 # memory is no text's fault (tools/refuse.sh tries it). The programs must have been built.
 set -eu
-. "$(dirname "$(readlink -f "$0")")/checking.sh"
+. "$(dirname "$(readlink -f "$0")")/lib/checking.sh"
 is_built "$program" "$calls"
 export LC_ALL=C
 running='FromDevice(a) -> q :: Queue(2) -> ToDevice(b); FromDevice(c) -> n :: Null -> n; Idle -> s :: Switch(0) -> Discard; s [1] -> Discard;'
 good='FromDevice(a) -> q :: Queue(5) -> ToDevice(b);'
 : > "$work/seen"
 tried=0
+
+# code CELL: what stands in the backquotes of a table's cell.
+code() {
+    local text=${1#*\`}
+    printf '%s' "${text%\`*}"
+}
+
+# fault_rows PAGE: of each row of a page as docs/FAULTS.md the fault's number and name, its example, and the line that it shows, with tabs between. A row is
+# `| number name | meaning | place | example | line | what to do |`; example and line are in backquotes, where a bar is written `\|`.
+fault_rows() {
+    local row fault example line
+    while IFS= read -r row; do
+        # A bar that separates cells becomes a byte that no cell has.
+        IFS=$'\x1f' read -r _ fault _ _ example line _ < <(sed -e 's/\\|/\x1e/g' -e 's/|/\x1f/g' -e 's/\x1e/|/g' <<< "$row")
+        printf '%s\t%s\t%s\n' "$(xargs <<< "$fault")" "$(code "$example")" "$(code "$line")"
+    done < <(grep '^| [0-9]' "$1")
+}
+
+# fault_kinds: the number and the name of each fault in crates/click_router/src/fault.rt, one a line.
+fault_kinds() {
+    sed -n '/^pub enum FaultKind/,/^}/s/^ *\([A-Za-z]*\) = \([0-9]*\),$/\2 \1/p' "$top/crates/click_router/src/fault.rt"
+}
 
 hex() { printf '%s' "$1" | od -An -v -tx1 | tr -d ' \n'; }
 
@@ -111,6 +133,8 @@ while IFS=$'\t' read -r fault text; do
     refuses "$fault" "$text"
 done < "$top/examples/faults.txt"
 for file in "$top"/examples/*.fault; do
+    # What is told at the end of a run is no fault.
+    if ! grep -q '^click_prog: ' "$file"; then continue; fi
     line=$(cat "$file")
     refuses "${line#click_prog: }" "$(cat "${file%.fault}.click")"
 done

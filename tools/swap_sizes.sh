@@ -3,7 +3,7 @@
 # and what each queue counts, is worked out here from the rule: a Queue or a FrontDropQueue takes the first packets of the one that had its name, as many
 # as it has room for, and the others are its drops. The program must have been built.
 set -eu
-. "$(dirname "$(readlink -f "$0")")/checking.sh"
+. "$(dirname "$(readlink -f "$0")")/lib/checking.sh"
 is_built "$calls"
 export LC_ALL=C
 

@@ -2,7 +2,8 @@
 """Tries wrong bodies: the edits crates/NAME/wrong-bodies/*.edit, each of which the prover must refuse.
 
     tools/wrong_bodies.py [NAME..]
-    tools/wrong_bodies.py --by-hand NAME..    those of crates/NAME/by-hand, which the gate leaves out
+    tools/wrong_bodies.py --tenth [--seed N] [NAME..]    these, and a tenth of those of crates/NAME/by-hand, taken at random; it says by which seed
+    tools/wrong_bodies.py --by-hand [NAME..]             all of by-hand
 
 An edit has lines 'file: src/lib.rt' and pairs of lines 'old: TEXT' and 'new: TEXT', each TEXT one line, the old one standing just once in that file. One that changes
 more than bodies, as a constant, may have lines 'refused: PATH', each with a function that is to be refused for it; else any may be.
@@ -12,11 +13,14 @@ are made together in one copy of the crate, the check is of these functions and 
 what it does itself: that it calls one that is refused does not count, nor that a proof names what the edit took away. No unchanged function may be refused for what
 it does itself. Edits of one function take turns, over what the checks before kept, and so does, alone, an edit that changes more than bodies.
 
-It needs the libraries that `rt ci`, or `rt check` of the crates above, left in crates/NAME/out. What fails is told on standard error, with status 1; the last
-line is 'N passed, M failed'.
+It needs the libraries that `rt ci`, or `rt check` of the crates above, left in crates/NAME/out, and goes on from what a check of the crate itself kept there.
+What fails is told on standard error, with status 1; the last line is 'N passed, M failed'.
 """
 
+import argparse
+import math
 import os
+import random
 import re
 import shutil
 import subprocess
@@ -98,17 +102,18 @@ def module_of(crate, file):
     return "::".join([crate, *(parts if parts not in (["lib"], ["main"]) else [])])
 
 
-def home_of(crate, folder, name):
-    """The path of the module that has the type of this name."""
-    for at, _, files in sorted(os.walk(f"{folder}/src")):
-        for file in sorted(files):
-            if re.search(rf"^(?:pub(?:\([^)]*\))? )?(?:struct|enum) {name}\b", text_of(f"{at}/{file}"), re.M):
-                return module_of(crate, os.path.relpath(f"{at}/{file}", folder))
+def home_of(crate, folder, own, name):
+    """The path of the module that has the type of this name: that of the impl's own file, else the first."""
+    all_files = sorted(os.path.relpath(f"{at}/{it}", folder) for at, _, files in os.walk(f"{folder}/src") for it in files)
+    for file in [own, *all_files]:
+        if re.search(rf"^(?:pub(?:\([^)]*\))? )?(?:struct|enum) {name}\b", text_of(f"{folder}/{file}"), re.M):
+            return module_of(crate, file)
     return crate
 
 
 def path_of(crate, folder, file, head):
-    """The path under which the prover prints what an impl has: `module::Type` with the type's module, or `module::TypeTrait` with the impl's, for one of a trait."""
+    """The path under which the prover prints what an impl has: `module::Type` with the type's module, or `module::TypeTrait` with the impl's, for one of a trait, or
+    `module::Type+T+ref+R` with the impl's, for one of a type at a loan."""
     plain, depth = "", 0
     words = re.sub(r"^(unsafe )?impl\b", "", head)
     for at, byte in enumerate(words):
@@ -117,7 +122,12 @@ def path_of(crate, folder, file, head):
         depth -= byte == ">" and words[at - 1] not in "-="
     trait, is_for, name = plain.partition("{")[0].partition(" where ")[0].partition(" for ")
     last = lambda it: it.strip().lstrip("&").strip().split("::")[-1]
-    return f"{module_of(crate, file)}::{last(name)}{last(trait)}" if is_for else f"{home_of(crate, folder, last(trait))}::{last(trait)}"
+    loans = re.search(rf"\b{last(trait)}<([^<>]*&[^<>]*)>\s*{{", words)
+    if loans and not is_for:
+        # The impl of a type at a loan is one of the impl's own module, and its name has the arguments.
+        given = (re.sub(r"&('\w+ )?", "ref+", it.strip()) for it in loans[1].split(","))
+        return f"{module_of(crate, file)}::{'+'.join((last(trait), *given))}"
+    return f"{module_of(crate, file)}::{last(name)}{last(trait)}" if is_for else f"{home_of(crate, folder, file, last(trait))}::{last(trait)}"
 
 
 def functions_of(crate, folder, file, text):
@@ -226,23 +236,28 @@ def rounds_of(folder, edits):
 
 
 def refused_by_itself(said):
-    """The functions that are refused for what they do themselves, with the reason, and all functions that were checked."""
-    errors = {}
+    """The functions that are refused for what they do themselves, those that are refused for a lost name alone, each with the reason, and all that were checked."""
+    errors, lost = {}, {}
     for found in re.finditer(r"^\./proofs/(\S+)/\w+\.antt:\d+:\d+: error: (.*)$", said, re.M):
-        if not STALE.search(found[2]):
-            errors.setdefault(found[1], found[2])
-    refused, checked = {}, set()
+        # Functions that call one another in a cycle have their proofs in one folder, and the name of a goal there begins with that of its function.
+        in_cycle = re.match(r"(.*/)?\+\w+ `(\w+)-", f"{found[1]} {found[2]}")
+        place = f"{in_cycle[1] or ''}{in_cycle[2]}" if in_cycle else found[1]
+        (lost if STALE.search(found[2]) else errors).setdefault(place, found[2])
+    refused, stale, checked = {}, {}, set()
     for path, verdict in re.findall(r"^fn ([\w:+]+): (.*)$", said, re.M):
         place = "/".join(path.split("::")[1:])
         # (a closure stands in its function)
         path = re.sub(r"\bfn::(\w+)::.*", r"\1", path)
         checked.add(path)
         open_goal = re.search(r"`search` did not prove .*|expected .*", verdict.partition("; it calls ")[0])
-        if open_goal:
+        of_others = "/+" in verdict and path.split("::")[-1] not in re.findall(r"`(\w+)-[^`]*`", verdict)
+        if open_goal and not of_others:
             refused[path] = open_goal[0]
         elif verdict.startswith("not proved") and place in errors:
             refused[path] = errors[place]
-    return refused, checked
+        elif verdict.startswith("not proved") and place in lost:
+            stale[path] = lost[place]
+    return refused, stale, checked
 
 
 def only(crate, edits):
@@ -274,13 +289,16 @@ def judged(edits, said):
     if not lines[-1].startswith(("logic=", "only=")):
         why = next((it for it in lines if re.search(r"\berror\b", it)), lines[-1])
         return [(False, f"{it.name}: BAD EDIT: this round did not reach the prover: {why[:200]}") for it in edits]
-    refused, checked = refused_by_itself(said)
+    refused, stale, checked = refused_by_itself(said)
     found = []
     for edit in edits:
         unknown = sorted(edit.functions - checked)
         own = sorted(edit.functions & refused.keys() if edit.functions else refused)
         if unknown:
             found.append((False, f"{edit.name}: BAD EDIT: the prover names no function {unknown[0]}"))
+        elif not own and edit.functions & stale.keys():
+            at = sorted(edit.functions & stale.keys())[0]
+            found.append((False, f"{edit.name}: REFUSED FOR A LOST NAME ALONE, which shows nothing: {at}: {stale[at][:120]}"))
         elif not own:
             found.append((False, f"{edit.name}: NOT REFUSED: {', '.join(sorted(edit.functions)) or 'the crate'} is still proved with this edit"))
         else:
@@ -291,25 +309,36 @@ def judged(edits, said):
     return found
 
 
-def try_crate(crates, crate, kind):
-    """What came of all edits of the crate."""
+def tell(crate, found):
+    """Says what came of some edits of the crate; answers how many were refused, and how many not."""
+    for is_refused, text in found:
+        print(f"{crate}: {text}", flush=True, file=sys.stdout if is_refused else sys.stderr)
+    passed = sum(is_refused for is_refused, _ in found)
+    return passed, len(found) - passed
+
+
+def try_crate(crates, crate, paths):
+    """Tries these edits of the crate, says what came of each round, and answers how many were refused, and how many not."""
     folder = f"{TOP}/crates/{crate}"
     edits, found = [], []
-    for name in sorted(os.listdir(f"{folder}/{kind}")):
+    for path in paths:
         try:
-            edits.append(read_edit(crate, folder, f"{folder}/{kind}/{name}"))
+            edits.append(read_edit(crate, folder, f"{folder}/{path}"))
         except BadEdit as why:
             found.append((False, f"BAD EDIT: {why}"))
     if found:
-        return found
+        return tell(crate, found)
+    counts = []
     with tempfile.TemporaryDirectory(prefix="wrong-bodies-") as work:
         for part in PARTS:
             if os.path.isdir(f"{folder}/{part}"):
                 shutil.copytree(f"{folder}/{part}", f"{work}/crate/{part}")
+        if os.path.isdir(f"{folder}/out/incremental"):
+            shutil.copytree(f"{folder}/out/incremental", f"{work}/kept")
         for it in rounds_of(folder, edits):
             command = [*words_of(crates, crate), *only(crate, it.edits)]
-            found += judged(it.edits, tried(command, f"{work}/crate", f"{work}/kept", it.texts))
-    return found
+            counts.append(tell(crate, judged(it.edits, tried(command, f"{work}/crate", f"{work}/kept", it.texts))))
+    return tuple(map(sum, zip(*counts)))
 
 
 def lanes():
@@ -318,22 +347,44 @@ def lanes():
     return max(1, min(len(os.sched_getaffinity(0)), int(free[1]) // 4_000_000))
 
 
-def main(words):
-    kind = "by-hand" if words[:1] == ["--by-hand"] else "wrong-bodies"
-    names = [it for it in words if it != "--by-hand"]
-    crates = crates_of()
+def edits_of(names, kind):
+    """The edits of one kind of these crates, each a crate with a path in it."""
+    found = []
     for name in names:
-        if not os.path.isdir(f"{TOP}/crates/{name}/{kind}"):
-            sys.exit(f"wrong_bodies.py: there is no crates/{name}/{kind}")
-    names = names or [it for it in crates if os.path.isdir(f"{TOP}/crates/{it}/{kind}")]
+        folder = f"{TOP}/crates/{name}/{kind}"
+        found += [(name, f"{kind}/{it}") for it in sorted(os.listdir(folder))] if os.path.isdir(folder) else []
+    return found
+
+
+def tenth_of(edits, seed):
+    """A tenth of them, rounded up, taken at random; whoever gives the seed gets the same ones."""
+    return sorted(random.Random(seed).sample(edits, math.ceil(len(edits) / 10)))
+
+
+def main():
+    reader = argparse.ArgumentParser(description="Tries wrong bodies, which the prover must refuse.")
+    which = reader.add_mutually_exclusive_group()
+    which.add_argument("--by-hand", action="store_true", help="those of by-hand, and no others")
+    which.add_argument("--tenth", action="store_true", help="a tenth of those of by-hand, too")
+    reader.add_argument("--seed", type=int, default=random.randrange(1_000_000), help="by which the tenth is taken")
+    reader.add_argument("names", nargs="*", metavar="NAME", help="a crate")
+    asked = reader.parse_args()
+    crates = crates_of()
+    for name in asked.names:
+        if name not in crates:
+            reader.error(f"there is no crate {name}")
+    names = asked.names or list(crates)
+    edits = edits_of(names, "by-hand" if asked.by_hand else "wrong-bodies")
+    if asked.tenth:
+        tenth = tenth_of(edits_of(names, "by-hand"), asked.seed)
+        print(f"wrong_bodies.py: {len(tenth)} edits of by-hand, by --seed {asked.seed}", flush=True)
+        edits += tenth
+    by_crate = {it: [path for crate, path in edits if crate == it] for it in names}
     # those with the most edits first, since they take longest
-    ordered = sorted(names, key=lambda it: -len(os.listdir(f"{TOP}/crates/{it}/{kind}")))
-    passed = failed = 0
+    ordered = sorted((it for it in names if by_crate[it]), key=lambda it: -len(by_crate[it]))
     with ThreadPoolExecutor(lanes()) as pool:
-        for crate, found in zip(ordered, pool.map(lambda it: try_crate(crates, it, kind), ordered)):
-            for is_refused, text in found:
-                print(f"{crate}: {text}", flush=True, file=sys.stdout if is_refused else sys.stderr)
-                passed, failed = passed + is_refused, failed + (not is_refused)
+        counts = list(pool.map(lambda it: try_crate(crates, it, by_crate[it]), ordered))
+    passed, failed = map(sum, zip((0, 0), *counts))
     if not passed + failed:
         print("wrong_bodies.py: there is no edit", file=sys.stderr)
     print(f"{passed} passed, {failed} failed")
@@ -341,4 +392,4 @@ def main(words):
 
 
 if __name__ == "__main__":
-    sys.exit(main(sys.argv[1:]))
+    sys.exit(main())

@@ -3,7 +3,7 @@
 # to refuse each that concerns it: with status 1, and saying why. A wrong program runs the real one and changes what comes. One that changes nothing has to pass,
 # so that it is the change that is refused. The programs must have been built.
 set -eu
-. "$(dirname "$(readlink -f "$0")")/checking.sh"
+. "$(dirname "$(readlink -f "$0")")/lib/checking.sh"
 is_built "$program" "$bench" "$calls" "$pcap"
 cd "$top"
 refused=0
@@ -35,11 +35,11 @@ wrapped "$work/click_bench" "$bench" ''
 # script_of LETTER [PROGRAM]: Examples, Readme, Control example, Language examples, fAults, reFused memory, of that program alone.
 script_of() {
     case "$1" in
-    E) echo examples/run.sh ;;
-    R) echo tools/readme.sh ;;
-    C) echo tools/control_example.sh ;;
-    L) echo tools/language_examples.sh ;;
-    A) echo tools/fault_examples.sh ;;
+    E) echo tools/examples.py click_prog files arguments limits refused opens ;;
+    R) echo tools/examples.py commands ;;
+    C) echo tools/examples.py click_prog dialogue client ;;
+    L) echo tools/examples.py readings texts ;;
+    A) echo tools/examples.py faults ;;
     F) echo tools/refuse.sh "${2:-}" ;;
     esac
 }
@@ -109,6 +109,23 @@ wrong ERCF 'the last reply given twice' 'sed -i "2,\$ { \$p }" "$out"'
 wrong ERCF "another element's reply" 'sed -i "s/'"'c\\.'"'/d./; s/c\.count/d.count/" "$out"'
 wrong ERCF 'another value' 'sed -i "s/^0/7/" "$out"'
 wrong ELF 'lines that end without CR' 'sed -i "s/\r//" "$out"'
+
+# wrong_kind KIND WHAT CHANGE: that kind of examples alone refuses a click_prog with the change.
+wrong_kind() {
+    wrapped "$work/wrong" "$program" "$3"
+    PROGRAM=$work/wrong BENCH=$bench is_refused "a program with $2" tools/examples.py click_prog "$1"
+}
+wrong_kind dialogue 'another value' 'sed -i "s/^0/7/" "$out"'
+wrong_kind files 'another status' 'if [ $status = 1 ]; then status=2; fi'
+wrong_kind refused 'a fault on standard output' 'if [ $status = 1 ]; then mv "$err" "$out"; : > "$err"; fi'
+wrong_kind opens 'no greeting' 'sed -i 1d "$out"'
+wrong_kind arguments 'a good end at wrong arguments' 'if [ $status = 2 ]; then status=0; fi'
+wrong_kind arguments 'more than its own line' 'if [ $status = 2 ]; then echo more >> "$err"; fi'
+wrong_kind arguments 'another range' 'if [ $status = 2 ]; then sed -i "s/65535/65536/" "$err"; fi'
+wrong_kind limits 'another status where a device fails' 'if [ $status = 4 ]; then status=3; fi'
+wrong_kind limits 'a line that is never too long' 'sed -i "s/^500 Line too long/200 Goodbye!/" "$out"'
+wrong_kind faults 'a fault without its place' 'sed -i "s/ \(at\|in\) .*//" "$err"'
+wrong_kind readings 'a fault without its place' 'sed -i "s/ \(at\|in\) .*//" "$err"'
 
 # A client that waits for each reply: a program that is run to its end before anything is written is late, and one of its own answers at once, but wrongly.
 PROGRAM=$work/click_prog SECONDS_TO_WAIT=1 is_refused 'a program with late replies' tools/client.sh
@@ -234,7 +251,7 @@ wrong_bench A 'a limit that is less' 'sed -i "s/prepared/TooLarge/" "$out"'
 # click_calls. A program that is run to its end before anything is written answers too late, and that is seen last of all.
 wrong_calls() {
     wrapped "$work/wrong_calls" "$calls" "$2"
-    CALLS=$work/wrong_calls is_refused "a click_calls with $1" tools/calls_examples.sh
+    CALLS=$work/wrong_calls is_refused "a click_calls with $1" tools/examples.py click_calls files dialogue arguments wrong_lines call_limits
     if [ "$1" != 'late replies' ] && grep -q 'no reply to' "$work/err"; then fail "a click_calls with $1 is not refused for that"; fi
 }
 wrong_calls 'late replies' ''
@@ -260,14 +277,14 @@ for change in 'status=0' 'echo junk >> "$out"' 'if [ $status = 3 ]; then echo do
     wrapped "$work/wrong_calls" "$calls" "$change"
     CALLS=$work/wrong_calls is_refused "a click_calls with the change $change" tools/refuse.sh calls
 done
-# A capture where memory runs out: a good end, a close whose failure is not told, other bytes before, and no word of why.
+# A capture where memory runs out: a good end, and one that says nothing of it, other bytes before, and no word of why.
 for change in 'status=0' 'if [ $status = 3 ] && [ -s "$err" ]; then sed -i /^error/d "$err"; status=0; fi' 'if [ $status = 3 ]; then echo junk >> "$out"; fi' 'if [ $status = 3 ]; then sed -i /^error/d "$err"; fi'; do
     wrapped "$work/wrong_pcap" "$pcap" "$change"
     PCAP=$work/wrong_pcap is_refused "a click_pcap with the change $change" tools/refuse.sh pcap
 done
 for change in ': > "$out"' 'sed -i 1d "$out"' 'sed -i "s/ 255 / 254 /" "$out"' 'echo junk >> "$err"' 'status=3'; do
     wrapped "$work/wrong_calls" "$calls" "$change"
-    CALLS=$work/wrong_calls is_refused "a click_calls with the change $change" tools/element_pages.sh
+    CALLS=$work/wrong_calls is_refused "a click_calls with the change $change" tools/examples.py sections
 done
 # Hot swap. A wrong click_calls is sent other calls than those that come, or its replies are changed.
 # other_calls CHANGE: makes $work/wrong_calls, which is sent the calls with the change, a script of sed; replies to lines that it marks by a `+` are left out.
@@ -361,7 +378,7 @@ wrong_pcap 'a byte too many' 'printf x >> "$out"'
 wrong_pcap 'nothing on standard error' ': > "$err"'
 wrong_pcap 'an input that is read for nothing' 'cat > /dev/null'
 for change in 's/^read \([0-9]*\)/read 1\1/' 's/left out \([0-9]*\)/left out 1\1/' 's/entered \([0-9]*\)/entered 1\1/' 's/written \([0-9]*\)/written 1\1/' '/^read/d' '/^error/d' \
-    's/^error: //' 's/packet 2/packet 1/' 's/byte 45/byte 46/' 's/byte 20:/byte 21:/' 's/source of/sink of/' 's/4294967295/4294967296/' '$a junk'; do
+    's/^error: //' 's/packet 2/packet 1/' 's/byte 45/byte 46/' 's/byte 20:/byte 21:/' 's/source of/sink of/' 's/4294967295/4294967296/' 's/editcap/capinfos/' '$a junk'; do
     wrong_pcap "the change $change on standard error" "sed -i '$change' \"\$err\""
 done
 echo "$refused times a wrong program was refused"
@@ -372,33 +389,51 @@ changed() {
     if cmp -s "$1" "$work/page"; then fail "$2 changes nothing in $1"; fi
 }
 refused=0
-# wrong_page SCRIPT FILE CHANGE..: the script refuses the file with each of the changes.
-wrong_page() {
-    local script=$1 file=$2 change
+# wrong_example KIND FILE CHANGE..: that kind of examples refuses the file with each of the changes.
+wrong_example() {
+    local kind=$1 file=$2 change
     shift 2
     for change in "$@"; do
         changed "$file" "$change"
-        is_refused "$file with the change $change" "$script" "$work/page"
+        is_refused "$file with the change $change" tools/examples.py --with "$work/page" "$file" "$kind"
     done
 }
-PROGRAM=$program PCAP=$pcap wrong_page tools/readme.sh README.md '/^    \.\/run\.sh/d' 's/^    \.\/run\.sh -e/    .\/run.sh -x/' '/^which answers/d' \
+PROGRAM=$program wrong_example commands README.md '/^    \.\/run\.sh/d' 's/^    \.\/run\.sh -e/    .\/run.sh -x/' '/^which answers/d' \
     '/^    DATA 1/d' 's/^    200 Read/    201 Read/' 's/^    0200/    200/' '/^    crates\/click_pcap/d' '/^which says/d' 's/^which says `read 3/which says `read 4/' \
-    's/--in eth0/--in eth1/' 's/rattle-kit-13b/rattle-kit-13/'
-wrong_page tools/tries.sh README.md '/^    rt try/d' '/^    cd crates/d' 's/^    cd crates\/click_prog/    cd crates\/click_text/' '/^which answers/d' \
+    's/--in eth0/--in eth1/' 's/rattle-kit-[0-9]*[a-z]/rattle-kit-0/'
+wrong_example tries README.md '/^    rt try/d' '/^    cd crates/d' 's/^    cd crates\/click_prog/    cd crates\/click_text/' '/^which answers/d' \
     's/^    0200/    200/'
-wrong_page tools/control_example.sh docs/CONTROL.md '/^An example, with/d' 's/^    > QUIT/    > STOP/' 's/^    510/    511/' '/^    DATA 1/d' \
-    '/^With `\.\/run\.sh/d' 's/^READ c.none \["511/READ c.none ["510/' 's/== "-":$/== "x":/' 's/\["520-Write/["520 Write/'
-wrong_page tools/control_example.sh docs/HOTSWAP.md '/^An example, with/d' 's/^    > QUIT/    > STOP/' 's/^    520 31/    520 32/' 's/^    2> /    3> /' 's/^    >   ->/    > ->/' \
-    's/^      ->/     ->/'
-wrong_page tools/feed_page.sh docs/FEEDS.md 's/self.count >= packets/self.count > packets/' '/thread::yield_now/d' '/^    /d'
-wrong_page tools/calls_examples.sh docs/CALLS.md '/^An example of calls, with/d' 's/^    > transmit b/    > transmit a/' 's/^    value 32/    value 33/' '/^    sent none/d'
-wrong_page tools/calls_examples.sh docs/HOTSWAP.md '/^An example of calls, with/d' 's/^    value 36/    value 30/' 's/^    value 31/    value 30/' 's/^    value 30/    value 31/' '/^    > arrive a 0708/d'
-QUICK=1 PCAP=$pcap wrong_page tools/pcap_example.sh docs/PCAP.md '/^An example/d' 's/^    read 3/    read 4/' 's/--in eth0/--in eth1/' \
+wrong_example dialogue docs/CONTROL.md '/^An example, with/d' 's/^    > QUIT/    > STOP/' 's/^    510/    511/' '/^    DATA 1/d'
+wrong_example client docs/CONTROL.md '/^With `\.\/run\.sh/d' 's/^READ c.none \["511/READ c.none ["510/' 's/== "-":$/== "x":/' 's/\["520-Write/["520 Write/' 's/^```python/```/'
+wrong_example dialogue docs/HOTSWAP.md '/^An example, with/d' 's/^    > QUIT/    > STOP/' 's/^    520 31/    520 32/' 's/^    2> /    3> /' 's/^    >   ->/    > ->/' \
+    's/^      ->/     ->/' '/^An example of calls, with/d' 's/^    value 36/    value 30/' 's/^    value 31/    value 30/' 's/^    value 30/    value 31/' '/^    > arrive a 0708/d'
+wrong_example dialogue docs/CALLS.md '/^An example of calls, with/d' 's/^    > transmit b/    > transmit a/' 's/^    value 32/    value 33/' '/^    sent none/d'
+wrong_example driver docs/FEEDS.md 's/self.count >= packets/self.count > packets/' '/thread::yield_now/d' '/^    /d'
+wrong_example driver crates/click_desk_tests/src/drivers.rt '/thread::yield_now/d'
+QUICK=1 wrong_example captures docs/PCAP.md '/^An example/d' 's/^    read 3/    read 4/' 's/--in eth0/--in eth1/' \
     's/^    > click_pcap/    > click_calls/' 's/^    rt -> DecIPTTL/    rt -> Paint(1)/' '/^The configuration/d'
-CALLS=$calls wrong_page tools/element_pages.sh docs/ELEMENTS.md 's/^## Tee$/## Tea/' '/^## Tee$/,/^## PullTee$/d' 's/Tee(2)/Tee(3)/' 's/Packets pass\./Packets pass on./' \
+wrong_example sections docs/ELEMENTS.md 's/^## Tee$/## Tea/' '/^## Tee$/,/^## PullTee$/d' 's/Tee(2)/Tee(3)/' 's/Packets pass\./Packets pass on./' \
     '0,/^```calls$/s//```/' '0,/^> transmit b/s//> transmit a/' 's/^sent 61 255 /sent 61 254 /' '/^nodevice$/d' '$a ```calls\nIdle;\n> round\nworked 0\n```' '$d'
-wrong_page tools/fault_examples.sh docs/FAULTS.md '/^| 23 /d' 's/^| 23 BadText/| 23 BadWord/' 's/^| 23 /| 27 /' '/^| 23 /p' 's/at 1:48/at 1:49/' \
+wrong_example sections crates/click_classes/src/class.rt '/^    Class::Tee,/d'
+wrong_example faults docs/FAULTS.md '/^| 23 /d' 's/^| 23 BadText/| 23 BadWord/' 's/^| 23 /| 27 /' '/^| 23 /p' 's/at 1:48/at 1:49/' \
     's/17 BrokenText in P@2/17 BrokenText in P@3/' 's/Idle => Discard/Idle -> Discard/' 's/^| /- /'
+wrong_example faults crates/click_router/src/fault.rt 's/ = 23,/ = 99,/'
+# The examples of the language: a page and the list of what is read have to agree.
+wrong_example readings docs/LANGUAGE.md '0,/^```click$/s//```/' '/^Fault: 11 /d' 's/^Fault: 13 UnknownClass at 1:6/Fault: 13 UnknownClass at 1:7/' '/^Fault: 12 /p' \
+    's/^x :: { y :: Idle };/x :: { z :: Idle };/' '$a ```click\nIdle;\n```' '$a ```click\nIdle;' '$a Fault: 1 BadByte at 1:1' 's/```click/```/'
+wrong_example readings examples/readings.txt 1d '$d' '$p' 's/^3 statements/2 statements/' 's/BadByte 5\.\.6/BadByte 5..7/' 's/\tx\/y/\tx/' d
+# Files, each with a line that is wrong.
+wrong_example texts examples/texts.txt '1s/^0 statements/1 statements/' '$s/\t/\tx/'
+wrong_example refused examples/faults.txt '1s/1:6/1:7/' '$a 1 BadByte at 1:1\tIdle;'
+wrong_example opens examples/opens.txt '$a Idle => Discard;'
+wrong_example wrong_lines examples/calls/wrong_lines.txt '1s/no call/a call/' '$a a field is missing\tround'
+wrong_example arguments examples/arguments.txt '1s/were/was/' 's/click_prog 1$/click_prog 2/' "s/'+1' is none/'+1' is one/" 's/\tgood$/\tclick_prog 1/' 's/not UTF/no UTF/' '/help/s/$/s/'
+wrong_example files examples/counter.transcript 2d 's/^0/1/' '$a junk'
+wrong_example files examples/mixed.fault 's/34/35/' d
+wrong_example files examples/mixed.status 's/1/0/'
+wrong_example files examples/readonly.options d
+wrong_example files examples/calls/counter.out 1d '$p'
+wrong_example files examples/calls/counter.calls '$d'
 
 # wrong_names PAGE CHANGE..: links, paths and names that are none, and a README that is too large.
 wrong_names() {
@@ -429,37 +464,21 @@ wrong_definitions crates/click_packet/README.md '/^| `longest_packet` /d' 's/^| 
 wrong_definitions crates/click_expand/README.md 's/`IsFlat c flat`/`flatten`/'
 wrong_definitions docs/DEFINITIONS.md '/click_packet/d'
 
-# The examples of the language: a page and the list of what is read have to agree.
-wrong_language() {
-    changed docs/LANGUAGE.md "$1"
-    is_refused "docs/LANGUAGE.md with the change $1" tools/language_examples.sh examples/readings.txt "$work/page" docs/ELEMENTS.md
-}
-wrong_readings() {
-    changed examples/readings.txt "$1"
-    is_refused "examples/readings.txt with the change $1" tools/language_examples.sh "$work/page" docs/LANGUAGE.md docs/ELEMENTS.md
-}
-for change in '0,/^```click$/s//```/' '/^Fault: 11 /d' 's/^Fault: 13 UnknownClass at 1:6/Fault: 13 UnknownClass at 1:7/' '/^Fault: 12 /p' \
-    's/^x :: { y :: Idle };/x :: { z :: Idle };/' '$a ```click\nIdle;\n```' '$a ```click\nIdle;' '$a Fault: 1 BadByte at 1:1' 's/```click/```/'; do
-    wrong_language "$change"
-done
-for change in 1d '$d' '$p' 's/^3 statements/2 statements/' 's/BadByte 5\.\.6/BadByte 5..7/' 's/\tx\/y/\tx/' d; do
-    wrong_readings "$change"
-done
 echo "$refused times a wrong page was refused"
 
-# run.sh, and what it takes from tools/built.sh and tools/how_far.sh.
+# run.sh, and what it takes from tools/lib.
 refused=0
 wrong_front() {
     changed run.sh "$1"
     is_refused "run.sh with the change $1" tools/front_door.sh "$work/page"
 }
 wrong_built() {
-    changed tools/built.sh "$1"
-    is_refused "tools/built.sh with the change $1" tools/front_door.sh run.sh "$work/page"
+    changed tools/lib/built.sh "$1"
+    is_refused "tools/lib/built.sh with the change $1" tools/front_door.sh run.sh "$work/page"
 }
 wrong_how_far() {
-    changed tools/how_far.sh "$1"
-    is_refused "tools/how_far.sh with the change $1" tools/front_door.sh run.sh tools/built.sh "$work/page"
+    changed tools/lib/how_far.sh "$1"
+    is_refused "tools/lib/how_far.sh with the change $1" tools/front_door.sh run.sh tools/lib/built.sh "$work/page"
 }
 for change in 's/ < \/dev\/null 2>&1/ 2>\&1/' 's/ 2>&1 | tee/ | tee/' 's/ | tee -i "\$log"//' 's/ | how_far click_prog//' 's/set -o pipefail; //' '/^    trap broken_off INT/d' \
     's/kill -INT/exit 1; kill/' 's/how_far click_prog/how_far middle/' 's/^exec //' 's/^exec \(.*\)"\$@"/exec \1$@/' 's/^exec \(.*\) "\$@"/exec \1/' 's/^exec /cd "$top"; exec /' \
@@ -536,6 +555,15 @@ wrong_edit 'did not reach the prover' no_such_name '    next(n + 1)' '    next_o
 edit no_pair '    next(n + 1)' '    next(n)'
 sed -i '$d' "$tree/crates/small/wrong-bodies/no_pair.edit"
 TREE=$tree is_refused 'an edit without its new text' tools/wrong_bodies.py
-rm "$tree/crates/small/wrong-bodies"/*
+# A tenth of those of by-hand, one of this one, is tried where it is asked for, and the same by the same seed.
+edit same_number '    next(n + 1)' '    next(n)'
+mkdir "$tree/crates/small/by-hand"
+printf 'file: src/lib.rt\nold:     n + 1\nnew:     1 + n\n' > "$tree/crates/small/by-hand/other_order.edit"
+TREE=$tree ran tools/wrong_bodies.py
+same_status 0 "$status" 'tools/wrong_bodies.py, without those of by-hand'
+TREE=$tree is_refused 'an edit of by-hand that keeps the meaning' tools/wrong_bodies.py --tenth --seed 7
+same 'wrong_bodies.py: 1 edits of by-hand, by --seed 7' "$(head -n 1 "$work/out")" 'the seed'
+TREE=$tree is_refused 'an edit of by-hand alone' tools/wrong_bodies.py --by-hand
+rm -r "$tree/crates/small/by-hand" "$tree/crates/small/wrong-bodies"/*
 TREE=$tree is_refused 'a crate without edits' tools/wrong_bodies.py
 echo "$refused times a wrong edit was refused"

@@ -1,12 +1,12 @@
-//! A desk with a feed: it is opened, called, polled and settled, and each again where memory was refused; tools/refuse.sh refuses each request for memory of it, and compares
-//! what was told: after each answer of the desk, refused or not, the whole list of the seat, and at last the whole history.
+//! A desk with a feed and a view: it is opened, called, polled and settled, and each again where memory was refused; tools/refuse.sh refuses each request for memory of it, and
+//! compares what was told: after each answer of the desk, refused or not, the whole list of the seat and what the view shows, and at last the whole history.
 
 ghost use Rattle.std.specs.Prelude.{◌≡◌, ◌<◌, [], ◌∷◌, codes, false, length, vec_len, vec_capacity, IfOk, IfSome};
 ghost use Rattle.std.specs.List.{All};
 ghost use Rattle.click_router.specs.Polls.{is_poll};
 
 use crate::telling::{tell_entries, tell_left, tell_list};
-use click_desk::{Book, Desk, DeskFault, Seat};
+use click_desk::{Book, Desk, DeskFault, Seat, View};
 use click_handlers::{Table, TakesTable, with_table};
 use click_packet::{Packet, StoredPacket};
 use click_rings::opening::feed as make_feed;
@@ -21,8 +21,12 @@ use std::{io, str};
 /// What runs at first: packets from the device are counted and queued.
 const RUNNING: &[u8] = b"FromDevice(a) -> c :: Counter -> q :: Queue(4) -> ToDevice(b);";
 
-/// What takes over: its queue has room for one of the packets.
-const NEXT: &[u8] = b"FromDevice(a) -> c :: Counter -> q :: Queue(1) -> ToDevice(b);";
+/// What takes over: its queue has room for one of the packets, and it has an element more.
+const NEXT: &[u8] =
+    b"FromDevice(a) -> c :: Counter -> q :: Queue(1) -> ToDevice(b); Idle -> n :: Counter -> Discard;";
+
+/// A handler that what takes over has alone.
+const NEW: &[u8] = b"n.count";
 
 /// The bytes of the packets that are put. A poll takes two of them.
 const PUT: [u8; 3] = [1, 2, 3];
@@ -61,23 +65,28 @@ fn tell_inlets(host: &HostRuntime, inlets: &[Inlet]) -> io::Result<()> {
     Ok(())
 }
 
-/// Opens a desk with one seat, and again where memory was refused.
-fn open_again<T: Drop, R: Wait>(
-    rt: &R,
+/// A desk with one seat and one view.
+type Opened<'a, T, R> = (Desk<T, &'a R>, Vec<Seat<T>>, Vec<View>);
+
+/// Opens a desk with one seat and one view, and again where memory was refused.
+fn open_again<'a, T: Drop, R: Wait>(
+    rt: &'a R,
     host: &HostRuntime,
     table: T,
     inlets: Vec<Inlet>,
-) -> io::Result<Option<(Desk<T>, Vec<Seat<T>>)>>
+) -> io::Result<Option<Opened<'a, T, R>>>
     ensures desk { IfOk result (λ o. IfSome o (λ r. All (λ s. s.desk ≡ r.0) r.1.items)) }
     ensures fed { IfOk result (λ o. IfSome o (λ r. All (λ s. s.feeds ≡ inlets.items) r.1.items)) }
+    ensures views { IfOk result (λ o. IfSome o (λ r. All (λ v. v.board ≡ r.0.terms.origin) r.2.items)) }
 {
     let alloc = host.alloc();
-    match Desk::open(rt, alloc, table, RUNNING, 10, 1, inlets) {
+    match Desk::open_with_views(rt, alloc, table, RUNNING, 10, 1, inlets, 1) {
         Ok(opened) => Ok(Some(opened)),
         Err(refused) => {
             println!(host; "open: {}", refused.fault)?;
             tell_inlets(host, refused.inlets.as_slice())?;
-            Ok(Desk::open(rt, alloc, refused.table, RUNNING, 10, 1, refused.inlets).ok())
+            let (table, inlets) = (refused.table, refused.inlets);
+            Ok(Desk::open_with_views(rt, alloc, table, RUNNING, 10, 1, inlets, 1).ok())
         }
     }
 }
@@ -120,17 +129,24 @@ fn transmit(alloc: Global) -> Result<Call, AllocError>
     })
 }
 
-/// Tells what came of a call, and what the seat's list has then; whether it was answered.
+/// Tells what came of a call, what the seat's list has then, and what the view answers, before and after it learns what the seat was told; whether it was answered.
 fn tell<T>(
     host: &HostRuntime,
     seat: &Seat<T>,
+    view: &mut View,
     answer: Result<Reply, DeskFault>,
-) -> io::Result<bool> {
+) -> io::Result<bool>
+    requires { view.old.board ≡ seat.now.desk.terms.origin }
+    ensures { view.new.board ≡ view.old.board }
+{
     match &answer {
         Ok(_) => println!(host; "answered")?,
         Err(fault) => println!(host; "{fault}")?,
     }
     tell_list(host, seat.calls())?;
+    println!(host; "heard {:?}", view.check_read(NEW))?;
+    view.learn(seat.notice());
+    println!(host; "shown {:?}", view.check_read(NEW))?;
     Ok(answer.is_ok())
 }
 
@@ -138,18 +154,21 @@ fn tell<T>(
 fn call_again<T: Handlers, R: Wait>(
     rt: &R,
     host: &HostRuntime,
-    desk: &Desk<T>,
+    desk: &Desk<T, &R>,
     seat: &mut Seat<T>,
+    view: &mut View,
     call: &Call,
 ) -> io::Result<()>
     requires seat { seat.old.desk ≡ desk.now }
+    requires view { view.old.board ≡ desk.now.terms.origin }
     requires call { is_poll call.now ≡ false }
-    ensures { (seat.new.desk ≡ seat.old.desk) × (seat.new.feeds ≡ seat.old.feeds) }
+    ensures seat { (seat.new.desk ≡ seat.old.desk) × (seat.new.feeds ≡ seat.old.feeds) }
+    ensures view { view.new.board ≡ view.old.board }
 {
     for _ in 0..2 {
         let made = call.copy(host.alloc())?;
         let answer = desk.call(rt, seat, made);
-        if tell(host, seat, answer)? {
+        if tell(host, seat, view, answer)? {
             return Ok(());
         }
     }
@@ -160,15 +179,18 @@ fn call_again<T: Handlers, R: Wait>(
 fn poll_again<T: Handlers, R: Wait>(
     rt: &R,
     host: &HostRuntime,
-    desk: &Desk<T>,
+    desk: &Desk<T, &R>,
     seat: &mut Seat<T>,
+    view: &mut View,
 ) -> io::Result<()>
-    requires { seat.old.desk ≡ desk.now }
-    ensures { (seat.new.desk ≡ seat.old.desk) × (seat.new.feeds ≡ seat.old.feeds) }
+    requires seat { seat.old.desk ≡ desk.now }
+    requires view { view.old.board ≡ desk.now.terms.origin }
+    ensures seat { (seat.new.desk ≡ seat.old.desk) × (seat.new.feeds ≡ seat.old.feeds) }
+    ensures view { view.new.board ≡ view.old.board }
 {
     for _ in 0..2 {
         let answer = desk.poll(rt, seat, b"a", 2);
-        if tell(host, seat, answer)? {
+        if tell(host, seat, view, answer)? {
             return Ok(());
         }
     }
@@ -179,19 +201,35 @@ fn poll_again<T: Handlers, R: Wait>(
 fn work<T: Handlers, R: Wait>(
     rt: &R,
     host: &HostRuntime,
-    desk: &Desk<T>,
+    desk: &Desk<T, &R>,
     mut seat: Seat<T>,
+    mut view: View,
 ) -> io::Result<Seat<T>>
-    requires { seat.desk ≡ desk.now }
+    requires seat { seat.desk ≡ desk.now }
+    requires view { view.board ≡ desk.now.terms.origin }
     ensures { IfOk result (λ s. (s.desk ≡ seat.desk) × (s.feeds ≡ seat.feeds)) }
 {
     let alloc = host.alloc();
-    call_again(rt, host, desk, &mut seat, &read(alloc, b"c.count")?)?;
-    poll_again(rt, host, desk, &mut seat)?;
-    call_again(rt, host, desk, &mut seat, &write(alloc)?)?;
-    call_again(rt, host, desk, &mut seat, &swap(alloc)?)?;
-    call_again(rt, host, desk, &mut seat, &transmit(alloc)?)?;
-    call_again(rt, host, desk, &mut seat, &read(alloc, b"q.drops")?)?;
+    call_again(
+        rt,
+        host,
+        desk,
+        &mut seat,
+        &mut view,
+        &read(alloc, b"c.count")?,
+    )?;
+    poll_again(rt, host, desk, &mut seat, &mut view)?;
+    call_again(rt, host, desk, &mut seat, &mut view, &write(alloc)?)?;
+    call_again(rt, host, desk, &mut seat, &mut view, &swap(alloc)?)?;
+    call_again(rt, host, desk, &mut seat, &mut view, &transmit(alloc)?)?;
+    call_again(
+        rt,
+        host,
+        desk,
+        &mut seat,
+        &mut view,
+        &read(alloc, b"q.drops")?,
+    )?;
     Ok(seat)
 }
 
@@ -218,11 +256,21 @@ fn settle_again<T>(host: &HostRuntime, book: &mut Book<T>, end: FeedEnd) -> io::
     }
 }
 
+/// Ends the feed of a book, and settles it.
+fn settle<T: Drop>(host: &HostRuntime, mut book: Book<T>, feed: Feed) -> io::Result<()>
+    requires { All (λ t. t.device ≡ codes "a" → t.ring ≡ feed.ring) book.taps }
+{
+    match feed.finish() {
+        Some(end) => settle_again(host, &mut book, end),
+        None => println!(host; "not finished"),
+    }
+}
+
 /// Closes the desk and settles the feed.
 fn close<T: Drop, R: Wait>(
     rt: &R,
     host: &HostRuntime,
-    desk: Desk<T>,
+    desk: Desk<T, &R>,
     seat: Seat<T>,
     feed: Feed,
 ) -> io::Result<()>
@@ -230,14 +278,18 @@ fn close<T: Drop, R: Wait>(
 {
     let mut seats = Vec::with_capacity(host.alloc(), 1)?;
     seats.push_reserved(seat);
-    match (desk.close(rt, seats), feed.finish()) {
-        (Ok(mut book), Some(end)) => settle_again(host, &mut book, end),
-        _ => println!(host; "not closed"),
+    match desk.close(rt, seats) {
+        Ok(book) => settle(host, book, feed),
+        Err(refused) => println!(host; "{}", refused.fault),
     }
 }
 
 /// The last of these seats.
-fn last_of<T: Drop>(desk: &Desk<T>, feed: &Feed, mut seats: Vec<Seat<T>>) -> Option<Seat<T>>
+fn last_of<T: Drop, B: Wait + Drop>(
+    desk: &Desk<T, B>,
+    feed: &Feed,
+    mut seats: Vec<Seat<T>>,
+) -> Option<Seat<T>>
     requires desk { All (λ s. s.desk ≡ desk.now) seats.items }
     requires fed { All (λ s. s.feeds ≡ record { device = codes "a"; ring = feed.now.ring } ∷ []) seats.items }
     ensures { IfSome result (λ s. (s.desk ≡ desk.now) × (s.feeds ≡ record { device = codes "a"; ring = feed.now.ring } ∷ [])) }
@@ -248,13 +300,13 @@ fn last_of<T: Drop>(desk: &Desk<T>, feed: &Feed, mut seats: Vec<Seat<T>>) -> Opt
 /// All of that over a table.
 fn run_over<T: Handlers + Drop, R: Wait>(rt: &R, host: &HostRuntime, table: T) -> io::Result<()> {
     let (feed, inlets) = fed(host.alloc())?;
-    let Some((desk, seats)) = open_again(rt, host, table, inlets)? else {
+    let Some((desk, seats, mut views)) = open_again(rt, host, table, inlets)? else {
         return println!(host; "not opened");
     };
-    let Some(seat) = last_of(&desk, &feed, seats) else {
-        return println!(host; "no seat");
+    let (Some(seat), Some(view)) = (last_of(&desk, &feed, seats), views.pop()) else {
+        return println!(host; "no seat or no view");
     };
-    let seat = work(rt, host, &desk, seat)?;
+    let seat = work(rt, host, &desk, seat, view)?;
     close(rt, host, desk, seat, feed)
 }
 

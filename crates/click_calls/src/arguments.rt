@@ -20,6 +20,9 @@ pub fn configuration<'a>(alloc: Global, words: &'a [String]) -> Result<Option<&'
         .action(ArgAction::Set);
     let command = Command::new(alloc, "click_calls")
         .about("A Click router that answers calls, one a line, on standard input and output")
+        .after_help(
+            "Calls: arrive DEVICE HEX, poll DEVICE HEX,HEX,.., round, transmit DEVICE, read NAME [TEXT], write NAME [TEXT],\ncheckread NAME, checkwrite NAME, swap TEXT. HEX is a packet, - one of no bytes; NAME is a handler, as c.count of the\nelement c. docs/CALLS.md has the replies.",
+        )
         .arg(text)?;
     let matches = command.try_get_matches_from(words)?;
     Ok(matches.get_str("text"))

@@ -5,7 +5,7 @@ use Rattle.std.specs.Int.{w16, w32, from_le_bytes, from_be_bytes}
 use Rattle.std.proofs.lemmas.List.{take_at, drop_at, length-append}
 use Rattle.std.proofs.lemmas.Nat.{from_le_bytes-to_le_bytes_2, from_be_bytes-to_be_bytes_2, from_le_bytes-to_le_bytes_4, from_be_bytes-to_be_bytes_4}
 use Rattle.click_capture.specs.Numbers.{word, half}
-use Rattle.click_capture.specs.Captures.{magic, link_number, header_bytes, Record, record_bytes, records_bytes, capture_bytes, FitsHeader, FitsRecord, AllFit, IsHeaderFault}
+use Rattle.click_capture.specs.Captures.{magic, link_number, header_bytes, Record, record_bytes, records_bytes, capture_bytes, FitsHeader, FitsRecord, AllFit, section_header, IsHeaderFault}
 use Rattle.click_capture.specs.declared.order.Order.{Order}
 use Rattle.click_capture.specs.declared.order.Order.TheVariants as order
 use Rattle.click_capture.specs.declared.header.Resolution.{Resolution}
@@ -201,8 +201,16 @@ linked h =
     let len : length (front ++ word o h.snap) ≡ 20 = omega (arith, length-append front (word o h.snap), five o (magic h.resolution) h.accuracy h.zone 0, word-len o h.snap) in
     drop_at (front ++ word o h.snap) (word o (link_number h.link)) 20 len
 
+-- no magic number is what a pcapng file begins with
+no_section : (o : Order) (r : Resolution) → word o (magic r) ≡ section_header → ⊥
+no_section order.Little resolution.Micro e = cc
+no_section order.Little resolution.Nano e = cc
+no_section order.Big resolution.Micro e = cc
+no_section order.Big resolution.Nano e = cc
+
 pub no_fault : (h : Header) (f : HeaderFault) → FitsHeader h → IsHeaderFault (header_bytes h) f → ⊥
-no_fault h fault.Magic fits bad = bad h.order h.resolution (begins h)
+no_fault h fault.Pcapng fits bad = no_section h.order h.resolution (sym (begins h) ∙ bad)
+no_fault h fault.Magic fits bad = bad.1 h.order h.resolution (begins h)
 no_fault h (fault.Version major minor) fits bad =
     let kind = kind-one h.order bad.0 h.resolution bad.1 (sym (begins h) ∙ bad.2) in
     let told : half h.order 2 ++ half h.order 4 ≡ half h.order major ++ half h.order minor =

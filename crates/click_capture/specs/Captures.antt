@@ -81,9 +81,14 @@ AllFit (r ∷ rs) = FitsRecord r × AllFit rs
 abbrev pub Begins : List ℕ → Order → Resolution → Type 0
 Begins bytes o r = take 4 bytes ≡ word o (magic r)
 
--- The first of these that is so, from the left: no magic number, another version, another link type.
+-- what a pcapng file begins with, alike in both byte orders: the type of its section header block (the pcapng format, "Section Header Block")
+abbrev pub section_header : List ℕ
+section_header = 0x0a ∷ 0x0d ∷ 0x0d ∷ 0x0a ∷ []
+
+-- The first of these that is so, from the left: a pcapng file, no magic number, another version, another link type.
 abbrev pub IsHeaderFault : List ℕ → HeaderFault → Type 0
-IsHeaderFault bytes fault.Magic = (o : Order) (r : Resolution) → take 4 bytes ≢ word o (magic r)
+IsHeaderFault bytes fault.Pcapng = take 4 bytes ≡ section_header
+IsHeaderFault bytes fault.Magic = (take 4 bytes ≢ section_header) × ((o : Order) (r : Resolution) → take 4 bytes ≢ word o (magic r))
 IsHeaderFault bytes (fault.Version major minor) =
     (o : Order) × (r : Resolution) × Begins bytes o r × (take 4 (drop 4 bytes) ≡ half o major ++ half o minor) × ((major ≡ 2) × (minor ≡ 4) → ⊥) × (major < 2 ^ 16) × (minor < 2 ^ 16)
 IsHeaderFault bytes (fault.Link number) =

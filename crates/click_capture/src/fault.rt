@@ -5,7 +5,10 @@ use thiserror::Error;
 /// What is wrong with a capture's header: the first of these, from the left. The text says at which byte of the capture it stands, counted from 0.
 #[derive(Clone, Copy, Debug, PartialEq, Eq, Error)]
 pub enum HeaderFault {
-    /// The first four bytes are the magic number of no classic capture.
+    /// The first four bytes are those of a pcapng file, the newer format.
+    #[error("byte 0: a pcapng capture, of which `editcap -F pcap` of Wireshark makes a pcap capture")]
+    Pcapng,
+    /// They are the magic number of no classic capture, and not those of a pcapng file either.
     #[error("byte 0: no magic number of a pcap capture")]
     Magic,
     #[error("byte 4: version {major}.{minor} of the format, and not 2.4")]

@@ -28,6 +28,9 @@ const MICRO_TURNED: u32 = 0xd4c3_b2a1;
 
 const NANO_TURNED: u32 = 0x4d3c_b2a1;
 
+/// What a pcapng file begins with, alike in both byte orders: the type of its section header block.
+const SECTION_HEADER: [u8; 4] = [0x0a, 0x0d, 0x0d, 0x0a];
+
 /// What the second number of a time counts.
 #[derive(Clone, Copy, Debug, PartialEq, Eq)]
 pub enum Resolution {
@@ -121,6 +124,19 @@ fn kind_at(bytes: &[u8]) -> Option<((Order, Resolution), &[u8])>
     None
 }
 
+/// What bytes are that begin as no classic capture.
+fn kind_fault(bytes: &[u8]) -> HeaderFault
+    requires len { length bytes.now ≡ 24 }
+    requires none { (o : AnOrder) (r : AResolution) → take 4 bytes.now ≢ word o (magic r) }
+    ensures { IsHeaderFault bytes.now result }
+{
+    if bytes.starts_with(&SECTION_HEADER) {
+        HeaderFault::Pcapng
+    } else {
+        HeaderFault::Magic
+    }
+}
+
 /// The header that 24 bytes are, or the first thing that is wrong with them. Bytes that are a header's give that header.
 pub fn header_of(bytes: &[u8]) -> Result<Header, HeaderFault>
     requires { length bytes.now ≡ 24 }
@@ -138,7 +154,7 @@ fn fields_of(bytes: &[u8]) -> Result<Header, HeaderFault>
     ensures fault { IfErr result (IsHeaderFault bytes.now) }
 {
     let Some(((order, resolution), rest)) = kind_at(bytes) else {
-        return Err(HeaderFault::Magic);
+        return Err(kind_fault(bytes));
     };
     let (major, rest) = order.half_at(rest);
     let (minor, rest) = order.half_at(rest);

@@ -5,3 +5,5 @@ pub mod Calls
 pub mod Books
 pub mod Lawful
 pub mod Settling
+pub mod Published
+pub mod Viewless

@@ -1,5 +1,6 @@
 -- A closed desk's book as contracts see it.
 use Rattle.std.specs.Prelude.{ℕ, List}
+use Rattle.boxcar.specs.Table.{Shelves}
 use Rattle.click_rings.specs.Feeds.{Drawing}
 use Rattle.click_router.specs.State.{RouterState}
 use Rattle.click_desk.specs.declared.entry.Entry.{Entry}
@@ -11,3 +12,4 @@ pub record Booklet : Type 0 where
   pub router : RouterState
   pub seats : List Sitting
   pub taps : List Drawing
+  pub board : Shelves

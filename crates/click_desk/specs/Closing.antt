@@ -27,3 +27,4 @@ pub record Closes (desk : DeskName) (seats : List Sitting) (book : Booklet) : Ty
   pub numbered : All (λ e. count_by (λ s. s.number == e.seat) seats ≡ 1) book.entries
   pub feeds : (s : Sitting) → (slice_index_or seats 0 s).feeds ≡ map name_of book.taps
   pub polled : IsPolled book.entries book.taps
+  pub origin : book.board ≡ desk.terms.origin

@@ -43,6 +43,16 @@ abbrev pub asked : Option (List ℕ) → List (List ℕ)
 asked (Some text) = text ∷ []
 asked None = []
 
+-- the text, where the reply says that it was installed
+abbrev pub text_if_done : List ℕ → Reply → Option (List ℕ)
+text_if_done text (reply.Value value) = None
+text_if_done text reply.Done = Some text
+text_if_done text (reply.Refused why) = None
+text_if_done text (reply.Entered count) = None
+text_if_done text (reply.Worked count) = None
+text_if_done text (reply.Sent packet) = None
+text_if_done text reply.NoDevice = None
+
 abbrev pub installed : Call → Reply → List (List ℕ)
 installed c (reply.Value value) = []
 installed c reply.Done = asked (one.swap_text c)

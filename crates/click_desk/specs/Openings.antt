@@ -1,7 +1,8 @@
 -- Why a desk is not opened.
-use Rattle.std.specs.Prelude.{◌≡◌, ◌<◌, ◌≤◌, ◌⊎◌, ℕ, true, false, List, length}
+use Rattle.std.specs.Prelude.{◌≡◌, ◌<◌, ◌≤◌, ◌⊎◌, ℕ, true, false, List, [], length}
 use Rattle.click_rings.specs.Feeds.{FeedName, are_apart}
 use Rattle.click_router.specs.Opened.{IsFirstFault}
+use Rattle.click_desk.specs.History.{IsLegal}
 use Rattle.click_router.specs.declared.fault.FaultKind.TheVariants as kind
 use Rattle.click_desk.specs.declared.open.OpenFault.{OpenFault}
 use Rattle.click_desk.specs.declared.open.OpenFault.TheVariants as fault
@@ -10,10 +11,33 @@ use Rattle.click_desk.specs.declared.open.OpenFault.TheVariants as fault
 abbrev pub AreFit : ℕ → List FeedName → Type 0
 AreFit seats inlets = (0 < seats) × (seats ≤ 256) × (are_apart inlets ≡ true) × (length inlets ≤ 16)
 
--- The first of these that is so: the number of seats, a device that is there twice, the number of inlets, the configuration; want of memory may stand in place of the last.
+-- The first of these that is so, where no views are asked for: the number of seats, a device that is there twice, the number of inlets, the configuration; want of memory
+-- may stand in place of the last.
 abbrev pub IsOpenFault : ℕ → List FeedName → List ℕ → OpenFault → Type 0
 IsOpenFault seats inlets text fault.SeatCount = (seats ≡ 0) ⊎ (256 < seats)
 IsOpenFault seats inlets text fault.DeviceTwice = (0 < seats) × (seats ≤ 256) × (are_apart inlets ≡ false)
 IsOpenFault seats inlets text fault.InletCount = (0 < seats) × (seats ≤ 256) × (are_apart inlets ≡ true) × (16 < length inlets)
 IsOpenFault seats inlets text (fault.Config why) = AreFit seats inlets × IsFirstFault text why × (why.kind ≡ kind.NoMemory → ⊥)
 IsOpenFault seats inlets text fault.NoMemory = AreFit seats inlets
+IsOpenFault seats inlets text fault.ViewCount = ⊥
+IsOpenFault seats inlets text fault.NoView = ⊥
+
+-- The same where views are asked for: their number is tested after that of the inlets, and last of all, where the configuration is good, a view may not be had.
+abbrev pub IsViewFault : ℕ → List FeedName → ℕ → List ℕ → OpenFault → Type 0
+IsViewFault seats inlets views text fault.SeatCount = IsOpenFault seats inlets text fault.SeatCount
+IsViewFault seats inlets views text fault.DeviceTwice = IsOpenFault seats inlets text fault.DeviceTwice
+IsViewFault seats inlets views text fault.InletCount = IsOpenFault seats inlets text fault.InletCount
+IsViewFault seats inlets views text fault.ViewCount = AreFit seats inlets × (16 < views)
+IsViewFault seats inlets views text (fault.Config why) = (views ≤ 16) × IsOpenFault seats inlets text (fault.Config why)
+IsViewFault seats inlets views text fault.NoMemory = (views ≤ 16) × IsOpenFault seats inlets text fault.NoMemory
+IsViewFault seats inlets views text fault.NoView = AreFit seats inlets × (views ≤ 16) × IsLegal text [] × (0 < views)
+
+-- memory ran out for a view, or one more could not be had
+abbrev pub IsViewless : OpenFault → Type 0
+IsViewless fault.SeatCount = ⊥
+IsViewless fault.DeviceTwice = ⊥
+IsViewless fault.InletCount = ⊥
+IsViewless fault.ViewCount = ⊥
+IsViewless (fault.Config why) = ⊥
+IsViewless fault.NoMemory = Unit {0}
+IsViewless fault.NoView = Unit {0}

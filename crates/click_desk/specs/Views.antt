@@ -9,7 +9,7 @@ use Rattle.click_desk.specs.declared.view.View.{View}
 use Rattle.click_desk.specs.History.{entries, StartsWith}
 
 abbrev pub no_terms : Charter
-no_terms = record { opening = []; room = 0; seats = 0; feeds = [] }
+no_terms = record { opening = []; room = 0; seats = 0; origin = record { tag = []; buckets = [] }; feeds = [] }
 
 -- the first pass holds the empty history before the terms are known, and is to make every seat
 abbrev pub first : View

@@ -3,14 +3,18 @@
 ghost use Rattle.std.specs.Prelude.{◌≡◌, ◌++◌, ◌↔◌, map, true, false, IfOk, IfErr, OnOk};
 ghost use Rattle.std.specs.List.{All};
 ghost use Rattle.click_rings.specs.Feeds.{name_of, has_feed};
+ghost use Rattle.click_views.specs.Showing.{BeginsWith};
+ghost use Rattle.click_desk.specs.History.{installs};
 ghost use Rattle.click_desk.specs.Polls.{polled, without};
 
 use crate::entry::Entry;
 use crate::seat::Seat;
+use crate::watch::View;
 use click_packet::StoredPacket;
 use click_rings::{FeedEnd, Tap, place_of};
-use click_router::Router;
+use click_router::{Install, Router};
 use click_text::sequence::Sequence;
+use click_views::Closed;
 use std::alloc::Global;
 use std::marker::Model;
 use thiserror::Error;
@@ -24,6 +28,7 @@ pub struct Book<T> {
     pub router: Router<T>,
     pub seats: Vec<Seat<T>>,
     pub(crate) taps: Vec<Tap>,
+    pub(crate) published: Closed<Install>,
 }
 
 impl<T> Model for Book<T> {
@@ -31,12 +36,13 @@ impl<T> Model for Book<T> {
     ghost use Rattle.click_rings.specs.Feeds.{name_of, are_apart};
     ghost use Rattle.click_desk.specs.Booklet.{Booklet};
     ghost use Rattle.click_desk.specs.Polls.{IsPolled};
+    ghost use Rattle.click_desk.specs.History.{installs};
 
     ghost Value = { Booklet };
 
-    ghost view = { λ b. record { opening = b.opening; entries = b.entries.items; router = b.router; seats = b.seats.items; taps = b.taps.items } };
+    ghost view = { λ b. record { opening = b.opening; entries = b.entries.items; router = b.router; seats = b.seats.items; taps = b.taps.items; board = b.published.board } };
 
-    ghost invariant = { λ b. IsPolled b.entries.items b.taps.items × (are_apart (map name_of b.taps.items) ≡ true) };
+    ghost invariant = { λ b. IsPolled b.entries.items b.taps.items × (are_apart (map name_of b.taps.items) ≡ true) × (b.published.list ≡ installs b.opening b.entries.items) };
 }
 
 /// Why a feed was not settled.
@@ -57,6 +63,14 @@ pub struct SettleRefused {
 }
 
 impl<T> Book<T> {
+    /// What a view of this desk showed, in order, are the first of the configurations that the history installed. It takes no memory and answers nothing but this.
+    pub fn meet(&self, view: &View)
+        requires { view.now.board ≡ self.now.board }
+        ensures { BeginsWith (installs self.now.opening self.now.entries) view.now.list }
+    {
+        self.published.meet(&view.shown);
+    }
+
     /// The packets that the feed of this device put and that no poll took. The end is of that feed.
     pub fn settle(
         &mut self,

@@ -7,16 +7,23 @@ ghost use Rattle.click_router.specs.One.{is_transmit, sends_packet, holds_memory
 ghost use Rattle.click_router.specs.Polls.{is_poll};
 ghost use Rattle.click_router.specs.Opened.{IsOpened};
 ghost use Rattle.click_desk.specs.Charters.{charter_of};
-ghost use Rattle.click_desk.specs.History.{entry, Legal};
+ghost use Rattle.click_router.specs.One.{Answers};
+ghost use Rattle.click_router.specs.Swap.{Swaps};
+ghost use Rattle.click_desk.specs.History.{entry, Legal, asked, installed, installs, text_if_done};
 ghost use Rattle.click_desk.specs.Polls.{IsPolled};
 
 use crate::entry::Entry;
 use crate::terms::Terms;
+use crate::watch::Notice;
 use click_packet::PacketRoom;
 use click_rings::Tap;
-use click_router::{Call, Handlers, Recorded, Router};
+use click_router::{
+    Call, FaultKind, Handlers, Install, Kept, Recorded, Router, StepFault, prepare,
+};
+use click_views::{Closed, Publisher};
 use std::alloc::{AllocError, Global};
 use std::marker::Model;
+use std::sync::Wait;
 use thiserror::Error;
 
 /// Why a call was refused. It changed nothing, and is in no list.
@@ -35,6 +42,7 @@ pub(crate) struct Ledger {
     pub(crate) terms: Terms,
     pub(crate) entries: Vec<Entry>,
     pub(crate) taps: Vec<Tap>,
+    pub(crate) published: Publisher<Install>,
 }
 
 /// A router and its history, which leads from the opening text to it, with the feeds from which was drawn what the history polled. It is small, since each call
@@ -50,7 +58,7 @@ impl<T> Model for Booked<T> {
     ghost use Rattle.click_rings.specs.Feeds.{name_of, are_apart};
     ghost use Rattle.click_desk.specs.Booking.{Booking};
     ghost use Rattle.click_desk.specs.Charters.{charter_of};
-    ghost use Rattle.click_desk.specs.History.{Legal};
+    ghost use Rattle.click_desk.specs.History.{Legal, installs};
     ghost use Rattle.click_desk.specs.Polls.{IsPolled};
 
     ghost Value = { Booking };
@@ -58,7 +66,8 @@ impl<T> Model for Booked<T> {
     ghost view = { λ b. record { terms = charter_of b.ledger.value.terms (map name_of b.ledger.value.taps.items); entries = b.ledger.value.entries.items; state = b.router; taps = b.ledger.value.taps.items } };
 
     ghost invariant = { λ b. Legal b.ledger.value.terms.opening b.ledger.value.entries.items b.router × IsPolled b.ledger.value.entries.items b.ledger.value.taps.items
-        × (are_apart (map name_of b.ledger.value.taps.items) ≡ true) };
+        × (are_apart (map name_of b.ledger.value.taps.items) ≡ true)
+        × (b.ledger.value.published ≡ record { board = b.ledger.value.terms.origin; list = installs b.ledger.value.terms.opening b.ledger.value.entries.items }) };
 }
 
 impl<T> Booked<T> {
@@ -68,26 +77,36 @@ impl<T> Booked<T> {
         requires empty { ledger.value.entries.items ≡ [] }
         requires apart { are_apart (map name_of ledger.value.taps.items) ≡ true }
         requires fresh { All (λ t. t.drawn ≡ []) ledger.value.taps.items }
+        requires published { ledger.value.published ≡ record { board = ledger.value.terms.origin; list = ledger.value.terms.opening ∷ [] } }
         ensures { (result.terms ≡ charter_of ledger.value.terms (map name_of ledger.value.taps.items)) × (result.entries ≡ []) × (result.state ≡ router) }
     {
         Booked { ledger, router }
     }
 
     /// Its parts.
-    pub fn into_parts(self) -> (Terms, Vec<Entry>, Router<T>, Vec<Tap>)
+    pub fn into_parts(self) -> (Terms, Vec<Entry>, Router<T>, Vec<Tap>, Closed<Install>)
         ensures terms { self.terms ≡ charter_of result.0 (map name_of result.3.items) }
         ensures parts { (result.1.items ≡ self.entries) × (result.2 ≡ self.state) × (result.3.items ≡ self.taps) }
         ensures legal { Legal self.terms.opening self.entries self.state }
         ensures polled { IsPolled self.entries self.taps }
         ensures apart { are_apart (map name_of self.taps) ≡ true }
+        ensures published { result.4 ≡ record { board = self.terms.origin; list = installs self.terms.opening self.entries } }
     {
         let Booked { ledger, router } = self;
         let Ledger {
             terms,
             entries,
             taps,
+            published,
         } = Box::into_inner(ledger);
-        (terms, entries, router, taps)
+        (terms, entries, router, taps, published.close())
+    }
+
+    /// What was published so far.
+    pub fn notice(&self) -> Notice
+        ensures { result ≡ record { board = self.now.terms.origin; list = installs self.now.terms.opening self.now.entries } }
+    {
+        self.ledger.published.notice()
     }
 }
 
@@ -130,10 +149,69 @@ pub(crate) fn recorded_twice(
     Ok((reply.copy(alloc, entered)?, reply.copy(alloc, listed)?))
 }
 
+/// The configuration of a text is published and takes the place of the running one, or is refused. All memory is taken before either; to publish is the last that
+/// may be refused.
+fn swap<T, R: Wait>(
+    rt: &R,
+    alloc: Global,
+    router: &mut Router<T>,
+    published: &mut Publisher<Install>,
+    text: &[u8],
+) -> Result<Recorded, StepFault>
+    ensures board { published.new.board ≡ published.old.board }
+    ensures swaps { MatchResult result (λ reply. Swaps router.old text.now router.new reply) (λ _. router.new ≡ router.old) }
+    ensures list { MatchResult result (λ reply. published.new.list ≡ published.old.list ++ asked (text_if_done text.now reply)) (λ _. published.new.list ≡ published.old.list) }
+    ensures light { IfOk result (λ reply. holds_memory reply ≡ true → router.new ≡ router.old) }
+    ensures quiet { IfOk result (λ reply. sends_packet reply ≡ false) }
+{
+    match prepare(alloc, text) {
+        Ok(prepared) => {
+            let Ok(install) = Install::of_prepared(alloc, text, &prepared) else {
+                return Err(StepFault::NoMemory);
+            };
+            if published.publish(rt, install).is_err() {
+                return Err(StepFault::NoMemory);
+            }
+            router.install(prepared);
+            Ok(Recorded::of(Kept::Done))
+        }
+        Err(fault) => match fault.kind {
+            FaultKind::NoMemory => Err(StepFault::NoMemory),
+            _ => match Recorded::faulty(alloc, fault) {
+                Ok(reply) => Ok(reply),
+                Err(_) => Err(StepFault::NoMemory),
+            },
+        },
+    }
+}
+
+/// Answers one call, and publishes what it installs. Where memory is refused nothing has changed.
+fn answer<T: Handlers, R: Wait>(
+    rt: &R,
+    alloc: Global,
+    router: &mut Router<T>,
+    published: &mut Publisher<Install>,
+    call: &Call,
+    room: Option<PacketRoom>,
+) -> Result<Recorded, StepFault>
+    requires { is_transmit call.now ≡ true → is_some room ≡ true }
+    ensures board { published.new.board ≡ published.old.board }
+    ensures answer { MatchResult result (λ reply. Answers router.old call.now router.new reply) (λ _. router.new ≡ router.old) }
+    ensures list { MatchResult result (λ reply. published.new.list ≡ published.old.list ++ installed call.now reply) (λ _. published.new.list ≡ published.old.list) }
+    ensures light { IfOk result (λ reply. holds_memory reply ≡ true → (router.new ≡ router.old) × (installed call.now reply ≡ [])) }
+    ensures sends { IfOk result (λ reply. sends_packet reply ≡ true → is_transmit call.now ≡ true) }
+{
+    match call.swap_text() {
+        Some(text) => swap(rt, alloc, router, published, text),
+        None => router.record(alloc, call, room),
+    }
+}
+
 impl<T: Handlers> Booked<T> {
     /// One call of the seat with this number, which is no poll, entered in the history and in the seat's list. All memory is taken before the router changes.
-    pub fn enter(
+    pub fn enter<R: Wait>(
         &mut self,
+        rt: &R,
         alloc: Global,
         number: usize,
         calls: &mut Vec<(Call, Recorded)>,
@@ -150,7 +228,7 @@ impl<T: Handlers> Booked<T> {
         // What drivers call all the time needs none of the places that other calls need, and each of these costs what it holds, used or not.
         match call {
             Call::Round => self.enter_round(number, calls),
-            call => self.enter_any(alloc, number, calls, call),
+            call => self.enter_any(rt, alloc, number, calls, call),
         }
     }
 
@@ -186,8 +264,9 @@ impl<T: Handlers> Booked<T> {
 
     /// A call as `enter` makes it, which may send a packet and may take memory.
     #[inline(never)]
-    fn enter_any(
+    fn enter_any<R: Wait>(
         &mut self,
+        rt: &R,
         alloc: Global,
         number: usize,
         calls: &mut Vec<(Call, Recorded)>,
@@ -219,7 +298,14 @@ impl<T: Handlers> Booked<T> {
             entered,
             listed: beside,
         } = rooms;
-        let Ok(reply) = self.router.record(alloc, &call, told) else {
+        let Ok(reply) = answer(
+            rt,
+            alloc,
+            &mut self.router,
+            &mut ledger.published,
+            &call,
+            told,
+        ) else {
             return Err(DeskFault::NoMemory);
         };
         // A reply that holds memory comes of a call that changed nothing.

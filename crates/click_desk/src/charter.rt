@@ -1,7 +1,9 @@
 //! What the passes of a desk know of it.
 
 use click_rings::Inlet;
+use click_router::Install;
 use click_text::sequence::Sequence;
+use click_views::Origin;
 use std::collections::LinkedList;
 
 /// What a desk was opened with, and which feeds it has. No value of it is made.
@@ -9,5 +11,6 @@ pub struct Charter {
     pub opening: Sequence<u8>,
     pub room: usize,
     pub seats: usize,
+    pub origin: Origin<Install>,
     pub feeds: LinkedList<Inlet>,
 }

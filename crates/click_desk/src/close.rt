@@ -31,8 +31,8 @@ pub enum CloseFault {
 
 /// A desk that was not closed, with the seats that were handed in.
 #[derive(Drop)]
-pub struct CloseRefused<T> {
-    pub desk: Desk<T>,
+pub struct CloseRefused<T, R: Wait + Drop> {
+    pub desk: Desk<T, R>,
     pub seats: Vec<Seat<T>>,
     pub fault: CloseFault,
 }
@@ -108,9 +108,13 @@ fn take_last<T, R: Wait>(rt: &R, queue: &Queue<T>, seats: &mut [Seat<T>]) -> Boo
     booked
 }
 
-impl<T: Drop> Desk<T> {
+impl<T: Drop, R: Wait + Drop> Desk<T, R> {
     /// Closes the desk, once each of its seats is handed in.
-    pub fn close<R: Wait>(self, rt: &R, mut seats: Vec<Seat<T>>) -> Result<Book<T>, CloseRefused<T>>
+    pub fn close<S: Wait>(
+        self,
+        rt: &S,
+        mut seats: Vec<Seat<T>>,
+    ) -> Result<Book<T>, CloseRefused<T, R>>
         requires { All (λ s. s.desk ≡ self) seats.items }
         ensures ok { IfOk result (λ book. IsEachOnce self.terms.seats seats.items × Closes self seats.items book) }
         ensures refused { IfErr result (λ r. (¬ IsEachOnce self.terms.seats seats.items) × (r.desk ≡ self) × (r.seats.items ≡ seats.items) × (r.fault ≡ CloseFault.SeatsMissing)) }
@@ -123,7 +127,7 @@ impl<T: Drop> Desk<T> {
             });
         }
         let booked = take_last(rt, &self.queue, seats.as_mut_slice());
-        let (terms, entries, router, taps) = booked.into_parts();
+        let (terms, entries, router, taps, published) = booked.into_parts();
         let Terms { opening, .. } = terms;
         Ok(Book {
             opening,
@@ -131,6 +135,7 @@ impl<T: Drop> Desk<T> {
             router,
             seats,
             taps,
+            published,
         })
     }
 }

@@ -11,21 +11,24 @@ use crate::booked::{Booked, DeskFault};
 use crate::rule::{DeskPass, Give, Queue, Take};
 use crate::seat::Seat;
 use crate::terms::Terms;
+use crate::watch::Notice;
 use click_router::{Call, Handlers, Recorded, Reply};
+use click_views::Bell;
 use std::alloc::Global;
 use std::marker::Model;
 use std::sync::Wait;
 use std::thread;
 
-/// A router with its history, which seats share.
+/// A router with its history, which seats share. Where it has views, they hear of each swap by a bell, which keeps the runtime `R` that it waits by.
 #[derive(Drop)]
-pub struct Desk<T> {
+pub struct Desk<T, R: Wait + Drop> {
     pub(crate) alloc: Global,
     pub(crate) queue: Queue<T>,
     pub(crate) terms: Terms,
+    pub(crate) bell: Option<Bell<R>>,
 }
 
-impl<T> Model for Desk<T> {
+impl<T, R: Wait + Drop> Model for Desk<T, R> {
     ghost use Rattle.click_desk.specs.Sittings.{DeskName};
 
     ghost Value = { DeskName };
@@ -88,9 +91,18 @@ fn told(entered: Result<Recorded, DeskFault>) -> Result<Reply, DeskFault>
     }
 }
 
-impl<T: Handlers> Desk<T> {
+impl<T, R: Wait + Drop> Desk<T, R> {
+    /// The views hear of the newest configuration.
+    fn ring<S: Wait>(&self, rt: &S, notice: &Notice) {
+        if let Some(bell) = &self.bell {
+            bell.ring(rt, notice);
+        }
+    }
+}
+
+impl<T: Handlers, R: Wait + Drop> Desk<T, R> {
     /// One call of a seat that belongs to this desk. A poll is made by `poll`.
-    pub fn call<R: Wait>(&self, rt: &R, seat: &mut Seat<T>, call: Call) -> Result<Reply, DeskFault>
+    pub fn call<S: Wait>(&self, rt: &S, seat: &mut Seat<T>, call: Call) -> Result<Reply, DeskFault>
         requires seat { seat.old.desk ≡ self.now }
         requires call { is_poll call ≡ false }
         ensures seat { (seat.new.desk ≡ seat.old.desk) × (seat.new.feeds ≡ seat.old.feeds) × (seat.new.number ≡ seat.old.number) }
@@ -101,9 +113,9 @@ impl<T: Handlers> Desk<T> {
     }
 
     /// One call as `call` makes it, with the reply as the history keeps it, which is small.
-    pub fn record<R: Wait>(
+    pub fn record<S: Wait>(
         &self,
-        rt: &R,
+        rt: &S,
         seat: &mut Seat<T>,
         call: Call,
     ) -> Result<Recorded, DeskFault>
@@ -113,16 +125,21 @@ impl<T: Handlers> Desk<T> {
         ensures ok { IfOk result (λ reply. Calls seat.old seat.new call reply) }
         ensures err { IfErr result (λ fault. IsRefused seat.old seat.new fault) }
     {
+        let swaps = call.swap_text().is_some();
         let mut booked = take(rt, &self.queue, &mut seat.pass);
-        let result = booked.enter(self.alloc, seat.number, &mut seat.calls, call);
+        let result = booked.enter(rt, self.alloc, seat.number, &mut seat.calls, call);
+        seat.notice = booked.notice();
+        if swaps {
+            self.ring(rt, &seat.notice);
+        }
         give(rt, &self.queue, &mut seat.pass, booked);
         result
     }
 
     /// Up to `most` packets of a device's feed, 1 to 32, enter in one call. Nothing is drawn where the configuration has no such device, or the desk no feed of it.
-    pub fn poll<R: Wait>(
+    pub fn poll<S: Wait>(
         &self,
-        rt: &R,
+        rt: &S,
         seat: &mut Seat<T>,
         device: &[u8],
         most: usize,
@@ -135,7 +152,9 @@ impl<T: Handlers> Desk<T> {
     {
         let mut booked = take(rt, &self.queue, &mut seat.pass);
         let result = booked.enter_poll(self.alloc, seat.number, &mut seat.calls, device, most);
+        let notice = booked.notice();
         give(rt, &self.queue, &mut seat.pass, booked);
+        seat.notice = notice;
         told(result)
     }
 }

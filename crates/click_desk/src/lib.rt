@@ -14,6 +14,7 @@ mod rule;
 mod seat;
 mod terms;
 mod view;
+mod watch;
 
 pub use book::{Book, SettleFault, SettleRefused};
 pub use booked::DeskFault;
@@ -22,3 +23,4 @@ pub use desk::Desk;
 pub use entry::Entry;
 pub use open::{OpenFault, OpenRefused};
 pub use seat::Seat;
+pub use watch::{Notice, View};

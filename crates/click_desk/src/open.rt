@@ -1,6 +1,6 @@
 //! The opening of a desk.
 
-ghost use Rattle.std.specs.Prelude.{◌≡◌, ◌≤◌, [], ℕ, List, length, map, IfOk, IfErr, IfSome, IfNone, vec_capacity};
+ghost use Rattle.std.specs.Prelude.{◌≡◌, ◌≤◌, ◌<◌, ◌∷◌, [], ℕ, List, length, map, true, false, IfOk, OnOk, IfErr, IfSome, IfNone, vec_capacity};
 ghost use Rattle.std.specs.List.{All};
 ghost use Rattle.crossbeam_queue.specs.Passes.{view, IsPassOf, ruled_capacity};
 ghost use Rattle.click_router.specs.Opened.{IsOpened, IsFirstFault};
@@ -8,7 +8,7 @@ ghost use Rattle.click_desk.specs.History.{IsLegal};
 ghost use Rattle.click_desk.specs.Views.{first, maker as maker_of};
 ghost use Rattle.click_desk.specs.Charters.{terms_of};
 ghost use Rattle.click_desk.specs.Sittings.{seats_below};
-ghost use Rattle.click_desk.specs.Openings.{AreFit, IsOpenFault};
+ghost use Rattle.click_desk.specs.Openings.{AreFit, IsOpenFault, IsViewFault, IsViewless};
 ghost use Rattle.click_rings.specs.Feeds.{name_of};
 
 use crate::booked::{Booked, Ledger};
@@ -16,8 +16,10 @@ use crate::desk::{Desk, give};
 use crate::rule::{DeskPass, NextSeat, Queue};
 use crate::seat::Seat;
 use crate::terms::Terms;
+use crate::watch::{Notice, View};
 use click_rings::{Inlet, Tap, are_apart};
-use click_router::{ConfigFault, FaultKind, Router, prepare};
+use click_router::{ConfigFault, FaultKind, Install, Prepared, Router, prepare};
+use click_views::{Bell, Publisher};
 use std::alloc::{AllocError, Global};
 use std::sync::Wait;
 use thiserror::Error;
@@ -28,6 +30,9 @@ const MOST_SEATS: usize = 256;
 /// The most inlets of a desk.
 const MOST_INLETS: usize = 16;
 
+/// The most views that a desk is opened with.
+const MOST_VIEWS: usize = 16;
+
 /// Why a desk was not opened.
 #[derive(Debug, Drop, Error)]
 pub enum OpenFault {
@@ -37,11 +42,16 @@ pub enum OpenFault {
     DeviceTwice,
     #[error("a desk has at most 16 inlets")]
     InletCount,
+    #[error("a desk is opened with at most 16 views")]
+    ViewCount,
     /// What is wrong with the configuration.
     #[error(transparent)]
     Config(ConfigFault),
     #[error("out of memory")]
     NoMemory,
+    /// A view more could not be counted.
+    #[error("no view")]
+    NoView,
 }
 
 /// What was handed in, and why no desk was opened.
@@ -52,6 +62,15 @@ pub struct OpenRefused<T> {
     pub fault: OpenFault,
 }
 
+/// How many of each a desk is to have.
+#[derive(Clone, Copy)]
+struct Sizes {
+    room: usize,
+    seats: usize,
+    inlets: usize,
+    views: usize,
+}
+
 /// All that takes memory.
 struct Parts<T> {
     ledger: Box<Ledger>,
@@ -59,38 +78,50 @@ struct Parts<T> {
     queue: Queue<T>,
     maker: DeskPass<T>,
     given: Vec<Seat<T>>,
+    views: Vec<View>,
 }
 
 /// A ledger without an entry, with room for so many feeds.
-fn empty_ledger(alloc: Global, terms: Terms, inlets: usize) -> Result<Box<Ledger>, AllocError>
-    ensures { IfOk result (λ l. (l.value.terms ≡ terms) × (l.value.entries.items ≡ []) × (l.value.taps.items ≡ []) × (inlets ≤ vec_capacity l.value.taps)) }
+fn empty_ledger(
+    alloc: Global,
+    terms: Terms,
+    inlets: usize,
+    published: Publisher<Install>,
+) -> Result<Box<Ledger>, AllocError>
+    ensures { IfOk result (λ l. (l.value.terms ≡ terms) × (l.value.published ≡ published) × (l.value.entries.items ≡ []) × (l.value.taps.items ≡ []) × (inlets ≤ vec_capacity l.value.taps)) }
 {
     let ledger = Ledger {
         terms,
         entries: Vec::new(alloc),
         taps: Vec::with_capacity(alloc, inlets)?,
+        published,
     };
     Ok(Box::new(alloc, ledger)?)
 }
 
 /// Takes all memory that a desk of these terms needs.
-fn make_parts<T>(
+fn make_parts<T, R: Wait>(
+    rt: &R,
     alloc: Global,
     text: &[u8],
-    room: usize,
-    seats: usize,
-    inlets: usize,
+    prepared: &Prepared,
+    sizes: Sizes,
 ) -> Result<Parts<T>, AllocError>
-    ensures terms { IfOk result (λ p. (p.ledger.value.terms ≡ record { opening = text.now; room = room; seats = seats }) × (p.beside ≡ p.ledger.value.terms)) }
+    requires { IsOpened text.now prepared.now }
+    ensures terms { IfOk result (λ p. (p.ledger.value.terms ≡ record { opening = text.now; room = sizes.room; seats = sizes.seats; origin = p.ledger.value.published.board }) × (p.beside ≡ p.ledger.value.terms)) }
+    ensures published { IfOk result (λ p. p.ledger.value.published ≡ record { board = p.ledger.value.published.board; list = text.now ∷ [] }) }
     ensures empty { IfOk result (λ p. p.ledger.value.entries.items ≡ []) }
     ensures queue { IfOk result (λ p. (ruled_capacity p.queue ≡ 1) × IsPassOf p.queue p.maker × (view p.maker ≡ first)) }
-    ensures given { IfOk result (λ p. (p.given.items ≡ []) × (seats ≤ vec_capacity p.given)) }
-    ensures taps { IfOk result (λ p. (p.ledger.value.taps.items ≡ []) × (inlets ≤ vec_capacity p.ledger.value.taps)) }
+    ensures given { IfOk result (λ p. (p.given.items ≡ []) × (sizes.seats ≤ vec_capacity p.given)) }
+    ensures views { IfOk result (λ p. (p.views.items ≡ []) × (sizes.views ≤ vec_capacity p.views)) }
+    ensures taps { IfOk result (λ p. (p.ledger.value.taps.items ≡ []) × (sizes.inlets ≤ vec_capacity p.ledger.value.taps)) }
 {
-    let inside = Terms::of(alloc, text, room, seats)?;
-    let ledger = empty_ledger(alloc, inside, inlets)?;
-    let beside = Terms::of(alloc, text, room, seats)?;
-    let given = Vec::with_capacity(alloc, seats)?;
+    let published = Publisher::open(rt, alloc, Install::of_prepared(alloc, text, prepared)?)?;
+    let inside = Terms::of(alloc, text, sizes.room, sizes.seats, published.origin())?;
+    let beside = Terms::of(alloc, text, sizes.room, sizes.seats, published.origin())?;
+    let ledger = empty_ledger(alloc, inside, sizes.inlets, published)?;
+    let given = Vec::with_capacity(alloc, sizes.seats)?;
+    let views = Vec::with_capacity(alloc, sizes.views)?;
     let (queue, maker) = Queue::<T>::ruled(alloc, 1)?;
     Ok(Parts {
         ledger,
@@ -98,6 +129,7 @@ fn make_parts<T>(
         queue,
         maker,
         given,
+        views,
     })
 }
 
@@ -119,12 +151,14 @@ fn make_seats<T>(
     mut maker: DeskPass<T>,
     count: usize,
     given: &mut Vec<Seat<T>>,
+    told: &Notice,
 )
     requires queue { IsPassOf queue.now maker }
     requires maker { view maker ≡ maker_of (view maker).terms 0 [] }
     requires legal { IsLegal (view maker).terms.opening [] }
     requires count { (view maker).terms.seats ≡ count }
     requires given { (given.old.items ≡ []) × (count ≤ vec_capacity given.old) }
+    requires told { told.now ≡ record { board = (view maker).terms.origin; list = (view maker).terms.opening ∷ [] } }
     ensures { given.new.items ≡ seats_below (record { table = queue.now.table.shared.table_id; terms = terms_of (view maker).terms }) (view maker).terms.feeds count }
 {
     for number in 0..count {
@@ -133,8 +167,66 @@ fn make_seats<T>(
             pass,
             number,
             calls: Vec::new(alloc),
+            notice: told.again(),
         });
     }
+}
+
+/// What tells views of swaps, where there are views.
+fn bell_for<'a, R: Wait>(
+    rt: &'a R,
+    alloc: Global,
+    views: usize,
+) -> Result<Option<Bell<&'a R>>, AllocError>
+    requires { views ≤ 16 }
+{
+    if views == 0 {
+        Ok(None)
+    } else {
+        Ok(Some(Bell::open(rt, alloc, views)?))
+    }
+}
+
+/// A view, which hears the bell. It takes memory for what it hears by.
+fn view_of<S: Wait, R: Wait + Drop>(
+    rt: &S,
+    published: &Publisher<Install>,
+    bell: &Option<Bell<R>>,
+) -> Result<View, OpenFault>
+    ensures ok { IfOk result (λ v. v ≡ published.now) }
+    ensures err { IfErr result IsViewless }
+{
+    let Ok(mut shown) = published.view() else {
+        return Err(OpenFault::NoView);
+    };
+    if let Some(bell) = bell {
+        match bell.listener(rt) {
+            Ok(reader) => shown.listen(reader),
+            Err(_) => return Err(OpenFault::NoMemory),
+        }
+    }
+    Ok(View { shown })
+}
+
+/// Makes the views.
+fn make_views<S: Wait, R: Wait + Drop>(
+    rt: &S,
+    published: &Publisher<Install>,
+    bell: &Option<Bell<R>>,
+    count: usize,
+    views: &mut Vec<View>,
+) -> Result<(), OpenFault>
+    requires { (views.old.items ≡ []) × (count ≤ vec_capacity views.old) }
+    ensures made { OnOk result ((length views.new.items ≡ count) × All (λ v. v ≡ published.now) views.new.items) }
+    ensures none { IfErr result (λ fault. (0 < count) × IsViewless fault) }
+{
+    for _number in 0..count {
+        match view_of(rt, published, bell) {
+            Ok(view) => views.push_reserved(view),
+            Err(fault) => return Err(fault),
+        }
+    }
+    Ok(())
 }
 
 /// Why a desk is not opened where its configuration is refused for this fault. Want of memory is told as such.
@@ -148,10 +240,10 @@ fn fault_of(fault: ConfigFault) -> OpenFault
     }
 }
 
-/// Why no desk has this many seats with these inlets, if none has.
-fn misfit(seats: usize, inlets: &[Inlet]) -> Option<OpenFault>
-    ensures fits { IfNone result (AreFit seats inlets.now) }
-    ensures fault { IfSome result (λ fault. (text : List ℕ) → IsOpenFault seats inlets.now text fault) }
+/// Why no desk has this many seats with these inlets and so many views, if none has.
+fn misfit(seats: usize, inlets: &[Inlet], views: usize) -> Option<OpenFault>
+    ensures fits { IfNone result (AreFit seats inlets.now × (views ≤ 16)) }
+    ensures fault { IfSome result (λ fault. (text : List ℕ) → IsViewFault seats inlets.now views text fault) }
 {
     if seats == 0 || seats > MOST_SEATS {
         return Some(OpenFault::SeatCount);
@@ -161,6 +253,9 @@ fn misfit(seats: usize, inlets: &[Inlet]) -> Option<OpenFault>
     }
     if inlets.len() > MOST_INLETS {
         return Some(OpenFault::InletCount);
+    }
+    if views > MOST_VIEWS {
+        return Some(OpenFault::ViewCount);
     }
     None
 }
@@ -176,34 +271,69 @@ fn refused<T>(table: T, inlets: Vec<Inlet>, fault: OpenFault) -> OpenRefused<T>
     }
 }
 
-impl<T: Drop> Desk<T> {
+impl<'a, T: Drop, R: Wait> Desk<T, &'a R> {
     /// Opens a desk with 1 to 256 seats and at most 16 inlets, no two of them of one device, for a history of at most `room` entries. A refusal hands the table and
     /// the inlets back: for the number of seats, else for a device that is there twice, else for the number of inlets, else for the configuration, else because
     /// memory runs out.
-    pub fn open<R: Wait>(
-        rt: &R,
+    pub fn open(
+        rt: &'a R,
         alloc: Global,
         table: T,
         text: &[u8],
         room: usize,
         seats: usize,
         inlets: Vec<Inlet>,
-    ) -> Result<(Desk<T>, Vec<Seat<T>>), OpenRefused<T>>
-        ensures desk { IfOk result (λ r. r.0.terms ≡ record { opening = text.now; room = room; seats = seats }) }
+    ) -> Result<(Desk<T, &'a R>, Vec<Seat<T>>), OpenRefused<T>>
+        ensures desk { IfOk result (λ r. (r.0.terms.opening ≡ text.now) × (r.0.terms.room ≡ room) × (r.0.terms.seats ≡ seats)) }
         ensures seats { IfOk result (λ r. (r.1.items ≡ seats_below r.0 inlets.items seats) × All (λ s. s.desk ≡ r.0) r.1.items) }
         ensures fed { IfOk result (λ r. All (λ s. s.feeds ≡ inlets.items) r.1.items) }
         ensures good { IfOk result (λ r. AreFit seats inlets.items × IsLegal text.now []) }
         ensures handed { IfErr result (λ r. (r.table ≡ table) × (r.inlets ≡ inlets)) }
         ensures fault { IfErr result (λ r. IsOpenFault seats inlets.items text.now r.fault) }
     {
-        if let Some(fault) = misfit(seats, inlets.as_slice()) {
+        match Desk::open_with_views(rt, alloc, table, text, room, seats, inlets, 0) {
+            Ok((desk, given, _none)) => Ok((desk, given)),
+            Err(refused) => Err(refused),
+        }
+    }
+
+    /// Opens a desk as `open` does, with up to 16 views of it, each of which shows the opening configuration. It is refused for too many views after the number of
+    /// inlets is tested, and last of all where a view more could not be counted.
+    pub fn open_with_views(
+        rt: &'a R,
+        alloc: Global,
+        table: T,
+        text: &[u8],
+        room: usize,
+        seats: usize,
+        inlets: Vec<Inlet>,
+        views: usize,
+    ) -> Result<(Desk<T, &'a R>, Vec<Seat<T>>, Vec<View>), OpenRefused<T>>
+        ensures desk { IfOk result (λ r. (r.0.terms.opening ≡ text.now) × (r.0.terms.room ≡ room) × (r.0.terms.seats ≡ seats)) }
+        ensures seats { IfOk result (λ r. (r.1.items ≡ seats_below r.0 inlets.items seats) × All (λ s. s.desk ≡ r.0) r.1.items) }
+        ensures fed { IfOk result (λ r. All (λ s. s.feeds ≡ inlets.items) r.1.items) }
+        ensures views { IfOk result (λ r. (length r.2.items ≡ views) × All (λ v. v ≡ record { board = r.0.terms.origin; list = text.now ∷ [] }) r.2.items) }
+        ensures good { IfOk result (λ r. AreFit seats inlets.items × (views ≤ 16) × IsLegal text.now []) }
+        ensures handed { IfErr result (λ r. (r.table ≡ table) × (r.inlets ≡ inlets)) }
+        ensures fault { IfErr result (λ r. IsViewFault seats inlets.items views text.now r.fault) }
+    {
+        if let Some(fault) = misfit(seats, inlets.as_slice(), views) {
             return Err(refused(table, inlets, fault));
         }
         let prepared = match prepare(alloc, text) {
             Ok(prepared) => prepared,
             Err(fault) => return Err(refused(table, inlets, fault_of(fault))),
         };
-        let Ok(parts) = make_parts(alloc, text, room, seats, inlets.len()) else {
+        let sizes = Sizes {
+            room,
+            seats,
+            inlets: inlets.len(),
+            views,
+        };
+        let Ok(bell) = bell_for(rt, alloc, views) else {
+            return Err(refused(table, inlets, OpenFault::NoMemory));
+        };
+        let Ok(parts) = make_parts(rt, alloc, text, &prepared, sizes) else {
             return Err(refused(table, inlets, OpenFault::NoMemory));
         };
         let Parts {
@@ -212,16 +342,22 @@ impl<T: Drop> Desk<T> {
             queue,
             mut maker,
             mut given,
+            views: mut shown,
         } = parts;
+        if let Err(fault) = make_views(rt, &ledger.published, &bell, views, &mut shown) {
+            return Err(refused(table, inlets, fault));
+        }
+        let told = ledger.published.notice();
         let router = Router::open(table, prepared);
         open_all(inlets, &mut ledger.taps);
         give(rt, &queue, &mut maker, Booked::new(ledger, router));
-        make_seats(alloc, &queue, maker, seats, &mut given);
+        make_seats(alloc, &queue, maker, seats, &mut given, &told);
         let desk = Desk {
             alloc,
             queue,
             terms: beside,
+            bell,
         };
-        Ok((desk, given))
+        Ok((desk, given, shown))
     }
 }

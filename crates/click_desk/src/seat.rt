@@ -2,8 +2,10 @@
 
 ghost use Rattle.std.specs.Prelude.{◌≡◌};
 ghost use Rattle.click_desk.specs.Sittings.{IsSeat};
+ghost use Rattle.click_desk.specs.History.{installs};
 
 use crate::rule::DeskPass;
+use crate::watch::Notice;
 use click_router::{Call, Recorded};
 use std::marker::Model;
 
@@ -13,6 +15,7 @@ pub struct Seat<T> {
     pub(crate) pass: DeskPass<T>,
     pub(crate) number: usize,
     pub(crate) calls: Vec<(Call, Recorded)>,
+    pub(crate) notice: Notice,
 }
 
 impl<T> Model for Seat<T> {
@@ -25,10 +28,12 @@ impl<T> Model for Seat<T> {
     ghost use Rattle.click_desk.specs.Charters.{terms_of};
     ghost use Rattle.click_desk.specs.Views.{seated};
     ghost use Rattle.click_desk.specs.Sittings.{IsSeat};
+    ghost use Rattle.click_desk.specs.History.{installs};
 
     ghost view = { λ s. record { desk = record { table = s.pass.table_id; terms = terms_of (known s.pass).terms }; feeds = (known s.pass).terms.feeds; number = s.number; calls = s.calls.items; seen = (known s.pass).seen } };
 
-    ghost invariant = { λ s. (s.pass.me.1 ≡ []) × (known s.pass ≡ seated (known s.pass).terms s.number s.calls.items (known s.pass).seen) × IsSeat (record { desk = record { table = s.pass.table_id; terms = terms_of (known s.pass).terms }; feeds = (known s.pass).terms.feeds; number = s.number; calls = s.calls.items; seen = (known s.pass).seen }) };
+    ghost invariant = { λ s. (s.pass.me.1 ≡ []) × (known s.pass ≡ seated (known s.pass).terms s.number s.calls.items (known s.pass).seen) × IsSeat (record { desk = record { table = s.pass.table_id; terms = terms_of (known s.pass).terms }; feeds = (known s.pass).terms.feeds; number = s.number; calls = s.calls.items; seen = (known s.pass).seen })
+        × (s.notice ≡ record { board = (known s.pass).terms.origin; list = installs (known s.pass).terms.opening (known s.pass).seen }) };
 }
 
 impl<T> Seat<T> {
@@ -38,6 +43,15 @@ impl<T> Seat<T> {
         ensures sound { IsSeat self.now }
     {
         self.number
+    }
+
+    /// What it was told in its latest call, or when the desk was opened: which configurations were installed so far. A view that learns it shows the last of these
+    /// or a later one. It takes no memory.
+    pub fn notice(&self) -> &Notice
+        ensures told { result.now ≡ record { board = self.now.desk.terms.origin; list = installs self.now.desk.terms.opening self.now.seen } }
+        ensures sound { IsSeat self.now }
+    {
+        &self.notice
     }
 
     /// The calls that it made, each with its reply.

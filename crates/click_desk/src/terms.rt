@@ -2,7 +2,9 @@
 
 ghost use Rattle.std.specs.Prelude.{◌≡◌, IfOk};
 
+use click_router::Install;
 use click_text::sequence::Sequence;
+use click_views::Origin;
 use std::alloc::{AllocError, Global};
 
 /// The opening text, the number of entries that the history may have, and the number of seats.
@@ -11,17 +13,25 @@ pub struct Terms {
     pub opening: Sequence<u8>,
     pub room: usize,
     pub seats: usize,
+    pub origin: Origin<Install>,
 }
 
 impl Terms {
     /// The terms with a copy of this text.
-    pub fn of(alloc: Global, text: &[u8], room: usize, seats: usize) -> Result<Terms, AllocError>
-        ensures { IfOk result (λ t. t ≡ record { opening = text.now; room = room; seats = seats }) }
+    pub fn of(
+        alloc: Global,
+        text: &[u8],
+        room: usize,
+        seats: usize,
+        origin: Origin<Install>,
+    ) -> Result<Terms, AllocError>
+        ensures { IfOk result (λ t. t ≡ record { opening = text.now; room = room; seats = seats; origin = origin }) }
     {
         Ok(Terms {
             opening: Sequence::of(Vec::from_slice(alloc, text)?),
             room,
             seats,
+            origin,
         })
     }
 }

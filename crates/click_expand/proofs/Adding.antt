@@ -5,17 +5,17 @@ use Rattle.std.proofs.lemmas.Bool.{cases_eq}
 use Rattle.std.proofs.lemmas.Option.{slice_get_within}
 use Rattle.std.proofs.lemmas.List.{length-append, length-set}
 use Rattle.click_text.specs.declared.syntax.Config.{Config}
-use Rattle.click_expand.specs.Scopes.{Stands}
-use Rattle.click_expand.specs.Elements.{Local}
+use Rattle.click_scopes.specs.Scopes.{Stands}
+use Rattle.click_scopes.specs.Elements.{Local}
 use Rattle.click_expand.specs.Instances.{Leaf, LeadsTo}
-use Rattle.click_expand.specs.kept.Scoped.{table_place}
+use Rattle.click_scopes.specs.kept.Scoped.{table_place}
 use Rattle.click_expand.specs.kept.KnownInstances.{KnownInstance, the_whole, locals_at, IsAround, IsPart, IsLeaf}
 use Rattle.click_expand.specs.kept.InstanceWalk.{with_part}
 use Rattle.click_expand.specs.declared.instances.InstancePart.{InstancePart}
 use Rattle.click_expand.specs.declared.instances.InstancePart.TheVariants as part
 use Rattle.click_expand.specs.declared.instances.Place.{Place}
 use Rattle.click_expand.specs.declared.instances.Instance.{Instance}
-use Rattle.click_expand.proofs.Keeping.{slice_get-more, slice_get-front}
+use Rattle.click_scopes.proofs.Keeping.{slice_get-more, slice_get-front}
 use Rattle.click_expand.proofs.Homes.{same_some, IsHomeKept}
 
 pub slice_get-there : {X : Type 0} (xs : List X) (i : ℕ) → i < length xs → (x : X) × (slice_get xs i ≡ Some x)

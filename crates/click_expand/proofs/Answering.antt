@@ -2,18 +2,20 @@
 use Rattle.std.proofs.Common.{◌≡◌, inl, inr, ℕ, ◌+◌, ◌<◌, ◌≤◌, List, length, Some, None, refl, sym, ◌∙◌, subst, arith}
 use Rattle.std.specs.Prelude.{min}
 use Rattle.click_text.specs.declared.syntax.Config.{Config}
-use Rattle.click_expand.specs.kept.Nesting.{IsNested}
-use Rattle.click_expand.specs.Faults.{IsFaultless}
+use Rattle.click_scopes.specs.kept.Nesting.{IsNested}
 use Rattle.click_expand.specs.Instances.{Leaf, LeavesOf}
 use Rattle.click_expand.specs.kept.Sizes.{IsSizeOf}
 use Rattle.click_expand.specs.Flat.{most_elements, most_paths, Exceeds, many_elements, many_paths, Meant, IsFlat, IsFlatFault, wrong, too_many, repeated, broken, no_memory, IsMemoryOr}
-use Rattle.click_expand.specs.kept.Tabled.{IsFirst, IsExpanded, IsRefused, IsRefusedOf, fault_for}
+use Rattle.click_scopes.specs.Faults.{IsFaultless}
+use Rattle.click_scopes.specs.Analysis.{IsScopeFault}
+use Rattle.click_expand.specs.kept.Answered.{IsExpanded, IsRefused, IsRefusedOf, refusal_for, fault_for}
 use Rattle.click_expand.specs.declared.fault.FaultKind.TheVariants as kind
 use Rattle.click_expand.specs.declared.flat.Flat.{Flat}
 use Rattle.click_expand.specs.declared.flattening.Refusal.{Refusal}
 use Rattle.click_expand.specs.declared.flattening.Refusal.TheVariants as refused
 use Rattle.click_expand.specs.declared.sizes.Size.{Size}
-use Rattle.click_expand.specs.declared.first_fault.TokenFault.{TokenFault}
+use Rattle.click_scopes.specs.declared.analysis.ScopeFault.{ScopeFault}
+use Rattle.click_scopes.specs.declared.analysis.ScopeFault.TheVariants as scope_fault
 use Rattle.click_expand.proofs.Leaves.{leaves-exist}
 use Rattle.click_expand.proofs.FlatOnce.{flat-no-fault}
 
@@ -78,8 +80,9 @@ refused-by c leaves paths f sound l e (refused.Broken name) h =
     subst (λ n. IsRefused c (refused.Broken n)) (sym r.6)
     (broken leaves r.0 r.1 r.2 paths f.connections (meant c leaves paths f sound l e) e.limits h.0 r.3 r.4 r.5)
 
-pub first-refused : (c : Config) (w : TokenFault) → IsFirst c (Some w) → IsRefused c (refused.At w.kind w.span)
-first-refused c w h = wrong w.kind w.span h
+pub first-refused : (c : Config) (fault : ScopeFault) → IsScopeFault c fault → IsRefused c (refusal_for fault)
+first-refused c scope_fault.NoMemory h = tt
+first-refused c (scope_fault.Wrong w) h = wrong w.kind w.span h
 
 pub told : (c : Config) (why : Refusal) → IsRefused c why → IsMemoryOr (fault_for why) (IsFlatFault c (fault_for why))
 told c refused.NoMemory h = inl refl

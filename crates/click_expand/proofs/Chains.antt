@@ -5,19 +5,19 @@ use Rattle.std.specs.Str.{bytes_eq}
 use Rattle.std.proofs.lemmas.Slice.Eq.{bytes_eq-Decides}
 use Rattle.click_text.specs.declared.syntax.Statement.{Statement}
 use Rattle.click_text.specs.declared.syntax.Config.{Config}
-use Rattle.click_expand.specs.Scopes.{Scope, inside, Stands, at_top}
-use Rattle.click_expand.specs.Classes.{primitive, compound}
-use Rattle.click_expand.specs.Elements.{Local, Role, pseudo, refers, makes, input_name, output_name}
-use Rattle.click_expand.specs.Faults.{End, WrittenConnection, is_pseudo, scope_locals, scope_joints, IsFaultless, output_as_source, input_as_target}
+use Rattle.click_scopes.specs.Scopes.{Scope, inside, Stands, at_top}
+use Rattle.click_scopes.specs.Classes.{primitive, compound}
+use Rattle.click_scopes.specs.Elements.{Local, Role, pseudo, refers, makes, input_name, output_name}
+use Rattle.click_scopes.specs.Faults.{End, WrittenConnection, is_pseudo, scope_locals, scope_joints, IsFaultless, output_as_source, input_as_target}
 use Rattle.click_expand.specs.Instances.{LeadsTo, to_whole, to_inner}
 use Rattle.click_expand.specs.Connections.{Node, output_of, input_of, begin_node, end_node, Leads, by_connection, further}
-use Rattle.click_expand.specs.kept.Nesting.{IsNested}
-use Rattle.click_expand.specs.kept.WrittenConnections.{IsOwner, IsJoint, AreJoints}
-use Rattle.click_expand.specs.declared.fault.FaultKind.TheVariants as kind
-use Rattle.click_expand.specs.declared.written_connections.Owner.{Owner}
-use Rattle.click_expand.specs.declared.written_connections.Owner.TheVariants as owner
-use Rattle.click_expand.specs.declared.written_connections.WrittenConnection.{WrittenConnection as ConnectionKept}
-use Rattle.click_expand.proofs.Once.{stands-once}
+use Rattle.click_scopes.specs.kept.Nesting.{IsNested}
+use Rattle.click_scopes.specs.kept.WrittenConnections.{IsOwner, IsJoint, AreJoints}
+use Rattle.click_scopes.specs.declared.fault.WrongUse.TheVariants as kind
+use Rattle.click_scopes.specs.declared.written_connections.Owner.{Owner}
+use Rattle.click_scopes.specs.declared.written_connections.Owner.TheVariants as owner
+use Rattle.click_scopes.specs.declared.written_connections.WrittenConnection.{WrittenConnection as ConnectionKept}
+use Rattle.click_scopes.proofs.Once.{stands-once}
 use Rattle.click_expand.proofs.Distinct.{distinct}
 
 pub some_same : {X : Type 0} {x y : X} → Some x ≡ Some y → x ≡ y

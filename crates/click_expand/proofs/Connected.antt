@@ -3,16 +3,16 @@ use Rattle.std.proofs.Common.{◌≡◌, ◌↔◌, ◌≤◌, List, length, Vec
 use Rattle.std.specs.Global.{Global}
 use Rattle.std.specs.List.{IsDistinct}
 use Rattle.click_text.specs.declared.syntax.Config.{Config}
-use Rattle.click_expand.specs.Faults.{IsFaultless}
-use Rattle.click_expand.specs.kept.Nesting.{IsNested}
+use Rattle.click_scopes.specs.Faults.{IsFaultless}
+use Rattle.click_scopes.specs.kept.Nesting.{IsNested}
 use Rattle.click_expand.specs.Instances.{Leaf}
-use Rattle.click_expand.specs.kept.WrittenConnections.{AreAllJoints}
-use Rattle.click_expand.specs.kept.ScopeElements.{AreAllLocals}
+use Rattle.click_scopes.specs.kept.WrittenConnections.{AreAllJoints}
+use Rattle.click_scopes.specs.kept.ScopeElements.{AreAllLocals}
 use Rattle.click_expand.specs.kept.Passthrough.{body_at, ends_at, AreShortened}
 use Rattle.click_expand.specs.kept.KnownInstances.{KnownInstance, AreInstances}
-use Rattle.click_expand.specs.declared.scope_elements.Local.{Local as LocalKept}
+use Rattle.click_scopes.specs.declared.scope_elements.Local.{Local as LocalKept}
 use Rattle.click_expand.specs.Flat.{Joins, AreOrdered, AreConnections, most_connections}
-use Rattle.click_expand.specs.declared.written_connections.WrittenConnection.{WrittenConnection as ConnectionKept}
+use Rattle.click_scopes.specs.declared.written_connections.WrittenConnection.{WrittenConnection as ConnectionKept}
 use Rattle.click_expand.specs.declared.instances.Place.{Place}
 use Rattle.click_expand.specs.declared.instances.Instance.{Instance}
 use Rattle.click_expand.specs.declared.connection_index.ConnectionIndex.{ConnectionIndex}

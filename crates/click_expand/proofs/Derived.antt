@@ -1,10 +1,10 @@
 -- The tests of equality that are derived are those of the definitions.
 use Rattle.std.proofs.Common.{◌≡◌, ◌&&◌, nat_eq, refl, ap}
-use Rattle.click_expand.specs.declared.written_connections.Owner.{Owner}
-use Rattle.click_expand.specs.declared.written_connections.Owner.TheVariants as owner
+use Rattle.click_scopes.specs.declared.written_connections.Owner.{Owner}
+use Rattle.click_scopes.specs.declared.written_connections.Owner.TheVariants as owner
 use Rattle.click_expand.specs.declared.connection_index.ScopePort.{ScopePort}
 use Rattle.click_expand.specs.declared.connection_index.InstancePort.{InstancePort}
-use Rattle.click_expand.specs.contracts.written_connections.OwnerPartialEq.TheImpl as owners
+use Rattle.click_scopes.specs.contracts.written_connections.OwnerPartialEq.TheImpl as owners
 use Rattle.click_expand.specs.contracts.connection_index.ScopePortPartialEq.TheImpl as ports
 use Rattle.click_expand.specs.contracts.connection_index.InstancePortPartialEq.TheImpl as starts
 use Rattle.click_expand.specs.kept.Wiring.{same_owner, same_port, same_start}

@@ -10,14 +10,14 @@ use Rattle.click_text.specs.declared.syntax.Head.TheVariants as head
 use Rattle.click_text.specs.declared.syntax.Statement.{Statement}
 use Rattle.click_text.specs.declared.syntax.Config.{Config}
 use Rattle.click_text.specs.Spans.{bytes_at}
-use Rattle.click_expand.specs.Scopes.{Scope, inside, is_body, formals_of, Stands}
-use Rattle.click_expand.specs.Classes.{Meaning, compound, class_meaning}
-use Rattle.click_expand.specs.Elements.{Placed, has_name, Role, pseudo, refers, makes, role, made_name, count_with, head_class, element_meaning, Local, local, local_by, locals_from}
-use Rattle.click_expand.specs.Faults.{scope_placed, scope_declared, scope_locals, role_in, unknown_name, unknown_class, unknown_declared, named_twice, formal_twice, first_token, IsFaultless}
-use Rattle.click_expand.specs.declared.fault.FaultKind.TheVariants as kind
-use Rattle.click_expand.proofs.Founded.{local-made}
-use Rattle.click_expand.proofs.Contained.{contains-behind, map-contains, contains-split, contains-at, at-place}
-use Rattle.click_expand.proofs.Once.{contains-nil, contains-cons}
+use Rattle.click_scopes.specs.Scopes.{Scope, inside, is_body, formals_of, Stands}
+use Rattle.click_scopes.specs.Classes.{Meaning, compound, class_meaning}
+use Rattle.click_scopes.specs.Elements.{Placed, has_name, Role, pseudo, refers, makes, role, made_name, count_with, head_class, element_meaning, Local, local, local_by, locals_from}
+use Rattle.click_scopes.specs.Faults.{scope_placed, scope_declared, scope_locals, role_in, unknown_name, unknown_class, unknown_declared, named_twice, formal_twice, first_token, IsFaultless}
+use Rattle.click_scopes.specs.declared.fault.WrongUse.TheVariants as kind
+use Rattle.click_scopes.proofs.Founded.{local-made}
+use Rattle.click_scopes.proofs.Contained.{contains-behind, map-contains, contains-split, contains-at, at-place}
+use Rattle.click_scopes.proofs.Once.{contains-nil, contains-cons}
 
 pub name-has : (names : List (List ℕ)) (n : List ℕ) → Contains names n → has_name n names ≡ true
 name-has [] n h = absurd (contains-nil n h)

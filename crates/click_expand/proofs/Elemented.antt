@@ -9,27 +9,27 @@ use Rattle.click_expand.specs.declared.flat.FlatElement.{FlatElement}
 use Rattle.std.proofs.lemmas.Option.{slice_get_within}
 use Rattle.click_text.specs.declared.syntax.Statement.{Statement}
 use Rattle.click_text.specs.declared.syntax.Config.{Config}
-use Rattle.click_expand.specs.Scopes.{Scope, Stands}
-use Rattle.click_expand.specs.Classes.{primitive}
-use Rattle.click_expand.specs.Elements.{Local}
-use Rattle.click_expand.specs.kept.Tables.{meaning_by}
-use Rattle.click_expand.specs.Faults.{scope_locals}
+use Rattle.click_scopes.specs.Scopes.{Scope, Stands}
+use Rattle.click_scopes.specs.Classes.{primitive}
+use Rattle.click_scopes.specs.Elements.{Local}
+use Rattle.click_scopes.specs.kept.Tables.{meaning_by}
+use Rattle.click_scopes.specs.Faults.{scope_locals}
 use Rattle.click_expand.specs.Parameters.{IsReplaced}
 use Rattle.click_expand.specs.Instances.{Leaf}
-use Rattle.click_expand.specs.kept.Scoped.{table_place}
-use Rattle.click_expand.specs.kept.ScopeElements.{AreAllLocals}
+use Rattle.click_scopes.specs.kept.Scoped.{table_place}
+use Rattle.click_scopes.specs.kept.ScopeElements.{AreAllLocals}
 use Rattle.click_expand.specs.kept.KnownInstances.{KnownInstance, AreInstances, IsLeaf}
 use Rattle.click_expand.specs.kept.ParameterValues.{string_found, IsRead}
 use Rattle.click_expand.specs.kept.Classed.{class_kept, class_by, class_found}
-use Rattle.click_expand.specs.declared.classes.ClassOf.{ClassOf}
-use Rattle.click_expand.specs.declared.classes.ClassOf.TheVariants as class
-use Rattle.click_expand.specs.declared.scope_elements.Local.{Local as LocalKept}
+use Rattle.click_scopes.specs.declared.classes.ClassOf.{ClassOf}
+use Rattle.click_scopes.specs.declared.classes.ClassOf.TheVariants as class
+use Rattle.click_scopes.specs.declared.scope_elements.Local.{Local as LocalKept}
 use Rattle.click_expand.specs.declared.instances.Place.{Place}
 use Rattle.click_expand.specs.declared.instances.Instance.{Instance as InstanceKept}
 use Rattle.click_expand.specs.declared.parameter_values.UnreadText.{UnreadText}
 use Rattle.std.specs.Prelude.{MatchOption}
 use Rattle.click_expand.proofs.Ways.{match-none, match-some}
-use Rattle.click_expand.proofs.Calling.{unmapped}
+use Rattle.click_scopes.proofs.Calling.{unmapped}
 use Rattle.click_expand.proofs.Valued.{some-same, use-at, string-is}
 
 primitive-kept : (text : List ℕ) (o : Option ClassOf) (w : List ℕ) → meaning_by text o ≡ Some (primitive w) → class_kept text o ≡ w

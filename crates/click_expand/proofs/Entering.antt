@@ -3,22 +3,22 @@ use Rattle.std.proofs.Common.{◌≡◌, ℕ, suc, zero, ◌+◌, ◌<◌, List,
 use Rattle.std.specs.List.{slice_get, slice_set}
 use Rattle.std.proofs.lemmas.List.{append-nil, length-set, length_push}
 use Rattle.click_text.specs.declared.syntax.Config.{Config}
-use Rattle.click_expand.specs.Scopes.{inside}
-use Rattle.click_expand.specs.Classes.{compound}
-use Rattle.click_expand.specs.Elements.{Local}
-use Rattle.click_expand.specs.Faults.{scope_locals}
+use Rattle.click_scopes.specs.Scopes.{inside}
+use Rattle.click_scopes.specs.Classes.{compound}
+use Rattle.click_scopes.specs.Elements.{Local}
+use Rattle.click_scopes.specs.Faults.{scope_locals}
 use Rattle.click_expand.specs.Instances.{Leaf, AreLeaves, to_inner}
-use Rattle.click_expand.specs.kept.Nesting.{IsNested}
-use Rattle.click_expand.specs.kept.Scoped.{AreScopes}
+use Rattle.click_scopes.specs.kept.Nesting.{IsNested}
+use Rattle.click_scopes.specs.kept.Scoped.{AreScopes}
 use Rattle.click_expand.specs.kept.KnownInstances.{KnownInstance, locals_at, IsInner}
 use Rattle.click_expand.specs.kept.InstanceWalk.{with_part, bare_use, element_place, outer_by, IsHomeIn}
-use Rattle.click_expand.specs.declared.classes.ClassEntry.{ClassEntry}
-use Rattle.click_expand.specs.declared.scopes.Scope.{Scope as ScopeKept}
+use Rattle.click_scopes.specs.declared.classes.ClassEntry.{ClassEntry}
+use Rattle.click_scopes.specs.declared.scopes.Scope.{Scope as ScopeKept}
 use Rattle.click_expand.specs.declared.instances.InstancePart.{InstancePart}
 use Rattle.click_expand.specs.declared.instances.InstancePart.TheVariants as part
 use Rattle.click_expand.specs.declared.instances.Place.{Place}
 use Rattle.click_expand.specs.declared.instances.Instance.{Instance}
-use Rattle.click_expand.proofs.Keeping.{slice_get-more, slice_get-last}
+use Rattle.click_scopes.proofs.Keeping.{slice_get-more, slice_get-last}
 use Rattle.click_expand.proofs.Homes.{same_some, IsHomeKept, AreHomes, new-home}
 use Rattle.click_expand.proofs.Adding.{changed-there, changed-behind, IsSoFar, Kept, kept-added}
 use Rattle.click_expand.proofs.Frames.{Chain, within, Walking, InnerCase, inner-case, founded-around, at-so_far, at-within, at-local, frame-part, chain-changed}

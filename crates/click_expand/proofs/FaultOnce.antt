@@ -14,18 +14,18 @@ use Rattle.click_text.specs.declared.syntax.Body.{Body}
 use Rattle.click_text.specs.declared.syntax.Config.{Config}
 use Rattle.click_text.specs.Grammar.{element}
 use Rattle.click_text.specs.Spelling.{Spells}
-use Rattle.click_expand.specs.Scopes.{Scope, whole, inside, body_statements, statements_of, body_formals, formals_of, statement_elements, Stands, nested}
-use Rattle.click_expand.specs.Elements.{Placed, place, head_class}
-use Rattle.click_expand.specs.Faults.{scope_placed, brace_by, brace_of, first_token, End, WrittenConnection, ScopeNames, scope_names, written_end, number_behind, number_after_all, joints_behind, joints_from, statement_joints, scope_joints, IsWrong, unknown_name, unknown_class, unknown_declared, unknown_original, named_twice, port_declared, formal_twice, wrong_parameters, no_output, no_input, output_as_source, input_as_target, input_gap, output_gap}
-use Rattle.click_expand.specs.kept.Nesting.{IsNested}
-use Rattle.click_expand.specs.kept.Standing.{Each}
+use Rattle.click_scopes.specs.Scopes.{Scope, whole, inside, body_statements, statements_of, body_formals, formals_of, statement_elements, Stands, nested}
+use Rattle.click_scopes.specs.Elements.{Placed, place, head_class}
+use Rattle.click_scopes.specs.Faults.{scope_placed, brace_by, brace_of, first_token, End, WrittenConnection, ScopeNames, scope_names, written_end, number_behind, number_after_all, joints_behind, joints_from, statement_joints, scope_joints, IsWrong, unknown_name, unknown_class, unknown_declared, unknown_original, named_twice, port_declared, formal_twice, wrong_parameters, no_output, no_input, output_as_source, input_as_target, input_gap, output_gap}
+use Rattle.click_scopes.specs.kept.Nesting.{IsNested}
+use Rattle.click_scopes.specs.kept.Standing.{Each}
 use Rattle.click_expand.specs.Flat.{IsFlatFault}
-use Rattle.click_expand.specs.declared.fault.FaultKind.{FaultKind}
+use Rattle.click_scopes.specs.declared.fault.WrongUse.{WrongUse}
 use Rattle.click_expand.specs.declared.fault.ExpandFault.{ExpandFault}
-use Rattle.click_expand.proofs.Walking.{inside-within}
-use Rattle.click_expand.proofs.Once.{contains-nil, contains-cons}
-use Rattle.click_expand.proofs.Contained.{contains-here, contains-behind, contains-map, contains-split}
-use Rattle.click_expand.proofs.Founded.{placed-there, element-body}
+use Rattle.click_scopes.proofs.Walking.{inside-within}
+use Rattle.click_scopes.proofs.Once.{contains-nil, contains-cons}
+use Rattle.click_scopes.proofs.Contained.{contains-here, contains-behind, contains-map, contains-split}
+use Rattle.click_scopes.proofs.Founded.{placed-there, element-body}
 use Rattle.click_expand.proofs.FlatOnce.{HasTokens, fault-once}
 use Rattle.click_expand.proofs.Spelled.{IsToken, token-once, OfHead, OfLinks, OfStatement, OfBody, StandsAtTokens, spelled-tokens}
 
@@ -156,7 +156,7 @@ module _ (text : List ℕ) (c : Config) (nests : IsNested c) (h : StandsAtTokens
       of-statements (scope_names c s visible) visible 0 (statements_of c s) j (λ x m e k. first-has s visible around st x e m k) i
 
   -- a wrong use stands at a token
-  wrong-token : (k : FaultKind) (w : Span) → IsWrong c k w → P w
+  wrong-token : (k : WrongUse) (w : Span) → IsWrong c k w → P w
   wrong-token k w (unknown_name s v a f b p x st e m q t n) = subst (λ y. P (first_token c y)) q (written-first s v a st f b p e)
   wrong-token k w (unknown_class s v a f b p x string st e q t n) = subst (λ y. P (first_token c y)) q (written-first s v a st f b p e)
   wrong-token k w (unknown_declared s v a f b p n x st e q m) = let o : OfHead P (head.Declared n (class.Named x)) = subst (OfHead P) q (written-head s v a st f b p e) in o.1

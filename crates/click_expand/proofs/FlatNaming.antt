@@ -6,14 +6,14 @@ use Rattle.std.proofs.lemmas.Bool.Decides.{nat_tests}
 use Rattle.std.proofs.lemmas.List.{append-nil, reverse-append, map_push}
 use Rattle.std.proofs.lemmas.Option.{same_Some, slice_get_within, none-some}
 use Rattle.click_text.specs.declared.syntax.Config.{Config}
-use Rattle.click_expand.specs.Elements.{Local}
+use Rattle.click_scopes.specs.Elements.{Local}
 use Rattle.click_expand.specs.Flat.{flat_name}
 use Rattle.click_expand.specs.Instances.{Leaf}
-use Rattle.click_expand.specs.kept.Tables.{local_of}
-use Rattle.click_expand.specs.kept.ScopeElements.{AreAllLocals}
+use Rattle.click_scopes.specs.kept.Tables.{local_of}
+use Rattle.click_scopes.specs.kept.ScopeElements.{AreAllLocals}
 use Rattle.click_expand.specs.kept.KnownInstances.{KnownInstance, the_whole, locals_at, IsAround, AreInstances}
 use Rattle.click_expand.specs.kept.Ways.{local_name, scope_name, use_name, name_of_place, smaller, use_around, around_in, slashed}
-use Rattle.click_expand.specs.declared.scope_elements.Local.{Local as LocalKept}
+use Rattle.click_scopes.specs.declared.scope_elements.Local.{Local as LocalKept}
 use Rattle.click_expand.specs.declared.instances.Place.{Place}
 use Rattle.click_expand.specs.declared.instances.Instance.{Instance as InstanceKept}
 use Rattle.click_expand.proofs.Tokens.{some-at, map-at}

@@ -6,18 +6,19 @@ use Rattle.std.proofs.lemmas.List.{map-append}
 use Rattle.std.proofs.lemmas.List.Elements.{All-contains, Contains-append_right}
 use Rattle.click_text.specs.declared.syntax.Span.{Span}
 use Rattle.click_text.specs.declared.syntax.Config.{Config}
-use Rattle.click_expand.specs.Faults.{IsWrong, IsFirstWrong, fault_number}
+use Rattle.click_scopes.specs.Faults.{IsWrong}
 use Rattle.click_expand.specs.Instances.{Leaf, LeavesOf}
-use Rattle.click_expand.specs.kept.Nesting.{IsNested}
-use Rattle.click_expand.specs.Flat.{AreConnections, WithinLimits, Meant, IsFlat, IsFlatFault, wrong, too_many, repeated, broken, Exceeds, many_elements, many_paths, much_text, many_connections, flat_name, flat_names, flat_element, is_whole, AreDistinct, expand_fault}
+use Rattle.click_scopes.specs.kept.Nesting.{IsNested}
+use Rattle.click_expand.specs.Flat.{AreConnections, WithinLimits, Meant, IsFlat, IsFlatFault, wrong, too_many, repeated, broken, Exceeds, many_elements, many_paths, much_text, many_connections, flat_name, flat_names, flat_element, is_whole, AreDistinct, kind_of, expand_fault}
 use Rattle.click_expand.specs.declared.flat.FlatElement.{FlatElement}
 use Rattle.click_expand.specs.declared.flat.Connection.{Connection}
 use Rattle.click_expand.specs.declared.flat.Flat.{Flat}
-use Rattle.click_expand.specs.declared.fault.FaultKind.{FaultKind}
+use Rattle.click_scopes.specs.declared.fault.WrongUse.{WrongUse}
 use Rattle.click_expand.specs.declared.fault.FaultKind.TheVariants as kind
 use Rattle.click_expand.specs.declared.fault.ExpandFault.{ExpandFault}
-use Rattle.click_expand.proofs.Once.{contains-nil, contains-cons}
-use Rattle.click_expand.proofs.Contained.{contains-here}
+use Rattle.click_scopes.proofs.FirstWrong.{first-wrong-once}
+use Rattle.click_scopes.proofs.Once.{contains-nil, contains-cons}
+use Rattle.click_scopes.proofs.Contained.{contains-here}
 use Rattle.click_expand.proofs.Leaves.{leaves-once}
 use Rattle.click_expand.proofs.OrderedOnce.{ordered-once, ordered-within}
 
@@ -119,33 +120,15 @@ broken-once leaves xs ys zs ws x z e f a b k j =
       | inr (inr r) ↦ absurd (leaf-broken xs zs r.0 z r.1 a j)
     ]
 
-number-once : (k j : FaultKind) → fault_number k ≡ fault_number j → k ≡ j
-number-once kind.NoMemory kind.NoMemory e = refl
-number-once kind.UnknownName kind.UnknownName e = refl
-number-once kind.DeclaredTwice kind.DeclaredTwice e = refl
-number-once kind.UnknownClass kind.UnknownClass e = refl
-number-once kind.WrongParameters kind.WrongParameters e = refl
-number-once kind.CompoundPort kind.CompoundPort e = refl
-number-once kind.TooMany kind.TooMany e = refl
-number-once kind.BrokenText kind.BrokenText e = refl
-number-once _ _ e = absurd (omega (arith, e))
-
--- the first of wrong uses has one kind and one beginning
-pub first-wrong-once : (c : Config) (k j : FaultKind) (s t : Span) → IsFirstWrong c k s → IsFirstWrong c j t → (k ≡ j) × (s.start ≡ t.start)
-first-wrong-once c k j s t h g =
-    let a = h.first j t g.wrong in
-    let b = g.first k s h.wrong in
-    (number-once k j (omega (arith, a, b)), omega (arith, a, b))
-
 -- wrong uses that begin at one place have one token
 abbrev pub HasTokens : Config → Type 0
-HasTokens c = (k j : FaultKind) (s t : Span) → IsWrong c k s → IsWrong c j t → s.start ≡ t.start → s ≡ t
+HasTokens c = (k j : WrongUse) (s t : Span) → IsWrong c k s → IsWrong c j t → s.start ≡ t.start → s ≡ t
 
 -- a configuration whose wrong uses stand at tokens has one fault
 pub fault-once : (c : Config) → IsNested c → HasTokens c → (e d : ExpandFault) → IsFlatFault c e → IsFlatFault c d → e ≡ d
 fault-once c nests tokens e d (wrong k s w) (wrong j t v) =
     let r = first-wrong-once c k j s t w v in
-    ap (λ x. expand_fault x (Some s) []) r.0 ∙ ap (λ x. expand_fault j (Some x) []) (tokens k j s t w.wrong v.wrong r.1)
+    ap (λ x. expand_fault (kind_of x) (Some s) []) r.0 ∙ ap (λ x. expand_fault (kind_of j) (Some x) []) (tokens k j s t w.wrong v.wrong r.1)
 fault-once c nests tokens e d (wrong k s w) (too_many l2 n2 sound2 k2 x2) = absurd (sound2 k s w.wrong)
 fault-once c nests tokens e d (wrong k s w) (repeated l2 f2 b2 y2 n2 ks2 m2 w2 s2 d2 i2) = absurd (m2.sound k s w.wrong)
 fault-once c nests tokens e d (wrong k s w) (broken l2 f2 b2 y2 n2 ks2 m2 w2 d2 s2 a2 h2) = absurd (m2.sound k s w.wrong)

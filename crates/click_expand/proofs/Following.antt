@@ -4,20 +4,20 @@ use Rattle.std.specs.List.{slice_get}
 use Rattle.std.proofs.lemmas.Option.{slice_get_within}
 use Rattle.click_text.specs.declared.syntax.Statement.{Statement}
 use Rattle.click_text.specs.declared.syntax.Config.{Config}
-use Rattle.click_expand.specs.Scopes.{Scope, Stands}
-use Rattle.click_expand.specs.Classes.{primitive}
-use Rattle.click_expand.specs.Elements.{Local}
-use Rattle.click_expand.specs.Faults.{WrittenConnection, scope_locals, scope_joints, IsFaultless}
+use Rattle.click_scopes.specs.Scopes.{Scope, Stands}
+use Rattle.click_scopes.specs.Classes.{primitive}
+use Rattle.click_scopes.specs.Elements.{Local}
+use Rattle.click_scopes.specs.Faults.{WrittenConnection, scope_locals, scope_joints, IsFaultless}
 use Rattle.click_expand.specs.Instances.{Leaf, LeadsTo}
 use Rattle.click_expand.specs.Connections.{Node, output_of, input_of, begin_node, end_node, Leads, by_connection, further}
 use Rattle.click_expand.specs.Flat.{Joins}
-use Rattle.click_expand.specs.kept.Nesting.{IsNested}
-use Rattle.click_expand.specs.kept.Scoped.{table_place}
-use Rattle.click_expand.specs.kept.WrittenConnections.{IsJoint, AreAllJoints}
+use Rattle.click_scopes.specs.kept.Nesting.{IsNested}
+use Rattle.click_scopes.specs.kept.Scoped.{table_place}
+use Rattle.click_scopes.specs.kept.WrittenConnections.{IsJoint, AreAllJoints}
 use Rattle.click_expand.specs.kept.KnownInstances.{KnownInstance, locals_at, IsInner, IsAround, IsPart, IsInstance, AreInstances}
-use Rattle.click_expand.specs.declared.written_connections.Owner.{Owner}
-use Rattle.click_expand.specs.declared.written_connections.Owner.TheVariants as owner
-use Rattle.click_expand.specs.declared.written_connections.WrittenConnection.{WrittenConnection as ConnectionKept}
+use Rattle.click_scopes.specs.declared.written_connections.Owner.{Owner}
+use Rattle.click_scopes.specs.declared.written_connections.Owner.TheVariants as owner
+use Rattle.click_scopes.specs.declared.written_connections.WrittenConnection.{WrittenConnection as ConnectionKept}
 use Rattle.click_expand.specs.declared.instances.InstancePart.{InstancePart}
 use Rattle.click_expand.specs.declared.instances.InstancePart.TheVariants as part
 use Rattle.click_expand.specs.declared.instances.Place.{Place}

@@ -3,7 +3,7 @@ use Rattle.std.proofs.Common.{◌≡◌, ◌⊎◌, inl, inr, ℕ, List, [], ◌
 use Rattle.std.specs.Map.{lookup}
 use Rattle.std.proofs.lemmas.Bool.{eqb-true}
 use Rattle.std.proofs.lemmas.List.Elements.{Contains-push, Contains-push_cases, Contains-append_left}
-use Rattle.click_expand.specs.declared.written_connections.Owner.TheVariants as owner
+use Rattle.click_scopes.specs.declared.written_connections.Owner.TheVariants as owner
 use Rattle.click_expand.specs.declared.connection_index.ScopePort.{ScopePort}
 use Rattle.click_expand.specs.declared.passthrough.Shortcut.{Shortcut}
 use Rattle.click_expand.specs.declared.passthrough.ScopeShortcuts.{ScopeShortcuts}

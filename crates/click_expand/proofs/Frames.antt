@@ -7,22 +7,22 @@ use Rattle.click_text.specs.declared.syntax.Span.{Span}
 use Rattle.click_text.specs.declared.syntax.Statement.{Statement}
 use Rattle.click_text.specs.declared.syntax.Config.{Config}
 use Rattle.click_text.specs.Arguments.{AreArguments}
-use Rattle.click_expand.specs.Scopes.{Scope, whole, inside, Stands, at_top}
-use Rattle.click_expand.specs.Classes.{primitive, compound}
-use Rattle.click_expand.specs.Elements.{Local}
-use Rattle.click_expand.specs.Faults.{scope_locals, first_token}
+use Rattle.click_scopes.specs.Scopes.{Scope, whole, inside, Stands, at_top}
+use Rattle.click_scopes.specs.Classes.{primitive, compound}
+use Rattle.click_scopes.specs.Elements.{Local}
+use Rattle.click_scopes.specs.Faults.{scope_locals, first_token}
 use Rattle.click_expand.specs.Parameters.{Bindings, IsReplaced}
 use Rattle.click_expand.specs.Instances.{Leaf, AreValues, AreLeaves, no_elements, leaf, branch, LeavesOf, to_whole}
-use Rattle.click_expand.specs.kept.Nesting.{IsNested}
+use Rattle.click_scopes.specs.kept.Nesting.{IsNested}
 use Rattle.click_expand.specs.kept.KnownInstances.{KnownInstance, the_whole, locals_at, IsLeaf, AreInstances}
 use Rattle.click_expand.specs.kept.InstanceWalk.{with_part, bare_use, element_place}
 use Rattle.click_expand.specs.declared.instances.InstancePart.{InstancePart}
 use Rattle.click_expand.specs.declared.instances.InstancePart.TheVariants as part
 use Rattle.click_expand.specs.declared.instances.Place.{Place}
 use Rattle.click_expand.specs.declared.instances.Instance.{Instance}
-use Rattle.click_expand.proofs.Keeping.{slice_get-more, slice_get-last}
-use Rattle.click_expand.proofs.Once.{stands-once}
-use Rattle.click_expand.proofs.Founded.{founded-at}
+use Rattle.click_scopes.proofs.Keeping.{slice_get-more, slice_get-last}
+use Rattle.click_scopes.proofs.Once.{stands-once}
+use Rattle.click_scopes.proofs.Founded.{founded-at}
 use Rattle.click_expand.proofs.Homes.{same_some}
 use Rattle.click_expand.proofs.Adding.{changed-other, changed-there, IsSoFar, Kept, kept-added}
 

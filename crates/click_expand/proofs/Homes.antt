@@ -4,16 +4,16 @@ use Rattle.std.specs.List.{slice_get}
 use Rattle.std.proofs.lemmas.Bool.{ne_eqb, eqb-false, eqb-true}
 use Rattle.click_text.specs.declared.syntax.Statement.{Statement}
 use Rattle.click_text.specs.declared.syntax.Config.{Config}
-use Rattle.click_expand.specs.Scopes.{Scope, whole, inside, statements_of, formals_of, Stands, at_top, nested}
+use Rattle.click_scopes.specs.Scopes.{Scope, whole, inside, statements_of, formals_of, Stands, at_top, nested}
 use Rattle.click_expand.specs.Parameters.{Bindings, arguments_for, argument_of, first_value, scope_value, value_in}
-use Rattle.click_expand.specs.kept.Nesting.{direct, IsNested}
-use Rattle.click_expand.specs.kept.Scoped.{table_place, outer_of, AreScopes}
+use Rattle.click_scopes.specs.kept.Nesting.{direct, IsNested}
+use Rattle.click_scopes.specs.kept.Scoped.{table_place, outer_of, AreScopes}
 use Rattle.click_expand.specs.kept.KnownInstances.{KnownInstance}
 use Rattle.click_expand.specs.kept.InstanceWalk.{outer_by, Follows, here, after_home, IsHomeIn}
-use Rattle.click_expand.specs.declared.classes.ClassEntry.{ClassEntry}
-use Rattle.click_expand.specs.declared.scopes.Scope.{Scope as ScopeKept}
+use Rattle.click_scopes.specs.declared.classes.ClassEntry.{ClassEntry}
+use Rattle.click_scopes.specs.declared.scopes.Scope.{Scope as ScopeKept}
 use Rattle.click_expand.specs.declared.instances.Instance.{Instance}
-use Rattle.click_expand.proofs.Once.{direct-has, child-range, root-range, place-in, stands-once}
+use Rattle.click_scopes.proofs.Once.{direct-has, child-range, root-range, place-in, stands-once}
 
 -- the arguments are the same for each of these scopes
 abbrev pub Agree : Config → Bindings → Bindings → List Scope → Type 0

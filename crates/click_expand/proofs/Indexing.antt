@@ -6,9 +6,9 @@ use Rattle.std.proofs.lemmas.Bool.{and_parts, eqb-true, cases_Bool}
 use Rattle.std.proofs.lemmas.Bool.Decides.{nat_tests}
 use Rattle.std.proofs.lemmas.List.{take_more}
 use Rattle.std.proofs.lemmas.List.Elements.{Contains-push, Contains-push_cases, Contains-append_left}
-use Rattle.click_expand.specs.declared.written_connections.Owner.{Owner}
-use Rattle.click_expand.specs.declared.written_connections.Owner.TheVariants as owner
-use Rattle.click_expand.specs.declared.written_connections.WrittenConnection.{WrittenConnection}
+use Rattle.click_scopes.specs.declared.written_connections.Owner.{Owner}
+use Rattle.click_scopes.specs.declared.written_connections.Owner.TheVariants as owner
+use Rattle.click_scopes.specs.declared.written_connections.WrittenConnection.{WrittenConnection}
 use Rattle.click_expand.specs.declared.connection_index.ScopePort.{ScopePort}
 use Rattle.click_expand.specs.declared.connection_index.ConnectionIndex.{ConnectionIndex}
 use Rattle.click_expand.specs.kept.Wiring.{scope_port, same_owner, same_port, IsJoined, ends_or_none, ends_in, IsIndex, AreIndices}

@@ -7,8 +7,8 @@ use Rattle.std.proofs.lemmas.Option.{slice_get_within}
 use Rattle.std.proofs.lemmas.List.Elements.{Contains-append_left, Contains-append_right, Contains-append_cases}
 use Rattle.indexmap.specs.IndexSet.{insert_key}
 use Rattle.indexmap.proofs.CallerLemmas.{Contains-insert_key}
-use Rattle.click_expand.specs.declared.written_connections.Owner.{Owner}
-use Rattle.click_expand.specs.declared.written_connections.Owner.TheVariants as owner
+use Rattle.click_scopes.specs.declared.written_connections.Owner.{Owner}
+use Rattle.click_scopes.specs.declared.written_connections.Owner.TheVariants as owner
 use Rattle.click_expand.specs.declared.connection_index.ScopePort.{ScopePort}
 use Rattle.click_expand.specs.declared.connection_index.ConnectionIndex.{ConnectionIndex}
 use Rattle.click_expand.specs.kept.Wiring.{scope_port, same_port, ends_in, Gains, HasAll}

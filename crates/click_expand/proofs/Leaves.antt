@@ -6,18 +6,19 @@ use Rattle.click_text.specs.declared.syntax.Config.{Config}
 use Rattle.click_text.specs.Spans.{bytes_at}
 use Rattle.click_text.specs.Arguments.{AreArguments, cut}
 use Rattle.click_text.proofs.ItemReading.{items_once}
+use Rattle.click_text.proofs.ArgumentsOnce.{arguments-once}
 use Rattle.click_text.proofs.ItemsExist.{reading}
-use Rattle.click_expand.specs.Scopes.{Scope, whole, inside, Stands, at_top}
-use Rattle.click_expand.specs.Classes.{Meaning, primitive, compound}
-use Rattle.click_expand.specs.Elements.{Local}
-use Rattle.click_expand.specs.Faults.{scope_locals, first_token, IsFaultless}
+use Rattle.click_scopes.specs.Scopes.{Scope, whole, inside, Stands, at_top}
+use Rattle.click_scopes.specs.Classes.{Meaning, primitive, compound}
+use Rattle.click_scopes.specs.Elements.{Local}
+use Rattle.click_scopes.specs.Faults.{scope_locals, first_token, IsFaultless}
 use Rattle.click_expand.specs.Parameters.{Bindings, replaced, value_in, IsReplaced}
 use Rattle.click_expand.specs.Instances.{Leaf, AreValues, no_values, next_value, AreLeaves, no_elements, leaf, branch, LeavesOf}
-use Rattle.click_expand.specs.kept.Nesting.{IsNested}
-use Rattle.click_expand.specs.kept.Scoped.{table_place}
-use Rattle.click_expand.proofs.Once.{stands-once}
-use Rattle.click_expand.proofs.Contained.{contains-here, contains-behind}
-use Rattle.click_expand.proofs.Founded.{founded}
+use Rattle.click_scopes.specs.kept.Nesting.{IsNested}
+use Rattle.click_scopes.specs.kept.Scoped.{table_place}
+use Rattle.click_scopes.proofs.Once.{stands-once}
+use Rattle.click_scopes.proofs.Contained.{contains-here, contains-behind}
+use Rattle.click_scopes.proofs.Founded.{founded}
 use Rattle.click_expand.proofs.Distinct.{meant}
 
 -- a text with its parameters replaced is one text
@@ -27,9 +28,6 @@ replaced-once c bindings around text x y h k = h.replaces ∙ ap (replaced (valu
 pub replaced-exists : (c : Config) (bindings : Bindings) (around : List Scope) (text : List ℕ) → (x : List ℕ) × IsReplaced c bindings around text x
 replaced-exists c bindings around text =
     let r = reading text in (replaced (value_in c bindings around) 0 r.0, record { items = r.0; read = r.1; replaces = refl })
-
-pub arguments-once : (text : List ℕ) (x y : List Span) → AreArguments text x → AreArguments text y → x ≡ y
-arguments-once text x y h k = h.cuts ∙ ap cut (items_once h.read k.read) ∙ sym k.cuts
 
 pub arguments-exist : (text : List ℕ) → (spans : List Span) × AreArguments text spans
 arguments-exist text = let r = reading text in (cut r.0, record { items = r.0; read = r.1; cuts = refl })

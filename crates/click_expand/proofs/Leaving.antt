@@ -5,7 +5,7 @@ use Rattle.std.proofs.lemmas.Bool.{cases_order}
 use Rattle.std.proofs.lemmas.Option.{slice_get_within}
 use Rattle.std.proofs.lemmas.List.{append-nil}
 use Rattle.click_text.specs.declared.syntax.Config.{Config}
-use Rattle.click_expand.specs.Elements.{Local}
+use Rattle.click_scopes.specs.Elements.{Local}
 use Rattle.click_expand.specs.Instances.{Leaf, AreLeaves}
 use Rattle.click_expand.specs.Parameters.{value_in}
 use Rattle.click_expand.specs.kept.KnownInstances.{KnownInstance, locals_at, IsAround, IsHome, IsPart, IsInstance, AreInstances}

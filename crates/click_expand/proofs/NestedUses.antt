@@ -4,22 +4,22 @@ use Rattle.std.specs.Global.{Global}
 use Rattle.std.specs.List.{slice_get}
 use Rattle.std.proofs.lemmas.Option.{slice_get_within, none-some}
 use Rattle.click_text.specs.declared.syntax.Config.{Config}
-use Rattle.click_expand.specs.Classes.{primitive, compound}
-use Rattle.click_expand.specs.Elements.{Local}
+use Rattle.click_scopes.specs.Classes.{primitive, compound}
+use Rattle.click_scopes.specs.Elements.{Local}
 use Rattle.click_expand.specs.Instances.{Leaf}
-use Rattle.click_expand.specs.kept.ScopeElements.{AreAllLocals}
-use Rattle.click_expand.specs.kept.Scoped.{table_place}
-use Rattle.click_expand.specs.kept.Tables.{meaning_by, local_of}
+use Rattle.click_scopes.specs.kept.ScopeElements.{AreAllLocals}
+use Rattle.click_scopes.specs.kept.Scoped.{table_place}
+use Rattle.click_scopes.specs.kept.Tables.{meaning_by, local_of}
 use Rattle.click_expand.specs.kept.Passthrough.{class_body, local_body, scope_body, body_at, AreNested}
 use Rattle.click_expand.specs.kept.KnownInstances.{KnownInstance, locals_at, IsAround, IsPart, IsInstance, AreInstances}
-use Rattle.click_expand.specs.declared.classes.ClassOf.{ClassOf}
-use Rattle.click_expand.specs.declared.classes.ClassOf.TheVariants as class
-use Rattle.click_expand.specs.declared.scope_elements.Local.{Local as LocalKept}
+use Rattle.click_scopes.specs.declared.classes.ClassOf.{ClassOf}
+use Rattle.click_scopes.specs.declared.classes.ClassOf.TheVariants as class
+use Rattle.click_scopes.specs.declared.scope_elements.Local.{Local as LocalKept}
 use Rattle.click_expand.specs.declared.instances.InstancePart.{InstancePart}
 use Rattle.click_expand.specs.declared.instances.InstancePart.TheVariants as part
 use Rattle.click_expand.specs.declared.instances.Place.{Place}
 use Rattle.click_expand.specs.declared.instances.Instance.{Instance}
-use Rattle.click_expand.proofs.Calling.{unmapped}
+use Rattle.click_scopes.proofs.Calling.{unmapped}
 use Rattle.click_expand.proofs.Chains.{some_same, at-some}
 
 -- what a class means is what it stands for

@@ -3,8 +3,8 @@ use Rattle.std.proofs.Common.{◌≡◌, inl, inr, ◌≤◌, List, [], ◌∷�
 use Rattle.std.proofs.lemmas.List.Elements.{All-contains}
 use Rattle.click_expand.specs.declared.flat.Connection.{Connection}
 use Rattle.click_expand.specs.Flat.{StandsBefore, AreOrdered}
-use Rattle.click_expand.proofs.Once.{contains-nil, contains-cons}
-use Rattle.click_expand.proofs.Contained.{contains-here, contains-behind}
+use Rattle.click_scopes.proofs.Once.{contains-nil, contains-cons}
+use Rattle.click_scopes.proofs.Contained.{contains-here, contains-behind}
 
 pub before-apart : (c d : Connection) → StandsBefore c d → StandsBefore d c → ⊥
 before-apart c d h k = omega (arith, h, k)

@@ -7,15 +7,15 @@ use Rattle.click_text.specs.declared.syntax.Config.{Config}
 use Rattle.click_expand.specs.declared.flat.Connection.{Connection}
 use Rattle.click_expand.specs.declared.flat.Flat.{Flat}
 use Rattle.click_expand.specs.declared.flat.FlatElement.{FlatElement}
-use Rattle.click_expand.specs.Scopes.{whole}
-use Rattle.click_expand.specs.Classes.{compound}
-use Rattle.click_expand.specs.Elements.{Local}
-use Rattle.click_expand.specs.Faults.{scope_locals, first_token}
+use Rattle.click_scopes.specs.Scopes.{whole}
+use Rattle.click_scopes.specs.Classes.{compound}
+use Rattle.click_scopes.specs.Elements.{Local}
+use Rattle.click_scopes.specs.Faults.{scope_locals, first_token}
 use Rattle.click_expand.specs.Parameters.{IsReplaced, value_in}
 use Rattle.click_expand.specs.Instances.{Leaf, AreLeaves, no_elements, leaf, branch}
 use Rattle.click_expand.specs.Flat.{flat_element, flat_names, AreDistinct, StandsBefore, AreOrdered, IsFlat}
 use Rattle.click_expand.specs.OneScope.{HasNoCompounds, class_name, own_element}
-use Rattle.click_expand.proofs.Contained.{contains-here, contains-behind}
+use Rattle.click_scopes.proofs.Contained.{contains-here, contains-behind}
 use Rattle.click_expand.proofs.Searching.{at-contains}
 use Rattle.click_expand.proofs.ReadsBack.TextItems.{items_bytes, replaced_none}
 use Rattle.click_expand.proofs.ReadsBack.OneFlat.{lengths_are}

@@ -17,7 +17,7 @@ use Rattle.click_expand.specs.declared.connection_index.ConnectionIndex.{Connect
 use Rattle.click_expand.specs.declared.flat.Connection.{Connection}
 use Rattle.click_expand.specs.kept.Wiring.{instance_port, same_start, same_port, reached_by, all_reached, ends_in, StepsTo, Arrives, at_once, after_connection, connection, IsFrom, Gains, HasAll, IsOn, IsConnectionInto, Takes, IsAtOnce, Visits}
 use Rattle.click_expand.proofs.Indexing.{port-exact}
-use Rattle.click_expand.proofs.Keeping.{slice_get-front}
+use Rattle.click_scopes.proofs.Keeping.{slice_get-front}
 use Rattle.click_expand.proofs.Ordered.{same, exact}
 
 some_same : {X : Type 0} {x y : X} → Some x ≡ Some y → x ≡ y

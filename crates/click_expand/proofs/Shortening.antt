@@ -6,8 +6,8 @@ use Rattle.std.proofs.lemmas.Bool.{cases_order}
 use Rattle.std.proofs.lemmas.List.{length-append}
 use Rattle.std.proofs.lemmas.Option.{slice_get_within}
 use Rattle.std.proofs.lemmas.List.Elements.{Contains-append_left, Contains-append_right}
-use Rattle.click_expand.specs.declared.written_connections.Owner.TheVariants as owner
-use Rattle.click_expand.specs.declared.written_connections.WrittenConnection.{WrittenConnection}
+use Rattle.click_scopes.specs.declared.written_connections.Owner.TheVariants as owner
+use Rattle.click_scopes.specs.declared.written_connections.WrittenConnection.{WrittenConnection}
 use Rattle.click_expand.specs.declared.connection_index.ScopePort.{ScopePort}
 use Rattle.click_expand.specs.declared.connection_index.ConnectionIndex.{ConnectionIndex}
 use Rattle.click_expand.specs.declared.passthrough.Shortcut.{Shortcut}
@@ -16,7 +16,7 @@ use Rattle.click_expand.specs.kept.Wiring.{scope_port, same_port, ends_in, IsInd
 use Rattle.click_expand.specs.kept.Passthrough.{index_ends, ends_at, LeadsThrough, AreStoodFor, IsShortened, AreShortened, AreEndsOf, AreFound, HasShortcuts, AreAlike}
 use Rattle.click_expand.proofs.Chains.{some_same}
 use Rattle.click_expand.proofs.Indexing.{indices-more}
-use Rattle.click_expand.proofs.Keeping.{slice_get-last, slice_get-front}
+use Rattle.click_scopes.proofs.Keeping.{slice_get-last, slice_get-front}
 use Rattle.click_expand.proofs.StandingIn.{changed-at, changed-here}
 
 contains-cons : {X : Type 0} (x : X) (xs : List X) (y : X) → Contains (x ∷ xs) y → (x ≡ y) ⊎ Contains xs y

@@ -22,8 +22,8 @@ use Rattle.click_text.specs.Pieces.{span, IsPiece, Longest, token_of, Reads, end
 use Rattle.click_text.specs.Grammar.{IsPort, no_port, bracketed, IsString, no_string, string, IsEnd, semicolon, before_close, at_end, IsFormals, last_formal, more_formals, IsHeader, no_header, header, IsNames, last_name, more_names, IsBody, braces, IsClass, by_name, by_body, IsHead, word, declared, compound, IsElement, an_element, IsLinks, no_links, more_links, IsStatement, chained, declarations, definition, synonym, requirement, IsStatements, no_more, empty, stated, body}
 use Rattle.click_text.specs.Spelling.{Spells}
 use Rattle.click_text.proofs.Reading.{same_len}
-use Rattle.click_expand.specs.kept.Standing.{Each}
-use Rattle.click_expand.proofs.Keeping.{each-append}
+use Rattle.click_scopes.specs.kept.Standing.{Each}
+use Rattle.click_scopes.proofs.Keeping.{each-append}
 
 -- a token stands at that span
 pub record IsToken (text : List ℕ) (s : Span) : Type 0 where

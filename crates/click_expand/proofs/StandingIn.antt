@@ -9,8 +9,8 @@ use Rattle.std.proofs.lemmas.Option.{slice_get_within}
 use Rattle.std.proofs.lemmas.List.Elements.{Contains-push, Contains-push_cases, Contains-append_left}
 use Rattle.indexmap.specs.IndexSet.{insert_key}
 use Rattle.indexmap.proofs.CallerLemmas.{Contains-insert_key}
-use Rattle.click_expand.specs.declared.scope_elements.Local.{Local as LocalKept}
-use Rattle.click_expand.specs.declared.written_connections.Owner.TheVariants as owner
+use Rattle.click_scopes.specs.declared.scope_elements.Local.{Local as LocalKept}
+use Rattle.click_scopes.specs.declared.written_connections.Owner.TheVariants as owner
 use Rattle.click_expand.specs.declared.connection_index.ScopePort.{ScopePort}
 use Rattle.click_expand.specs.kept.Wiring.{scope_port, same_port, ends_or_none, ends_in, Gains}
 use Rattle.click_expand.specs.kept.Passthrough.{local_body, scope_body, body_at, LeadsThrough, StandsIn, same, alike, AreStoodFor, AreEndsOf}

@@ -3,19 +3,19 @@ use Rattle.std.proofs.Common.{◌≡◌, ◌⊎◌, inl, inr, ℕ, ◌+◌, ◌-
 use Rattle.std.specs.List.{slice_get, slice_set}
 use Rattle.std.proofs.lemmas.List.{append-nil, length-set, length_push}
 use Rattle.click_text.specs.declared.syntax.Config.{Config}
-use Rattle.click_expand.specs.Classes.{compound}
-use Rattle.click_expand.specs.Elements.{Local}
+use Rattle.click_scopes.specs.Classes.{compound}
+use Rattle.click_scopes.specs.Elements.{Local}
 use Rattle.click_expand.specs.Instances.{Leaf}
-use Rattle.click_expand.specs.kept.Nesting.{IsNested}
-use Rattle.click_expand.specs.kept.Scoped.{AreScopes}
-use Rattle.click_expand.specs.kept.ScopeElements.{AreAllLocals}
-use Rattle.click_expand.specs.kept.Tables.{meaning_by, local_of}
+use Rattle.click_scopes.specs.kept.Nesting.{IsNested}
+use Rattle.click_scopes.specs.kept.Scoped.{AreScopes}
+use Rattle.click_scopes.specs.kept.ScopeElements.{AreAllLocals}
+use Rattle.click_scopes.specs.kept.Tables.{meaning_by, local_of}
 use Rattle.click_expand.specs.kept.InstanceWalk.{next_class, next_of_local, next_in, with_part, bare_use, element_place, AreInward, AddsFlatElement, IsEntered, IsLeft, IsWalkStepBy, IsWalkStep}
-use Rattle.click_expand.specs.declared.classes.ClassOf.{ClassOf}
-use Rattle.click_expand.specs.declared.classes.ClassOf.TheVariants as class
-use Rattle.click_expand.specs.declared.classes.ClassEntry.{ClassEntry}
-use Rattle.click_expand.specs.declared.scope_elements.Local.{Local as LocalKept}
-use Rattle.click_expand.specs.declared.scopes.Scope.{Scope as ScopeKept}
+use Rattle.click_scopes.specs.declared.classes.ClassOf.{ClassOf}
+use Rattle.click_scopes.specs.declared.classes.ClassOf.TheVariants as class
+use Rattle.click_scopes.specs.declared.classes.ClassEntry.{ClassEntry}
+use Rattle.click_scopes.specs.declared.scope_elements.Local.{Local as LocalKept}
+use Rattle.click_scopes.specs.declared.scopes.Scope.{Scope as ScopeKept}
 use Rattle.click_expand.specs.declared.instances.InstancePart.TheVariants as part
 use Rattle.click_expand.specs.declared.instances.Place.{Place}
 use Rattle.click_expand.specs.declared.instances.Instance.{Instance}

@@ -7,23 +7,23 @@ use Rattle.click_text.specs.declared.syntax.Span.{Span}
 use Rattle.click_text.specs.declared.syntax.Head.{Head}
 use Rattle.click_text.specs.declared.syntax.Head.TheVariants as head
 use Rattle.click_text.specs.declared.syntax.Config.{Config}
-use Rattle.click_expand.specs.Elements.{Local}
-use Rattle.click_expand.specs.Faults.{first_token}
+use Rattle.click_scopes.specs.Elements.{Local}
+use Rattle.click_scopes.specs.Faults.{first_token}
 use Rattle.click_expand.specs.Instances.{Leaf}
 use Rattle.click_expand.specs.Flat.{AreDistinct, is_whole, flat_name, flat_names, flat_element}
 use Rattle.click_expand.specs.kept.FinalChecks.{flat_names_in, IsRepeated, IsBroken}
-use Rattle.click_expand.specs.kept.Tables.{local_of}
-use Rattle.click_expand.specs.kept.FirstFault.{first_in}
-use Rattle.click_expand.specs.kept.ScopeElements.{AreAllLocals}
+use Rattle.click_scopes.specs.kept.Tables.{local_of}
+use Rattle.click_scopes.specs.kept.FirstFault.{first_in}
+use Rattle.click_scopes.specs.kept.ScopeElements.{AreAllLocals}
 use Rattle.click_expand.specs.kept.KnownInstances.{KnownInstance, locals_at, AreInstances}
-use Rattle.click_expand.specs.kept.Tabled.{local_head, scope_head, use_head, place_head, head_in, IsRefusedOf}
+use Rattle.click_expand.specs.kept.Answered.{local_head, scope_head, use_head, place_head, head_in, IsRefusedOf}
 use Rattle.click_expand.specs.declared.fault.FaultKind.TheVariants as kind
 use Rattle.click_expand.specs.declared.flat.FlatElement.{FlatElement}
 use Rattle.click_expand.specs.declared.flattening.Refusal.TheVariants as refused
-use Rattle.click_expand.specs.declared.scope_elements.Local.{Local as LocalKept}
+use Rattle.click_scopes.specs.declared.scope_elements.Local.{Local as LocalKept}
 use Rattle.click_expand.specs.declared.instances.Place.{Place}
 use Rattle.click_expand.specs.declared.instances.Instance.{Instance as InstanceKept}
-use Rattle.click_expand.proofs.Contained.{at-place}
+use Rattle.click_scopes.proofs.Contained.{at-place}
 
 pub some-at : {X : Type 0} (xs : List X) (n : ℕ) → n < length xs → (x : X) × (slice_get xs n ≡ Some x)
 some-at [] n l = absurd (omega (arith, l))

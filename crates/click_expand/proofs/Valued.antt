@@ -11,22 +11,22 @@ use Rattle.click_text.specs.declared.syntax.Statement.{Statement}
 use Rattle.click_text.specs.declared.syntax.Config.{Config}
 use Rattle.click_text.specs.Arguments.{AreArguments}
 use Rattle.click_text.specs.Spans.{bytes_at}
-use Rattle.click_expand.specs.Scopes.{Scope, inside, body_formals, Stands}
-use Rattle.click_expand.specs.Classes.{compound}
-use Rattle.click_expand.specs.Elements.{Local, string_or_empty}
-use Rattle.click_expand.specs.Faults.{scope_locals}
+use Rattle.click_scopes.specs.Scopes.{Scope, inside, body_formals, Stands}
+use Rattle.click_scopes.specs.Classes.{compound}
+use Rattle.click_scopes.specs.Elements.{Local, string_or_empty}
+use Rattle.click_scopes.specs.Faults.{scope_locals}
 use Rattle.click_expand.specs.Parameters.{Bindings, arguments_for, argument_of, scope_value, IsReplaced}
 use Rattle.click_expand.specs.Instances.{Leaf, AreValues, next_value}
-use Rattle.click_expand.specs.kept.Scoped.{table_place}
-use Rattle.click_expand.specs.kept.CompoundArguments.{AreAllArguments}
-use Rattle.click_expand.specs.kept.ScopeElements.{AreAllLocals}
+use Rattle.click_scopes.specs.kept.Scoped.{table_place}
+use Rattle.click_scopes.specs.kept.CompoundArguments.{AreAllArguments}
+use Rattle.click_scopes.specs.kept.ScopeElements.{AreAllLocals}
 use Rattle.click_expand.specs.kept.KnownInstances.{KnownInstance, IsAround, IsInstance, AreInstances}
 use Rattle.click_expand.specs.kept.ParameterValues.{spans_by, spans_found, string_kept, string_found, own_arguments}
-use Rattle.click_expand.specs.declared.scope_elements.Local.{Local as LocalKept}
+use Rattle.click_scopes.specs.declared.scope_elements.Local.{Local as LocalKept}
 use Rattle.click_expand.specs.declared.instances.Place.{Place}
 use Rattle.click_expand.specs.declared.instances.Instance.{Instance as InstanceKept}
-use Rattle.click_expand.proofs.Leaves.{arguments-once}
-use Rattle.click_expand.proofs.Calling.{unmapped}
+use Rattle.click_text.proofs.ArgumentsOnce.{arguments-once}
+use Rattle.click_scopes.proofs.Calling.{unmapped}
 
 pub some-same : {X : Type 0} {x y : X} → Some x ≡ Some y → x ≡ y
 some-same h = cc h

@@ -7,25 +7,25 @@ use Rattle.std.proofs.lemmas.List.{length-append, length_push}
 use Rattle.std.proofs.lemmas.List.Sums.{sum_by-cons}
 use Rattle.click_text.specs.declared.syntax.Statement.{Statement}
 use Rattle.click_text.specs.declared.syntax.Config.{Config}
-use Rattle.click_expand.specs.Scopes.{Scope, whole, inside, Stands, at_top}
-use Rattle.click_expand.specs.Classes.{Meaning, primitive, compound}
-use Rattle.click_expand.specs.Elements.{Local}
-use Rattle.click_expand.specs.Faults.{scope_locals}
+use Rattle.click_scopes.specs.Scopes.{Scope, whole, inside, Stands, at_top}
+use Rattle.click_scopes.specs.Classes.{Meaning, primitive, compound}
+use Rattle.click_scopes.specs.Elements.{Local}
+use Rattle.click_scopes.specs.Faults.{scope_locals}
 use Rattle.click_expand.specs.Parameters.{Bindings}
 use Rattle.click_expand.specs.Instances.{Leaf, AreLeaves}
-use Rattle.click_expand.specs.kept.Nesting.{IsNested}
-use Rattle.click_expand.specs.kept.Scoped.{table_place}
-use Rattle.click_expand.specs.kept.ScopeElements.{AreAllLocals}
-use Rattle.click_expand.specs.kept.Tables.{meaning_by, local_of}
+use Rattle.click_scopes.specs.kept.Nesting.{IsNested}
+use Rattle.click_scopes.specs.kept.Scoped.{table_place}
+use Rattle.click_scopes.specs.kept.ScopeElements.{AreAllLocals}
+use Rattle.click_scopes.specs.kept.Tables.{meaning_by, local_of}
 use Rattle.click_expand.specs.Flat.{most_elements, most_paths}
 use Rattle.click_expand.specs.kept.Sizes.{IsSize, IsSizeOf}
 use Rattle.click_expand.specs.kept.Counted.{size_or, size_inside, elements_in, paths_in, IsSum}
-use Rattle.click_expand.specs.declared.classes.ClassOf.{ClassOf}
-use Rattle.click_expand.specs.declared.classes.ClassOf.TheVariants as class
-use Rattle.click_expand.specs.declared.scope_elements.Local.{Local as LocalKept}
+use Rattle.click_scopes.specs.declared.classes.ClassOf.{ClassOf}
+use Rattle.click_scopes.specs.declared.classes.ClassOf.TheVariants as class
+use Rattle.click_scopes.specs.declared.scope_elements.Local.{Local as LocalKept}
 use Rattle.click_expand.specs.declared.sizes.Size.{Size}
-use Rattle.click_expand.proofs.Keeping.{slice_get-more, slice_get-last}
-use Rattle.click_expand.proofs.Founded.{founded-at}
+use Rattle.click_scopes.proofs.Keeping.{slice_get-more, slice_get-last}
+use Rattle.click_scopes.proofs.Founded.{founded-at}
 use Rattle.click_expand.proofs.Homes.{same_some}
 use Rattle.click_expand.proofs.Frames.{LeafCase, InnerCase, leaf-case, inner-case, end-case, next-there}
 

@@ -10,10 +10,10 @@ use Rattle.click_text.specs.declared.syntax.Statement.{Statement}
 use Rattle.click_text.specs.declared.syntax.Statement.TheVariants as statement
 use Rattle.click_text.specs.declared.syntax.Config.{Config}
 use Rattle.click_text.specs.Spans.{bytes_at}
-use Rattle.click_expand.specs.Scopes.{Scope, whole, statement_elements}
-use Rattle.click_expand.specs.Classes.{compound}
-use Rattle.click_expand.specs.Elements.{Placed, place, Role, pseudo, refers, makes, role_of_head, has_name, Local}
-use Rattle.click_expand.specs.Faults.{End, WrittenConnection, ScopeNames, scope_names, written_end, number_behind, number_after_all, joints_behind, joints_from, statement_joints, scope_locals, scope_joints, first_token}
+use Rattle.click_scopes.specs.Scopes.{Scope, whole, statement_elements}
+use Rattle.click_scopes.specs.Classes.{compound}
+use Rattle.click_scopes.specs.Elements.{Placed, place, Role, pseudo, refers, makes, role_of_head, has_name, Local}
+use Rattle.click_scopes.specs.Faults.{End, WrittenConnection, ScopeNames, scope_names, written_end, number_behind, number_after_all, joints_behind, joints_from, statement_joints, scope_locals, scope_joints, first_token}
 use Rattle.click_expand.specs.Parameters.{Bindings}
 use Rattle.click_expand.specs.Instances.{Leaf, AreLeaves, no_elements, leaf, branch, LeadsTo, to_whole, to_inner}
 use Rattle.click_expand.specs.Connections.{Node, output_of, input_of, begin_node, end_node, Leads, by_connection, further}
@@ -21,8 +21,8 @@ use Rattle.click_expand.specs.Flat.{IsFlat}
 use Rattle.click_expand.specs.OneScope.{HasNoCompounds, IsConnectionAsWritten}
 use Rattle.click_expand.specs.declared.flat.Connection.{Connection}
 use Rattle.click_expand.specs.declared.flat.Flat.{Flat}
-use Rattle.click_expand.proofs.Once.{contains-nil, contains-cons}
-use Rattle.click_expand.proofs.Contained.{contains-here, contains-behind}
+use Rattle.click_scopes.proofs.Once.{contains-nil, contains-cons}
+use Rattle.click_scopes.proofs.Contained.{contains-here, contains-behind}
 
 module _ (c : Config) where
   abbrev top : ScopeNames

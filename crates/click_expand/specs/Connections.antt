@@ -3,9 +3,9 @@
 use Rattle.std.specs.Prelude.{ℕ, List, [], ◌∷◌, ◌++◌, Contains}
 use Rattle.click_text.specs.declared.syntax.Statement.{Statement}
 use Rattle.click_text.specs.declared.syntax.Config.{Config}
-use Rattle.click_expand.specs.Scopes.{Scope}
-use Rattle.click_expand.specs.Elements.{Role, pseudo, refers, makes}
-use Rattle.click_expand.specs.Faults.{End, WrittenConnection, scope_joints}
+use Rattle.click_scopes.specs.Scopes.{Scope}
+use Rattle.click_scopes.specs.Elements.{Role, pseudo, refers, makes}
+use Rattle.click_scopes.specs.Faults.{End, WrittenConnection, scope_joints}
 use Rattle.click_expand.specs.Instances.{LeadsTo}
 
 -- a port of the element at a path, or of the compound at it

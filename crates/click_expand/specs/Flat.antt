@@ -4,12 +4,14 @@ use Rattle.click_text.specs.declared.strings.Mode.TheVariants as mode
 use Rattle.click_text.specs.declared.syntax.Span.{Span}
 use Rattle.click_text.specs.declared.syntax.Config.{Config}
 use Rattle.click_text.specs.Strings.{closes}
-use Rattle.click_expand.specs.Faults.{IsFirstWrong, IsFaultless}
+use Rattle.click_scopes.specs.Faults.{IsFirstWrong, IsFaultless}
 use Rattle.click_expand.specs.Instances.{Leaf, LeavesOf}
 use Rattle.click_expand.specs.Connections.{output_of, input_of, Leads}
 use Rattle.click_expand.specs.declared.flat.FlatElement.{FlatElement}
 use Rattle.click_expand.specs.declared.flat.Connection.{Connection}
 use Rattle.click_expand.specs.declared.flat.Flat.{Flat}
+use Rattle.click_scopes.specs.declared.fault.WrongUse.{WrongUse}
+use Rattle.click_scopes.specs.declared.fault.WrongUse.TheVariants as wrong_use
 use Rattle.click_expand.specs.declared.fault.FaultKind.{FaultKind}
 use Rattle.click_expand.specs.declared.fault.FaultKind.TheVariants as kind
 use Rattle.click_expand.specs.declared.fault.ExpandFault.{ExpandFault}
@@ -98,6 +100,14 @@ pub record IsFlat (c : Config) (f : Flat) : Type 0 where
   pub texts : All (λ (l : Leaf). is_whole l.text ≡ true) leaves
   pub elements : f.elements ≡ map flat_element leaves
 
+-- the fault that a wrong use is
+abbrev pub kind_of : WrongUse → FaultKind
+kind_of wrong_use.UnknownName = kind.UnknownName
+kind_of wrong_use.DeclaredTwice = kind.DeclaredTwice
+kind_of wrong_use.UnknownClass = kind.UnknownClass
+kind_of wrong_use.WrongParameters = kind.WrongParameters
+kind_of wrong_use.CompoundPort = kind.CompoundPort
+
 abbrev pub expand_fault : FaultKind → Option Span → List ℕ → ExpandFault
 expand_fault k s name = record { kind = k; span = s; name = name }
 
@@ -112,7 +122,7 @@ pub data Exceeds (c : Config) (leaves : List Leaf) (paths : ℕ) : Type 0 where
 -- The first fault: a wrong use of a name, class, parameter or port; else a limit that is passed; else the first element whose flat name an earlier
 -- one has; else the first text that is no longer one string.
 pub data IsFlatFault (c : Config) : ExpandFault → Type 0 where
-  wrong : (k : FaultKind) (s : Span) → IsFirstWrong c k s → IsFlatFault c (expand_fault k (Some s) [])
+  wrong : (k : WrongUse) (s : Span) → IsFirstWrong c k s → IsFlatFault c (expand_fault (kind_of k) (Some s) [])
   too_many : (leaves : List Leaf) (paths : ℕ) → IsFaultless c → LeavesOf c leaves paths → Exceeds c leaves paths →
       IsFlatFault c (expand_fault kind.TooMany None [])
   repeated : (leaves front back : List Leaf) (l : Leaf) (paths : ℕ) (ks : List Connection) → Meant c leaves paths ks → WithinLimits leaves paths ks →

@@ -6,10 +6,10 @@ use Rattle.click_text.specs.declared.syntax.Statement.{Statement}
 use Rattle.click_text.specs.declared.syntax.Config.{Config}
 use Rattle.click_text.specs.Spans.{bytes_at}
 use Rattle.click_text.specs.Arguments.{AreArguments}
-use Rattle.click_expand.specs.Scopes.{Scope, whole, inside, Stands}
-use Rattle.click_expand.specs.Classes.{primitive, compound}
-use Rattle.click_expand.specs.Elements.{Local}
-use Rattle.click_expand.specs.Faults.{scope_locals, first_token}
+use Rattle.click_scopes.specs.Scopes.{Scope, whole, inside, Stands}
+use Rattle.click_scopes.specs.Classes.{primitive, compound}
+use Rattle.click_scopes.specs.Elements.{Local}
+use Rattle.click_scopes.specs.Faults.{scope_locals, first_token}
 use Rattle.click_expand.specs.Parameters.{Bindings, IsReplaced}
 
 -- an element by its path: the local names on the way to it, its class, its text with all parameters replaced, and its first token

@@ -1,7 +1,3 @@
-pub mod Scopes
-pub mod Classes
-pub mod Elements
-pub mod Faults
 pub mod Parameters
 pub mod Instances
 pub mod Connections

@@ -1,10 +1,10 @@
 -- A configuration without compounds: its elements and connections are those that the whole text declares.
 use Rattle.std.specs.Prelude.{◌≡◌, ℕ, List, [], slice_get, Contains, Option, Some, None}
 use Rattle.click_text.specs.declared.syntax.Config.{Config}
-use Rattle.click_expand.specs.Scopes.{whole}
-use Rattle.click_expand.specs.Classes.{Meaning, primitive, compound}
-use Rattle.click_expand.specs.Elements.{Local}
-use Rattle.click_expand.specs.Faults.{End, WrittenConnection, scope_locals, scope_joints}
+use Rattle.click_scopes.specs.Scopes.{whole}
+use Rattle.click_scopes.specs.Classes.{Meaning, primitive, compound}
+use Rattle.click_scopes.specs.Elements.{Local}
+use Rattle.click_scopes.specs.Faults.{End, WrittenConnection, scope_locals, scope_joints}
 use Rattle.click_expand.specs.declared.flat.FlatElement.{FlatElement}
 use Rattle.click_expand.specs.declared.flat.Connection.{Connection}
 

@@ -8,7 +8,7 @@ use Rattle.click_text.specs.declared.items.ItemKind.TheVariants as kind
 use Rattle.click_text.specs.Items.{Item, AreItems, bytes_of}
 use Rattle.click_text.specs.Pieces.{name_byte}
 use Rattle.click_text.specs.Spans.{bytes_at}
-use Rattle.click_expand.specs.Scopes.{Scope, whole, inside, formals_of}
+use Rattle.click_scopes.specs.Scopes.{Scope, whole, inside, formals_of}
 
 -- the item is this byte, outside quotes and comments
 abbrev pub byte_of : ItemKind → Option ℕ

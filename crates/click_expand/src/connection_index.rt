@@ -6,7 +6,7 @@ ghost use Rattle.click_expand.specs.kept.Wiring as spec;
 ghost use Rattle.click_expand.specs.kept.Wiring.{IsIndex, ends_in, same_port, reached_by};
 
 use crate::instances::{Instance, InstancePart, Place};
-use crate::written_connections::{Owner, WrittenConnection};
+use click_scopes::{Owner, WrittenConnection};
 use indexmap::IndexMap;
 use std::alloc::{AllocError, Global};
 

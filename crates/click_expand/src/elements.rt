@@ -1,9 +1,9 @@
 //! The elements of a flat configuration.
 
 ghost use Rattle.std.specs.Prelude.{◌≡◌, ◌<◌, ◌≤◌, ◌++◌, ◌∷◌, [], List, map, IfOk, OnOk, MatchOption};
-ghost use Rattle.click_expand.specs.kept.ScopeElements.{AreAllLocals};
-ghost use Rattle.click_expand.specs.kept.CompoundArguments.{AreAllArguments};
-ghost use Rattle.click_expand.specs.kept.Nesting.{IsNested};
+ghost use Rattle.click_scopes.specs.kept.ScopeElements.{AreAllLocals};
+ghost use Rattle.click_scopes.specs.kept.CompoundArguments.{AreAllArguments};
+ghost use Rattle.click_scopes.specs.kept.Nesting.{IsNested};
 ghost use Rattle.click_expand.specs.Instances.{Leaf as Flattened};
 ghost use Rattle.click_expand.specs.kept.KnownInstances.{KnownInstance, AreInstances};
 ghost use Rattle.click_expand.specs.Flat.{flat_element, text_size, most_text};
@@ -11,8 +11,8 @@ ghost use Rattle.click_expand.specs.Flat.{flat_element, text_size, most_text};
 use crate::flat::FlatElement;
 use crate::flat_elements::element_at;
 use crate::instances::Instances;
-use crate::scope_elements::Local;
 use crate::text_buffer::TextBuffer;
+use click_scopes::Local;
 use click_text::sequence::Sequence;
 use click_text::syntax::{Config, Span};
 use std::alloc::{AllocError, Global};

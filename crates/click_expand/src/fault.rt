@@ -1,5 +1,9 @@
 //! Why a configuration has no flat form.
 
+ghost use Rattle.std.specs.Prelude.{◌≡◌};
+ghost use Rattle.click_expand.specs.Flat as spec;
+
+use click_scopes::WrongUse;
 use click_text::sequence::Sequence;
 use click_text::syntax::Span;
 use std::fmt;
@@ -31,6 +35,19 @@ pub enum FaultKind {
     /// A text whose parameters are replaced is no longer one configuration string.
     #[error("17 BrokenText")]
     BrokenText = 17,
+}
+
+/// The fault that a wrong use is.
+pub(crate) fn kind_of(wrong: WrongUse) -> FaultKind
+    ensures { result ≡ spec.kind_of wrong }
+{
+    match wrong {
+        WrongUse::UnknownName => FaultKind::UnknownName,
+        WrongUse::DeclaredTwice => FaultKind::DeclaredTwice,
+        WrongUse::UnknownClass => FaultKind::UnknownClass,
+        WrongUse::WrongParameters => FaultKind::WrongParameters,
+        WrongUse::CompoundPort => FaultKind::CompoundPort,
+    }
 }
 
 /// The first fault of a configuration. It prints as its kind with its place, as `11 UnknownName at bytes 4 to 7` or `17 BrokenText at a/b`.

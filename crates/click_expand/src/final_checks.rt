@@ -7,7 +7,7 @@ ghost use Rattle.click_expand.specs.Flat.{AreDistinct};
 ghost use Rattle.click_expand.specs.kept.FinalChecks.{IsRepeated, IsBroken};
 
 use crate::flat::FlatElement;
-use crate::names::Names;
+use click_scopes::Names;
 use click_text::string_len;
 use std::alloc::{AllocError, Global};
 

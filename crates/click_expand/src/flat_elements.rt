@@ -1,8 +1,8 @@
 //! A flat element by its place.
 
 ghost use Rattle.std.specs.Prelude.{◌≡◌, ◌<◌, ◌+◌, ℕ, List, length, slice_get, Some, IfOk, MatchOption};
-ghost use Rattle.click_expand.specs.kept.ScopeElements.{AreAllLocals};
-ghost use Rattle.click_expand.specs.kept.CompoundArguments.{AreAllArguments};
+ghost use Rattle.click_scopes.specs.kept.ScopeElements.{AreAllLocals};
+ghost use Rattle.click_scopes.specs.kept.CompoundArguments.{AreAllArguments};
 ghost use Rattle.click_expand.specs.kept.Buffered.{AreKept};
 ghost use Rattle.click_expand.specs.Instances.{Leaf as Flattened};
 ghost use Rattle.click_expand.specs.kept.KnownInstances.{KnownInstance, AreInstances};
@@ -10,14 +10,13 @@ ghost use Rattle.click_expand.specs.Flat.{flat_element};
 ghost use Rattle.click_expand.specs.kept.Classed.{class_found};
 ghost use Rattle.click_expand.specs.declared.instances.Place.{Place as Placed};
 
-use crate::classes::ClassOf;
 use crate::flat::FlatElement;
 use crate::flat_names::name_of;
 use crate::instances::{Instance, Place};
 use crate::parameter_values::{UnreadText, string_at};
-use crate::scope_elements::Local;
 use crate::text_buffer::TextBuffer;
 use crate::texts::write_text;
+use click_scopes::{ClassOf, Local};
 use click_text::sequence::Sequence;
 use click_text::syntax::{Config, Span};
 use std::alloc::{AllocError, Global};

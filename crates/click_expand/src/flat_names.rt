@@ -3,16 +3,16 @@
 ghost use Rattle.std.specs.Prelude.{◌≡◌, ℕ, List, Vec, map, reverse, slice_get, Some, IfOk};
 ghost use Rattle.std.specs.Global.{Global as Allocator};
 ghost use Rattle.click_text.specs.declared.syntax.Config.{Config as Spelled};
-ghost use Rattle.click_expand.specs.declared.scope_elements.Local.{Local as LocalKept};
+ghost use Rattle.click_scopes.specs.declared.scope_elements.Local.{Local as LocalKept};
 ghost use Rattle.click_expand.specs.declared.instances.Place.{Place as Placed};
 ghost use Rattle.click_expand.specs.Flat.{flat_name};
 ghost use Rattle.click_expand.specs.Instances.{Leaf as Flattened};
-ghost use Rattle.click_expand.specs.kept.ScopeElements.{AreAllLocals};
+ghost use Rattle.click_scopes.specs.kept.ScopeElements.{AreAllLocals};
 ghost use Rattle.click_expand.specs.kept.KnownInstances.{KnownInstance, AreInstances};
 ghost use Rattle.click_expand.specs.kept.Ways.{name_of_place, around_in};
 
 use crate::instances::{Instance, Place};
-use crate::scope_elements::Local;
+use click_scopes::Local;
 use std::alloc::{AllocError, Global};
 
 /// The local name of the element at a place.

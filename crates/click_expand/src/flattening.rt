@@ -3,42 +3,28 @@
 ghost use Rattle.std.specs.Prelude.{◌≡◌, ◌≤◌, ℕ, List, map, length, slice_get, Some, IfOk, IfErr};
 ghost use Rattle.click_text.specs.Spelling.{Spells};
 ghost use Rattle.click_expand.specs.declared.flat.Flat.{Flat as FlatForm};
-ghost use Rattle.click_expand.specs.Faults.{IsFaultless};
+ghost use Rattle.click_scopes.specs.Faults.{IsFaultless};
 ghost use Rattle.click_expand.specs.Flat.{IsFlat, IsFlatFault, IsMemoryOr, IsGiven, flat_element};
 ghost use Rattle.click_expand.specs.Instances.{Leaf as Flattened};
-ghost use Rattle.click_expand.specs.kept.ScopeElements.{AreAllLocals};
-ghost use Rattle.click_expand.specs.kept.Nesting.{IsNested};
-ghost use Rattle.click_expand.specs.kept.Tabled.{AreTables, IsFirst, IsExpandedOr, IsRefused, IsRefusedOf, fault_for, head_in};
+ghost use Rattle.click_scopes.specs.kept.ScopeElements.{AreAllLocals};
+ghost use Rattle.click_scopes.specs.kept.Nesting.{IsNested};
+ghost use Rattle.click_scopes.specs.Analysis.{AreTables};
+ghost use Rattle.click_expand.specs.kept.Answered.{IsExpandedOr, IsRefused, IsRefusedOf, refusal_for, fault_for, head_in};
 ghost use Rattle.click_expand.specs.kept.KnownInstances.{KnownInstance, AreInstances};
-ghost use Rattle.click_expand.specs.kept.FirstFault.{AreShort};
+ghost use Rattle.click_scopes.specs.kept.FirstFault.{AreShort};
 
-use crate::compound_arguments::all_arguments;
-use crate::compound_faults::first_compound_fault;
 use crate::elements::elements_of;
-use crate::fault::{ExpandFault, FaultKind};
+use crate::fault::{ExpandFault, FaultKind, kind_of};
 use crate::final_checks::{first_broken, first_repeated};
-use crate::first_fault::{TokenFault, first_of, first_token};
 use crate::flat::{Flat, FlatElement};
 use crate::flat_writing::push_name;
 use crate::instances::{Instances, instances_of};
-use crate::name_faults::first_name_fault;
-use crate::scope_elements::{Local, all_locals};
-use crate::scopes::{Scopes, scopes_of};
 use crate::sizes::{MOST_ELEMENTS, MOST_PATHS, size_of};
 use crate::wiring::connections_of;
-use crate::written_connections::{WrittenConnection, all_joints};
+use click_scopes::{Local, ScopeFault, Tables, analyze, first_token};
 use click_text::sequence::Sequence;
 use click_text::syntax::{Config, Head, Span};
 use std::alloc::{AllocError, Global};
-
-/// What is found once for each scope.
-#[derive(Drop)]
-pub struct Tables {
-    pub scopes: Scopes,
-    pub locals: Vec<Vec<Local>>,
-    pub arguments: Vec<Sequence<Sequence<Span>>>,
-    pub joints: Vec<Sequence<WrittenConnection>>,
-}
 
 /// Why there is no flat form.
 #[derive(Drop)]
@@ -61,43 +47,6 @@ impl From<AllocError> for Refusal {
     fn from(_error: AllocError) -> Refusal {
         Refusal::NoMemory
     }
-}
-
-/// What is found once for each scope of a configuration.
-fn tables_of(alloc: Global, config: &Config) -> Result<Tables, AllocError>
-    requires nested { IsNested config.now }
-    requires short { AreShort config.now.bodies }
-    ensures { IfOk result (AreTables config.now) }
-{
-    let scopes = scopes_of(alloc, config)?;
-    let locals = all_locals(alloc, config, &scopes)?;
-    let arguments = all_arguments(alloc, config, locals.as_slice())?;
-    let joints = all_joints(alloc, config, &scopes)?;
-    Ok(Tables {
-        scopes,
-        locals,
-        arguments,
-        joints,
-    })
-}
-
-/// The first wrong use of a name, class, parameter or port.
-fn first_wrong(
-    alloc: Global,
-    config: &Config,
-    tables: &Tables,
-) -> Result<Option<TokenFault>, AllocError>
-    requires nested { IsNested config.now }
-    requires short { AreShort config.now.bodies }
-    requires tables { AreTables config.now tables.now }
-    ensures { IfOk result (IsFirst config.now) }
-{
-    let locals = tables.locals.as_slice();
-    let arguments = tables.arguments.as_slice();
-    let joints = tables.joints.as_slice();
-    let name_fault = first_name_fault(alloc, config, &tables.scopes, locals)?;
-    let compound_fault = first_compound_fault(alloc, config, locals, arguments, joints)?;
-    Ok(first_of(name_fault, compound_fault))
 }
 
 /// The elements and connections, or none where there are too many.
@@ -181,7 +130,6 @@ fn refused_of(
 /// The flat form of a configuration without a wrong use, or why it has none.
 fn sound_flat(alloc: Global, config: &Config, tables: &Tables) -> Result<Flat, Refusal>
     requires nested { IsNested config.now }
-    requires short { AreShort config.now.bodies }
     requires sound { IsFaultless config.now }
     requires tables { AreTables config.now tables.now }
     ensures flat { IfOk result (λ flat. IsFlat config.now flat) }
@@ -202,17 +150,26 @@ fn sound_flat(alloc: Global, config: &Config, tables: &Tables) -> Result<Flat, R
     }
 }
 
+/// Why what has a wrong use has no flat form.
+fn refusal_of(fault: ScopeFault) -> Refusal
+    ensures { result ≡ refusal_for fault }
+{
+    match fault {
+        ScopeFault::NoMemory => Refusal::NoMemory,
+        ScopeFault::Wrong(wrong) => Refusal::At(kind_of(wrong.kind), wrong.span),
+    }
+}
+
 /// The flat form of a configuration, or why it has none.
 fn flat_of(alloc: Global, config: &Config) -> Result<Flat, Refusal>
     requires nested { IsNested config.now }
-    requires short { AreShort config.now.bodies }
+    requires spelled { Spells config.now.text config.now }
     ensures flat { IfOk result (λ flat. IsFlat config.now flat) }
     ensures err { IfErr result (λ why. IsRefused config.now why) }
 {
-    let tables = tables_of(alloc, config)?;
-    match first_wrong(alloc, config, &tables)? {
-        Some(wrong) => Err(Refusal::At(wrong.kind, wrong.span)),
-        None => sound_flat(alloc, config, &tables),
+    match analyze(alloc, config) {
+        Ok(tables) => sound_flat(alloc, config, &tables),
+        Err(fault) => Err(refusal_of(fault)),
     }
 }
 
@@ -244,14 +201,6 @@ fn fault_of(alloc: Global, refused: Refusal) -> ExpandFault
     }
 }
 
-/// How long the text is. What begins in it begins before the last place that there is.
-fn text_len(config: &Config) -> usize
-    requires { Spells config.now.text config.now }
-    ensures { AreShort config.now.bodies }
-{
-    config.text.len()
-}
-
 /// The flat form of a configuration that a text spells (Click manual, "Compound elements"): its elements under their flat names in the order of the
 /// text, with all parameters replaced, and its connections, each once, by from-element, from-port, to-element, to-port. Or its first fault: of wrong
 /// names, classes, parameters and ports the one that stands first in the text; else `TooMany`, where there are more than 4,096 elements, 16,384
@@ -263,7 +212,6 @@ pub fn flatten(alloc: Global, config: &Config) -> Result<Flat, ExpandFault>
     ensures only { (flat : FlatForm) → IsFlat config.now flat → IsGiven result flat }
     ensures err { IfErr result (λ fault. IsMemoryOr fault (IsFlatFault config.now fault)) }
 {
-    let _length = text_len(config);
     match flat_of(alloc, config) {
         Ok(flat) => Ok(flat),
         Err(refused) => Err(fault_of(alloc, refused)),

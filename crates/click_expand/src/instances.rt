@@ -1,19 +1,17 @@
 //! The instances of scopes: the whole text, and each compound that a path leads to.
 
 ghost use Rattle.std.specs.Prelude.{◌≡◌, ◌≤◌, ◌<◌, ◌++◌, ◌∷◌, [], ℕ, List, length, slice_get, slice_set, Some, IfOk, OnOk};
-ghost use Rattle.click_expand.specs.kept.ScopeElements.{AreAllLocals};
-ghost use Rattle.click_expand.specs.kept.Nesting.{IsNested};
-ghost use Rattle.click_expand.specs.kept.Scoped.{AreScopes};
-ghost use Rattle.click_expand.specs.Faults.{IsFaultless};
+ghost use Rattle.click_scopes.specs.kept.ScopeElements.{AreAllLocals};
+ghost use Rattle.click_scopes.specs.kept.Nesting.{IsNested};
+ghost use Rattle.click_scopes.specs.kept.Scoped.{AreScopes};
+ghost use Rattle.click_scopes.specs.Faults.{IsFaultless};
 ghost use Rattle.click_expand.specs.Instances.{Leaf as Flattened, LeavesOf};
 ghost use Rattle.click_expand.specs.kept.KnownInstances.{KnownInstance, AreInstances};
 ghost use Rattle.click_expand.specs.declared.instances.Instance.{Instance as InstanceKept};
 ghost use Rattle.click_expand.specs.kept.InstanceWalk as spec;
 ghost use Rattle.click_expand.specs.kept.InstanceWalk.{outer_by, bare_use, with_part, AreInward, home_by, IsHomeIn, AddsFlatElement, IsEntered, IsLeft, IsWalkStep};
 
-use crate::classes::ClassOf;
-use crate::scope_elements::Local;
-use crate::scopes::{Scope, Scopes};
+use click_scopes::{ClassOf, Local, Scope, Scopes};
 use click_text::sequence::Sequence;
 use click_text::syntax::Config;
 use std::alloc::{AllocError, Global};

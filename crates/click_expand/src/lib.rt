@@ -1,14 +1,10 @@
 //! Compounds, parameters and synonyms of a configuration are expanded to its flat form.
 #![tactic(auto)]
 
-mod classes;
-mod compound_arguments;
-mod compound_faults;
 mod connection_index;
 mod elements;
 mod fault;
 mod final_checks;
-mod first_fault;
 mod flat;
 mod flat_elements;
 mod flat_names;
@@ -16,23 +12,16 @@ mod flat_writing;
 mod flattening;
 mod instances;
 pub mod laws;
-mod name_faults;
-mod names;
 mod order;
 mod parameter_values;
 mod parameters;
 mod passthrough;
-mod ports;
-mod scope_elements;
-mod scopes;
 mod sizes;
 mod text_buffer;
 mod texts;
 mod wiring;
-mod written_connections;
 
 pub use fault::{ExpandFault, FaultKind};
 pub use flat::{Connection, Flat, FlatElement};
 pub use flat_writing::flat_text;
 pub use flattening::flatten;
-pub use names::Names;

@@ -1,19 +1,18 @@
 //! What stands for a parameter in an instance of a scope.
 
 ghost use Rattle.std.specs.Prelude.{◌≡◌, ◌<◌, ◌≤◌, List, length, slice_get, ◌∷◌, Some, IfSome};
-ghost use Rattle.click_expand.specs.Scopes.{body_formals};
-ghost use Rattle.click_expand.specs.kept.CompoundArguments.{AreAllArguments};
-ghost use Rattle.click_expand.specs.kept.ScopeElements.{AreAllLocals};
+ghost use Rattle.click_scopes.specs.Scopes.{body_formals};
+ghost use Rattle.click_scopes.specs.kept.CompoundArguments.{AreAllArguments};
+ghost use Rattle.click_scopes.specs.kept.ScopeElements.{AreAllLocals};
 ghost use Rattle.click_expand.specs.Parameters.{scope_value, value_in};
 ghost use Rattle.click_expand.specs.Instances.{Leaf as Flattened};
 ghost use Rattle.click_expand.specs.kept.KnownInstances.{KnownInstance, AreInstances};
 ghost use Rattle.click_expand.specs.kept.ParameterValues.{spans_found, string_found, IsValue};
 ghost use Rattle.click_expand.specs.declared.instances.Place.{Place as Placed};
 
-use crate::compound_arguments::string_inside;
 use crate::instances::Instance;
 use crate::parameters::formal_place;
-use crate::scope_elements::Local;
+use click_scopes::{Local, string_inside};
 use click_text::sequence::Sequence;
 use click_text::syntax::{Body, Config, Span};
 

@@ -2,17 +2,15 @@
 //! the compounds inside it.
 
 ghost use Rattle.std.specs.Prelude.{◌≡◌, ◌⊎◌, ◌∷◌, [], ℕ, List, Contains, Option, None, true, false, length, IfOk, OnOk, IfSome};
-ghost use Rattle.click_expand.specs.declared.written_connections.Owner.TheVariants as owner;
+ghost use Rattle.click_scopes.specs.declared.written_connections.Owner.TheVariants as owner;
 ghost use Rattle.click_expand.specs.declared.connection_index.ScopePort.{ScopePort as PortKept};
 ghost use Rattle.click_expand.specs.declared.connection_index.ConnectionIndex.{ConnectionIndex as IndexKept};
 ghost use Rattle.click_expand.specs.kept.Wiring.{AreIndices, Gains, HasAll, ends_in, scope_port as port_of};
 ghost use Rattle.click_expand.specs.kept.Passthrough as spec;
 ghost use Rattle.click_expand.specs.kept.Passthrough.{AreAlike, AreEndsOf, AreFound, AreShortened, AreStoodFor, HasShortcuts, IsLike, IsOutputOf, IsShortened, LeadAlike, LeadsThrough, GoesOnBehind, StandsIn};
 
-use crate::classes::ClassOf;
 use crate::connection_index::{ConnectionIndex, ScopePort, index_of};
-use crate::scope_elements::Local;
-use crate::written_connections::{Owner, WrittenConnection};
+use click_scopes::{ClassOf, Local, Owner, WrittenConnection};
 use click_text::sequence::Sequence;
 use indexmap::{IndexMap, IndexSet};
 use std::alloc::{AllocError, Global};

@@ -1,16 +1,15 @@
 //! How much a configuration stands for, before it is expanded.
 
 ghost use Rattle.std.specs.Prelude.{◌≡◌, ◌+◌, ◌++◌, ◌∷◌, [], min, slice_get, IfOk, OnOk};
-ghost use Rattle.click_expand.specs.kept.ScopeElements.{AreAllLocals};
-ghost use Rattle.click_expand.specs.kept.Nesting.{IsNested};
-ghost use Rattle.click_expand.specs.Faults.{IsFaultless};
+ghost use Rattle.click_scopes.specs.kept.ScopeElements.{AreAllLocals};
+ghost use Rattle.click_scopes.specs.kept.Nesting.{IsNested};
+ghost use Rattle.click_scopes.specs.Faults.{IsFaultless};
 ghost use Rattle.click_expand.specs.kept.Sizes.{IsSizeOf};
 ghost use Rattle.click_expand.specs.Flat.{most_elements, most_paths};
 ghost use Rattle.click_expand.specs.kept.Counted as spec;
 ghost use Rattle.click_expand.specs.kept.Counted.{size_or, IsSum};
 
-use crate::classes::ClassOf;
-use crate::scope_elements::Local;
+use click_scopes::{ClassOf, Local};
 use click_text::syntax::Config;
 use std::alloc::{AllocError, Global};
 

@@ -1,8 +1,8 @@
 //! Texts with their parameters replaced.
 
 ghost use Rattle.std.specs.Prelude.{◌≡◌, ℕ, ◌<◌, ◌≤◌, ◌+◌, ◌++◌, ◌∷◌, [], List, length, true, false, IfOk, OnOk};
-ghost use Rattle.click_expand.specs.kept.CompoundArguments.{AreAllArguments};
-ghost use Rattle.click_expand.specs.kept.ScopeElements.{AreAllLocals};
+ghost use Rattle.click_scopes.specs.kept.CompoundArguments.{AreAllArguments};
+ghost use Rattle.click_scopes.specs.kept.ScopeElements.{AreAllLocals};
 ghost use Rattle.click_expand.specs.Instances.{Leaf as Flattened};
 ghost use Rattle.click_expand.specs.kept.KnownInstances.{KnownInstance, AreInstances};
 ghost use Rattle.click_expand.specs.kept.ParameterValues.{IsRead};
@@ -15,8 +15,8 @@ ghost use Rattle.click_expand.specs.declared.instances.Place.{Place as Placed};
 use crate::instances::Instance;
 use crate::parameter_values::{Argument, ParameterValue, UnreadText, value_at};
 use crate::parameters::parameter_at;
-use crate::scope_elements::Local;
 use crate::text_buffer::TextBuffer;
+use click_scopes::Local;
 use click_text::first_item;
 use click_text::sequence::Sequence;
 use click_text::syntax::{Config, Span};

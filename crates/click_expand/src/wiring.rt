@@ -2,10 +2,10 @@
 
 ghost use Rattle.std.specs.Prelude.{◌≡◌, ◌≤◌, ◌<◌, ◌∷◌, [], ℕ, List, length, Contains, OnOk, IfOk, MatchOption};
 ghost use Rattle.click_expand.specs.declared.flat.Connection.{Connection as Joined};
-ghost use Rattle.click_expand.specs.kept.Nesting.{IsNested};
-ghost use Rattle.click_expand.specs.Faults.{IsFaultless};
-ghost use Rattle.click_expand.specs.kept.WrittenConnections.{AreAllJoints};
-ghost use Rattle.click_expand.specs.kept.ScopeElements.{AreAllLocals};
+ghost use Rattle.click_scopes.specs.kept.Nesting.{IsNested};
+ghost use Rattle.click_scopes.specs.Faults.{IsFaultless};
+ghost use Rattle.click_scopes.specs.kept.WrittenConnections.{AreAllJoints};
+ghost use Rattle.click_scopes.specs.kept.ScopeElements.{AreAllLocals};
 ghost use Rattle.click_expand.specs.Instances.{Leaf as Flattened};
 ghost use Rattle.click_expand.specs.kept.KnownInstances.{KnownInstance, AreInstances};
 ghost use Rattle.click_expand.specs.Flat.{AreConnections, AreOrdered, Joins, most_connections};
@@ -19,8 +19,7 @@ use crate::flat::Connection;
 use crate::instances::{Instance, InstancePart, Instances};
 use crate::order::in_order;
 use crate::passthrough::all_indices;
-use crate::scope_elements::Local;
-use crate::written_connections::{Owner, WrittenConnection};
+use click_scopes::{Local, Owner, WrittenConnection};
 use click_text::sequence::Sequence;
 use click_text::syntax::Config;
 use indexmap::IndexSet;

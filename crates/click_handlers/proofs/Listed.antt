@@ -1,5 +1,5 @@
 -- Rows of a table, and the list that they must be.
-use Rattle.std.proofs.Common.{◌≡◌, ℕ, ◌<◌, ◌≤◌, zero, suc, List, [], ◌∷◌, map, length, take, get_or, Bool, true, false, ◌||◌, ◌&&◌, Some, slice_get, option_map, refl, sym, ◌∙◌, ap, arith, rules}
+use Rattle.std.proofs.Common.{◌≡◌, ℕ, ◌<◌, ◌≤◌, ◌+◌, zero, suc, List, [], ◌∷◌, map, length, take, get_or, Bool, true, false, ◌||◌, ◌&&◌, Some, slice_get, option_map, refl, sym, ◌∙◌, ap, arith, rules}
 use Rattle.std.specs.Prelude.{IsTrue}
 use Rattle.std.specs.List.{list_any}
 use Rattle.std.specs.Str.{bytes_eq}
@@ -106,3 +106,36 @@ other_length f rows table n len ne listed = ne (sym (length_mapped f rows) ∙ a
 
 pub listed_all : {A : Type 0} (f : A → HandlerName) (rows : List A) (table : List HandlerName) (n : ℕ) → length table ≡ n → length rows ≡ n → ((k : ℕ) → k < n → slice_get (map f rows) k ≡ slice_get table k) → map f rows ≡ table
 listed_all f rows table n len same each = same_by_gets (map f rows) table (length_mapped f rows ∙ same ∙ sym len) (λ k lt. each k (omega (arith, len)))
+
+-- one of the list that passes, by its place, is enough
+pub found_at : (p : HandlerName → Bool) (xs : List HandlerName) (i : ℕ) (x : HandlerName) → slice_get xs i ≡ Some x → p x ≡ true → list_any p xs ≡ true
+found_at p [] i x here is = absurd (let h = here in cc)
+found_at p (y ∷ ys) zero x here is = let same : y ≡ x = cc in ap (λ b. b || list_any p ys) (ap p same ∙ is)
+found_at p (y ∷ ys) (suc i) x here is = or_true (p y) (list_any p ys) (found_at p ys i x here is) where
+  or_true : (a b : Bool) → b ≡ true → (a || b) ≡ true
+  or_true true b e = refl
+  or_true false b e = e
+
+-- one more that does not pass
+none_more : (p : HandlerName → Bool) (xs : List HandlerName) (i : ℕ) (x : HandlerName) → slice_get xs i ≡ Some x → list_any p (take i xs) ≡ false → p x ≡ false → list_any p (take (suc i) xs) ≡ false
+none_more p [] i x here none isnt = absurd (let h = here in cc)
+none_more p (y ∷ ys) zero x here none isnt = let same : y ≡ x = cc in ap (λ b. b || false) (ap p same ∙ isnt)
+none_more p (y ∷ ys) (suc i) x here none isnt =
+    let parts = or_false (p y) (list_any p (take i ys)) none in both_false (p y) (list_any p (take (suc i) ys)) parts.0 (none_more p ys i x here parts.1 isnt) where
+      or_false : (a b : Bool) → (a || b) ≡ false → (a ≡ false) × (b ≡ false)
+      or_false true b e = absurd (let h = e in cc)
+      or_false false b e = (refl, e)
+
+      both_false : (a b : Bool) → a ≡ false → b ≡ false → (a || b) ≡ false
+      both_false true b e f = e
+      both_false false b e f = f
+
+suc_is : (i : ℕ) → suc i ≡ i + 1
+suc_is i = omega arith
+
+pub none_next : (p : HandlerName → Bool) (xs : List HandlerName) (i : ℕ) (x : HandlerName) → slice_get xs i ≡ Some x → list_any p (take i xs) ≡ false → p x ≡ false → list_any p (take (i + 1) xs) ≡ false
+none_next p xs i x here none isnt = ap (λ k. list_any p (take k xs)) (sym (suc_is i)) ∙ none_more p xs i x here none isnt
+
+-- none of the whole list passes
+pub none_all : (p : HandlerName → Bool) (xs : List HandlerName) (n : ℕ) → length xs ≤ n → list_any p (take n xs) ≡ false → list_any p xs ≡ false
+none_all p xs n le none = ap (list_any p) (sym (take_past n xs le)) ∙ none

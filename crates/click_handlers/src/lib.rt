@@ -16,8 +16,9 @@ mod written;
 
 pub use blanks::{is_blank, trimmed, without_front};
 pub use fault::{HandlerFault, TableFault};
+pub use names::{has_read, has_write};
 pub use rows::{ReadCall, ReadRow, WriteCall, WriteRow};
-pub use standard::{TakesTable, with_counted_table, with_table};
+pub use standard::{TakesRows, TakesTable, with_counted_table, with_rows, with_table};
 pub use table::Table;
 pub use texts::push_dotted;
 pub use written::Written;

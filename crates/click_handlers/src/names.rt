@@ -1,7 +1,7 @@
 //! The handlers of each class, in order.
 
 ghost use Rattle.std.specs.Prelude.{◌≡◌, ◌<◌, slice_get, Some};
-ghost use Rattle.click_handlers.specs.Names.{active_name, of_class, read_names, write_names};
+ghost use Rattle.click_handlers.specs.Names.{active_name, of_class, is_named, has_read, has_write, read_names, write_names};
 
 use click_classes::Class;
 
@@ -113,4 +113,37 @@ pub(crate) fn write_name(at: usize) -> (Class, &'static [u8])
         25 => return (Class::InfiniteSource, b"active"),
         _ => return (Class::InfiniteSource, b"reset"),
     }
+}
+
+/// Whether elements of the class have a handler of that name that is read.
+pub fn has_read(class: Class, name: &[u8]) -> bool
+    ensures { result ≡ has_read class name.now }
+{
+    for at in 0..READS {
+        let (of, handler) = read_name(at);
+        if is_named(class, name, of, handler) {
+            return true;
+        }
+    }
+    false
+}
+
+/// Whether elements of the class have a handler of that name that is written.
+pub fn has_write(class: Class, name: &[u8]) -> bool
+    ensures { result ≡ has_write class name.now }
+{
+    for at in 0..WRITES {
+        let (of, handler) = write_name(at);
+        if is_named(class, name, of, handler) {
+            return true;
+        }
+    }
+    false
+}
+
+/// Whether a handler is the class's of that name.
+fn is_named(class: Class, name: &[u8], of: Class, handler: &[u8]) -> bool
+    ensures { result ≡ is_named class name.now (of_class of handler.now) }
+{
+    of == class && handler == name
 }

@@ -11,7 +11,7 @@ ghost use Rattle.click_handlers.specs.Writes.{write_value};
 use crate::fault::HandlerFault;
 use crate::names::active_name;
 use crate::plain;
-use crate::rows::{add_read, add_write};
+use crate::rows::{ReadRow, WriteRow, add_read, add_write};
 use crate::table::Table;
 use crate::written::Written;
 use click_classes::Class;
@@ -32,6 +32,50 @@ pub trait TakesTable {
         requires { IsSync R.row };
 }
 
+/// Goes on with the rows of all handlers, in their order, and with the first of each list once more: a row has no copy, and who asks whether a list in which a row
+/// stands twice makes a table needs one.
+pub trait TakesRows {
+    ghost use Rattle.std.specs.Prelude.{◌≡◌, codes, map};
+    ghost use Rattle.std.specs.Thread.{IsSync};
+    ghost use Rattle.click_classes.specs.declared.class.Class.TheVariants as is;
+    ghost use Rattle.click_handlers.specs.Names.{of_class, read_names, write_names};
+
+    type Out;
+
+    fn take_rows<R: Threads + Wait + Sync>(
+        self,
+        rt: &R,
+        reads: Vec<ReadRow>,
+        writes: Vec<WriteRow>,
+        again: (ReadRow, WriteRow),
+    ) -> Self::Out
+        requires shared { IsSync R.row }
+        requires reads { map (λ r. of_class r.class r.name.items) reads.items ≡ read_names }
+        requires writes { map (λ r. of_class r.class r.name.items) writes.items ≡ write_names }
+        requires read_again { of_class again.0.class again.0.name.items ≡ of_class is.Queue (codes "length") }
+        requires write_again { of_class again.1.class again.1.name.items ≡ of_class is.Queue (codes "capacity") };
+}
+
+/// Makes a table of the rows, and hands it to `then`.
+#[derive(Drop)]
+struct Tabled<U> {
+    then: U,
+}
+
+impl<U: TakesTable + Drop> TakesRows for Tabled<U> {
+    type Out = U::Out;
+
+    fn take_rows<R: Threads + Wait + Sync>(
+        self,
+        rt: &R,
+        reads: Vec<ReadRow>,
+        writes: Vec<WriteRow>,
+        _again: (ReadRow, WriteRow),
+    ) -> U::Out {
+        self.then.take(rt, Table::of_all(reads, writes))
+    }
+}
+
 /// Makes the table of all handlers, and hands it to `then`.
 pub fn with_table<R: Threads + Wait + Sync, U: TakesTable + Drop>(
     rt: &R,
@@ -43,6 +87,16 @@ pub fn with_table<R: Threads + Wait + Sync, U: TakesTable + Drop>(
 
 /// The same. Where there is a number, it grows by one whenever the row of a Counter's `count` is asked, which shows that whoever has the table asks its rows.
 pub fn with_counted_table<R: Threads + Wait + Sync, U: TakesTable + Drop>(
+    rt: &R,
+    alloc: Global,
+    asked: Option<Arc<AtomicU64>>,
+    then: U,
+) -> Result<U::Out, AllocError> {
+    with_rows(rt, alloc, asked, Tabled { then })
+}
+
+/// Makes the rows of all handlers, and hands them to `then`; the number is as for a table.
+pub fn with_rows<R: Threads + Wait + Sync, U: TakesRows + Drop>(
     rt: &R,
     alloc: Global,
     asked: Option<Arc<AtomicU64>>,
@@ -276,5 +330,17 @@ pub fn with_counted_table<R: Threads + Wait + Sync, U: TakesTable + Drop>(
         b"reset",
         Box::new(alloc, plain::reset_source)?,
     )?;
-    Ok(then.take(rt, Table::of_all(reads, writes)))
+    let read_name = Vec::from_slice(alloc, b"length")?;
+    let read_again = ReadRow::new(
+        Class::Queue,
+        read_name,
+        Box::new(alloc, plain::read_length)?,
+    );
+    let write_name = Vec::from_slice(alloc, b"capacity")?;
+    let write_again = WriteRow::new(
+        Class::Queue,
+        write_name,
+        Box::new(alloc, plain::write_capacity)?,
+    );
+    Ok(then.take_rows(rt, reads, writes, (read_again, write_again)))
 }

@@ -84,14 +84,6 @@ impl Table {
         Table { reads, writes }
     }
 
-    /// The rows, those that are read before those that are written.
-    pub fn into_rows(self) -> (Vec<ReadRow>, Vec<WriteRow>)
-        ensures reads { map (λ r. of_class r.class r.name.items) result.0.items ≡ read_names }
-        ensures writes { map (λ r. of_class r.class r.name.items) result.1.items ≡ write_names }
-    {
-        (self.reads, self.writes)
-    }
-
     /// The row of a class's read handler.
     pub fn read(&self, class: Class, name: &[u8]) -> Option<&ReadRow>
         ensures there { is_some result ≡ has_read class name.now }

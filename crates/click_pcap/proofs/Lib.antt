@@ -1,8 +1,7 @@
 pub mod Peers
 pub mod Pieces
-pub mod Legs
+pub mod Routers
+pub mod Passing
 pub mod Outputs
-pub mod Desks
+pub mod OneWay
 pub mod Options
-pub mod Devices
-pub mod Answered

@@ -1,5 +1,5 @@
 -- Options of a command line that clap tells apart.
-use Rattle.std.proofs.Common.{◌≡◌, ◌<◌, ◌&&◌, ◌==◌, not, ap, subst, ℕ, Bool, zero, suc, List, [], ◌∷◌, length, All, true, false, rules, inl, inr, arith, refl, slice_index, codes, sym, ◌∙◌}
+use Rattle.std.proofs.Common.{◌≡◌, ◌<◌, ◌&&◌, ◌==◌, not, ap, subst, ℕ, Bool, zero, suc, List, [], ◌∷◌, length, All, true, false, inl, inr, arith, refl, slice_index, sym, ◌∙◌}
 use Rattle.std.specs.Str.{bytes_eq}
 use Rattle.std.specs.List.{AllByRecursion, slice_index_or}
 use Rattle.std.proofs.lemmas.List.Elements.{All-nil, All-cons}

@@ -1,14 +1,14 @@
 -- Pieces that are filled, one read after another.
-use Rattle.std.proofs.Common.{◌≡◌, ℕ, ◌+◌, ◌≤◌, ◌<◌, List, ◌++◌, length, take, drop, refl, sym, ap, subst, ◌∙◌, take-add, length-drop, arith}
+use Rattle.std.proofs.Common.{◌≡◌, ℕ, ◌+◌, ◌≤◌, List, ◌++◌, length, take, drop, ap, ◌∙◌, take-add, arith}
 use Rattle.std.proofs.lemmas.List.{take_at, drop_at, length-append, length-take, take-append-le}
 use Rattle.std.proofs.KnownBytes.{Consumes-trans}
 use borrow.Rule.Slice.PartMut.{put_mid, post_of}
 use Rattle.click_capture.specs.Numbers.{word}
-use Rattle.click_capture.specs.Captures.{Record, head_bytes, head_with, record_bytes}
+use Rattle.click_capture.specs.Captures.{head_bytes}
 use Rattle.click_capture.specs.declared.order.Order.{Order}
 use Rattle.click_capture.specs.declared.record.Head.{Head}
 use Rattle.click_control.specs.Peers.{Input}
-use Rattle.click_pcap.specs.Reading.{Took, TookAll, ReadFails}
+use Rattle.click_pcap.specs.Reading.{Took, ReadFails}
 
 -- what a read put behind the first a bytes
 pub grown : (a k n : ℕ) (xs ys : List ℕ) → a ≤ length xs → n ≤ length ys → take (a + n) (put_mid a k xs ys) ≡ take a xs ++ take n ys

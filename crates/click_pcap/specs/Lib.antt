@@ -1,5 +1,4 @@
 pub mod Statuses
-pub mod Stops
 pub mod Reading
 pub mod Writing
 pub mod Ways

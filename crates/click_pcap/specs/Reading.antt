@@ -2,7 +2,6 @@
 use Rattle.std.specs.Prelude.{◌≡◌, ◌⊎◌, ℕ, ◌<◌, ◌≤◌, List, [], ◌++◌, length, take, true, Result, Ok, Err}
 use Rattle.std.specs.Io.KnownBytes.{Consumes, IsAtEnd}
 use Rattle.click_capture.specs.Captures.{Record, header_bytes, head_bytes, record_bytes, longest, IsHeaderFault}
-use Rattle.click_capture.specs.declared.order.Order.{Order}
 use Rattle.click_capture.specs.declared.header.Header.{Header}
 use Rattle.click_capture.specs.declared.record.Head.{Head}
 use Rattle.click_control.specs.Peers.{Input}

@@ -2,8 +2,8 @@
 use Rattle.std.specs.Prelude.{ℕ}
 use Rattle.std.specs.declared.io.ErrorKind.{ErrorKind}
 use Rattle.std.specs.declared.io.ErrorKind.TheVariants as io
-use Rattle.click_router.specs.declared.fault.FaultKind.{FaultKind}
-use Rattle.click_router.specs.declared.fault.FaultKind.TheVariants as kind
+use Rattle.click_pcap.specs.declared.passage.NoPassage.{NoPassage}
+use Rattle.click_pcap.specs.declared.passage.NoPassage.TheVariants as none
 use Rattle.click_pcap.specs.declared.status.Status.{Status}
 use Rattle.click_pcap.specs.declared.status.Status.TheVariants as status
 use Rattle.click_pcap.specs.declared.stop.Stop.{Stop}
@@ -17,21 +17,21 @@ code status.WrongArguments = 2
 code status.NoMemory = 3
 code status.DeviceFailed = 4
 
--- by the fault of a configuration
-abbrev pub config_status : FaultKind → Status
-config_status kind.NoMemory = status.NoMemory
-config_status _ = status.Faulty
+-- where there is no passage
+abbrev pub none_status : NoPassage → Status
+none_status (none.Config fault) = status.Faulty
+none_status none.NoSource = status.Faulty
+none_status none.NoSink = status.Faulty
+none_status none.NoMemory = status.NoMemory
 
 -- where the run broke off
 abbrev pub stop_status : Stop → Status
-stop_status stop.NoSource = status.Faulty
-stop_status stop.NoSink = status.Faulty
 stop_status (stop.ShortHeader at) = status.Faulty
 stop_status (stop.Header fault) = status.Faulty
 stop_status (stop.Cut number at) = status.Faulty
 stop_status (stop.TooLong number at fault) = status.Faulty
-stop_status stop.HistoryFull = status.Faulty
-stop_status stop.FeedStuck = status.Faulty
+stop_status (stop.GivesOn number at) = status.Faulty
+stop_status stop.Uncounted = status.Faulty
 stop_status stop.NoMemory = status.NoMemory
 stop_status stop.ReadFailed = status.DeviceFailed
 stop_status stop.WriteFailed = status.DeviceFailed

@@ -1,27 +1,27 @@
 //! Packets from a capture through a router into a capture.
 
-ghost use Rattle.std.specs.Prelude.{◌≡◌, [], length, IfErr};
-ghost use Rattle.click_capture.specs.Captures.{header_bytes};
+ghost use Rattle.std.specs.Prelude.{◌≡◌, [], length};
 ghost use Rattle.click_control.specs.Peers.{Input as AnInput, Output as AnOutput};
-ghost use Rattle.click_pcap.specs.Ways.{Way};
-ghost use Rattle.click_pcap.specs.Carrying.{widened, header_stop, Unwritten, Wrote, SendsAll, Passes, Carried, Ends, Carries};
+ghost use Rattle.click_pcap.specs.Ways.{Way, went};
+ghost use Rattle.click_pcap.specs.Carrying.{widened, header_stop, unsent_stop, WroteHeader, SendsAll, Passes, Carried, Ends, Carries};
 
 use crate::passage::Passage;
 use crate::reading::{Next, NoHeader, NoRecord, read_header, read_record};
-use crate::stop::Stop;
+use crate::stop::{Stop, Unsent};
 use crate::tally::Tally;
 use crate::writing::write_all;
 use click_capture::{
     HEAD_LEN, HEADER_LEN, Head, Header, LONGEST_RECORD, Time, header_bytes, record_bytes,
 };
 use click_control::{Failed, Sink, Source};
-use click_packet::Packet;
-use click_router::Handlers;
+use click_packet::TooLong;
 use std::alloc::Global;
-use std::sync::Wait;
 
 /// The least snap length of a capture that is written: room for a packet of any length, since a router may make one longer.
 const LEAST_SNAP: u32 = 1_600;
+
+/// How often the sink is asked after a packet has entered.
+const MOST_ASKED: u32 = 1_048_576;
 
 /// The header that is written for one that was read: the same, but with room for each packet.
 fn widened(header: &Header) -> Header
@@ -36,10 +36,9 @@ fn widened(header: &Header) -> Header
 
 /// Carries the packets of a capture through the router: each enters, each task runs once, and what the sink then gives is written with the time of the packet
 /// that entered. A packet of more than 1,600 bytes is left out. The tally counts on, also where the run breaks off.
-pub fn carry<T: Handlers + Drop, I: Source, O: Sink, R: Wait>(
-    rt: &R,
+pub fn carry<I: Source, O: Sink>(
     alloc: Global,
-    passage: &mut Passage<T>,
+    passage: &mut Passage,
     reader: &mut I,
     writer: &mut O,
     tally: &mut Tally,
@@ -53,7 +52,7 @@ pub fn carry<T: Handlers + Drop, I: Source, O: Sink, R: Wait>(
     if let Err(stop) = write_header(alloc, &widened(&header), writer) {
         return Err(stop);
     }
-    carry_records(rt, alloc, passage, &header, reader, writer, tally)
+    carry_records(alloc, passage, &header, reader, writer, tally)
 }
 
 /// Why no header was read, as a run is told.
@@ -69,20 +68,21 @@ fn header_stop(why: NoHeader) -> Stop
 
 /// Writes a header.
 fn write_header<O: Sink>(alloc: Global, header: &Header, writer: &mut O) -> Result<(), Stop>
-    ensures wrote { Wrote result (O.output writer.old) (O.output writer.new) (header_bytes header.now) }
-    ensures err { IfErr result Unwritten }
+    ensures { WroteHeader header.now (O.output writer.old) (O.output writer.new) result }
 {
     let Ok(bytes) = header_bytes(alloc, header) else {
         return Err(Stop::NoMemory);
     };
-    written(writer, &bytes)
+    match write_all(writer, &bytes) {
+        Ok(()) => Ok(()),
+        Err(Failed) => Err(Stop::WriteFailed),
+    }
 }
 
 /// Carries the packets of the records, which take 262,144 bytes of memory whatever the capture claims.
-fn carry_records<T: Handlers + Drop, I: Source, O: Sink, R: Wait>(
-    rt: &R,
+fn carry_records<I: Source, O: Sink>(
     alloc: Global,
-    passage: &mut Passage<T>,
+    passage: &mut Passage,
     header: &Header,
     reader: &mut I,
     writer: &mut O,
@@ -96,7 +96,6 @@ fn carry_records<T: Handlers + Drop, I: Source, O: Sink, R: Wait>(
         return Err(Stop::NoMemory);
     };
     carry_each(
-        rt,
         alloc,
         passage,
         header,
@@ -108,10 +107,9 @@ fn carry_records<T: Handlers + Drop, I: Source, O: Sink, R: Wait>(
 }
 
 /// Carries the packets of the records, each of which stands in the piece for its time.
-fn carry_each<T: Handlers + Drop, I: Source, O: Sink, R: Wait>(
-    rt: &R,
+fn carry_each<I: Source, O: Sink>(
     alloc: Global,
-    passage: &mut Passage<T>,
+    passage: &mut Passage,
     header: &Header,
     piece: &mut [u8],
     reader: &mut I,
@@ -135,8 +133,7 @@ fn carry_each<T: Handlers + Drop, I: Source, O: Sink, R: Wait>(
         };
         tally.read = number;
         let kept = head.kept as usize;
-        if let Err(stop) = carry_packet(
-            rt,
+        if let Err(why) = carry_packet(
             alloc,
             passage,
             header,
@@ -145,78 +142,68 @@ fn carry_each<T: Handlers + Drop, I: Source, O: Sink, R: Wait>(
             writer,
             tally,
         ) {
-            return Err(stop);
+            return Err(unsent_stop(why, number, at));
         }
         at = at.saturating_add((HEAD_LEN + kept) as u64);
     }
     // No input has so many records.
-    Err(Stop::HistoryFull)
+    Err(Stop::Uncounted)
+}
+
+/// Why what came of the packet of a record was not written to its end, as a run is told.
+fn unsent_stop(why: Unsent, number: u64, at: u64) -> Stop
+    ensures { result ≡ unsent_stop why number at }
+{
+    match why {
+        Unsent::GivesOn => Stop::GivesOn { number, at },
+        Unsent::NoMemory => Stop::NoMemory,
+        Unsent::WriteFailed => Stop::WriteFailed,
+    }
 }
 
 /// Carries the packet of a record.
-fn carry_packet<T: Handlers + Drop, O: Sink, R: Wait>(
-    rt: &R,
+fn carry_packet<O: Sink>(
     alloc: Global,
-    passage: &mut Passage<T>,
+    passage: &mut Passage,
     header: &Header,
     head: &Head,
     bytes: &[u8],
     writer: &mut O,
     tally: &mut Tally,
-) -> Result<(), Stop>
+) -> Result<(), Unsent>
     ensures { Passes header.now (record { time = head.now.time; wire = head.now.wire; bytes = bytes.now }) passage.old passage.new (O.output writer.old) (O.output writer.new) result }
 {
-    let packet = match Packet::of(bytes) {
-        Ok(packet) => packet,
-        Err(_) => {
-            tally.left_out = tally.left_out.saturating_add(1);
-            return Ok(());
-        }
-    };
-    if let Err(stop) = passage.enter(rt, alloc, &packet) {
-        return Err(stop);
+    if let Err(TooLong) = passage.enter(bytes) {
+        tally.left_out = tally.left_out.saturating_add(1);
+        return Ok(());
     }
     tally.entered = tally.entered.saturating_add(1);
-    send_all(rt, alloc, passage, header, head.time, writer, tally)
+    send_all(alloc, passage, header, head.time, writer, tally)
 }
 
 /// Writes what the sink gives until it gives none, as records of this time.
-fn send_all<T: Handlers + Drop, O: Sink, R: Wait>(
-    rt: &R,
+fn send_all<O: Sink>(
     alloc: Global,
-    passage: &mut Passage<T>,
+    passage: &mut Passage,
     header: &Header,
     time: Time,
     writer: &mut O,
     tally: &mut Tally,
-) -> Result<(), Stop>
-    ensures { SendsAll header.now time passage.old passage.new (O.output writer.old) (O.output writer.new) result }
+) -> Result<(), Unsent>
+    ensures sends { SendsAll header.now time passage.old passage.new (O.output writer.old) (O.output writer.new) result }
+    ensures ends { passage.new ≡ went passage.old passage.new.router }
 {
-    for _ in rt.forever() {
-        let packet = match passage.sent(rt, alloc) {
-            Ok(Some(packet)) => packet,
-            Ok(None) => return Ok(()),
-            Err(stop) => return Err(stop),
+    for asked in 0..MOST_ASKED {
+        let Some(packet) = passage.sent() else {
+            return Ok(());
         };
         let Ok(record) = record_bytes(alloc, header.order, time, packet.bytes()) else {
-            return Err(Stop::NoMemory);
+            return Err(Unsent::NoMemory);
         };
-        if let Err(stop) = written(writer, &record) {
-            return Err(stop);
+        if let Err(Failed) = write_all(writer, &record) {
+            return Err(Unsent::WriteFailed);
         }
         tally.written = tally.written.saturating_add(1);
     }
-    // The history has room for so many calls only.
-    unreachable!()
-}
-
-/// Writes the bytes in full.
-fn written<O: Sink>(writer: &mut O, bytes: &[u8]) -> Result<(), Stop>
-    ensures wrote { Wrote result (O.output writer.old) (O.output writer.new) bytes.now }
-    ensures err { IfErr result (λ stop. stop ≡ Stop.WriteFailed) }
-{
-    match write_all(writer, bytes) {
-        Ok(()) => Ok(()),
-        Err(Failed) => Err(Stop::WriteFailed),
-    }
+    Err(Unsent::GivesOn)
 }

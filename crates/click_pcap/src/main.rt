@@ -3,6 +3,7 @@
 
 mod arguments;
 mod carrying;
+pub mod laws;
 mod passage;
 mod reading;
 mod status;
@@ -14,24 +15,25 @@ use arguments::options_of;
 use carrying::carry;
 use clap::error::ErrorKind;
 use click_control::{Reading, Writing};
-use click_handlers::{Table, TakesTable, with_table};
-use click_router::{ConfigFault, Handlers};
 use passage::{NoPassage, Passage};
-use status::{Status, of_config, of_stop, of_unread};
+use status::{Status, of_none, of_stop, of_unread};
 use std::io::{BufReader, Write};
 use std::process::ExitCode;
-use std::sync::Wait;
-use std::thread::Threads;
 use std::{env, io};
 use stop::Stop;
 use tally::Tally;
 
+/// What is told where the router lacks a device.
+const NO_SOURCE: &[u8] = b"error: the configuration has no source of the device --in";
+
+const NO_SINK: &[u8] = b"error: the configuration has no sink of the device --out";
+
 fn main(rt: HostRuntime) -> ExitCode {
-    ExitCode::from(program(&rt, &rt).code())
+    ExitCode::from(program(&rt).code())
 }
 
 /// Reads the command line and carries the packets on standard input.
-fn program<R: Threads + Wait + Sync>(threads: &R, rt: &HostRuntime) -> Status {
+fn program(rt: &HostRuntime) -> Status {
     let alloc = rt.alloc();
     let words = match env::args(rt) {
         Ok(words) => words,
@@ -41,18 +43,12 @@ fn program<R: Threads + Wait + Sync>(threads: &R, rt: &HostRuntime) -> Status {
         return Status::NoMemory;
     };
     match options_of(alloc, words.as_slice()) {
-        Ok(options) => {
-            let carries = Carries {
-                rt,
-                text: options.text.unwrap().as_bytes(),
-                source: options.source.unwrap().as_bytes(),
-                sink: options.sink.unwrap().as_bytes(),
-            };
-            match with_table(threads, alloc, carries) {
-                Ok(status) => status,
-                Err(_) => Status::NoMemory,
-            }
-        }
+        Ok(options) => run(
+            rt,
+            options.text.unwrap().as_bytes(),
+            options.source.unwrap().as_bytes(),
+            options.sink.unwrap().as_bytes(),
+        ),
         Err(error) if error.kind() == ErrorKind::OutOfMemory => Status::NoMemory,
         Err(error) => {
             // A failed write changes nothing of the status.
@@ -72,95 +68,40 @@ fn unread(rt: &HostRuntime, kind: io::ErrorKind) -> Status {
     status
 }
 
-/// The packets on standard input, through a router of this text.
-#[derive(Drop)]
-struct Carries<'a> {
-    rt: &'a HostRuntime,
-    text: &'a [u8],
-    source: &'a [u8],
-    sink: &'a [u8],
-}
-
-impl<'a> TakesTable for Carries<'a> {
-    type Out = Status;
-
-    fn take<R: Threads + Wait + Sync>(self, wait: &R, table: Table) -> Status {
-        run(wait, &self, table)
-    }
-}
-
 /// Opens the router of the text and carries the packets through it.
-fn run<T: Handlers + Drop, R: Wait>(wait: &R, carries: &Carries<'_>, table: T) -> Status {
-    let rt = carries.rt;
-    let opened = Passage::open(
-        wait,
-        rt.alloc(),
-        table,
-        carries.text,
-        carries.source,
-        carries.sink,
-    );
-    match opened {
-        Ok(passage) => match through(wait, rt, passage) {
+fn run(rt: &HostRuntime, text: &[u8], source: &[u8], sink: &[u8]) -> Status {
+    match Passage::open(rt.alloc(), text, source, sink) {
+        Ok(passage) => match carried(rt, passage) {
             Ok(()) => Status::Good,
             Err(stop) => of_stop(stop),
         },
-        Err(NoPassage::Config(fault)) => refuse(rt, &fault),
-        Err(NoPassage::NoMemory) => Status::NoMemory,
-    }
-}
-
-/// Carries the packets where the router has both devices.
-fn through<T: Handlers + Drop, R: Wait>(
-    wait: &R,
-    rt: &HostRuntime,
-    mut passage: Passage<T>,
-) -> Result<(), Stop> {
-    match passage.has_ends(wait, rt.alloc()) {
-        Ok(()) => carried(wait, rt, passage),
-        Err(stop) => {
-            tell_stop(rt, stop);
-            Err(stop)
+        Err(why) => {
+            refuse(rt, &why);
+            of_none(&why)
         }
     }
 }
 
-/// Carries the packets, closes the router, and tells why the run broke off and the numbers.
-fn carried<T: Handlers + Drop, R: Wait>(
-    wait: &R,
-    rt: &HostRuntime,
-    mut passage: Passage<T>,
-) -> Result<(), Stop> {
+/// Carries the packets, and tells why the run broke off and the numbers.
+fn carried(rt: &HostRuntime, mut passage: Passage) -> Result<(), Stop> {
     let mut tally = Tally::default();
-    let came = carried_from(wait, rt, &mut passage, &mut tally);
-    // What broke the run off is told first, then packets that were left in the feed.
-    let ended = came.and(passage.close(wait, rt.alloc()));
-    tell(rt, ended, &tally);
+    let ended = carried_from(rt, &mut passage, &mut tally);
+    if let Err(stop) = ended {
+        tell_stop(rt, stop);
+    }
+    tell_tally(rt, &tally);
     ended
 }
 
 /// Carries the packets on standard input to standard output.
-fn carried_from<T: Handlers + Drop, R: Wait>(
-    wait: &R,
-    rt: &HostRuntime,
-    passage: &mut Passage<T>,
-    tally: &mut Tally,
-) -> Result<(), Stop> {
+fn carried_from(rt: &HostRuntime, passage: &mut Passage, tally: &mut Tally) -> Result<(), Stop> {
     let alloc = rt.alloc();
     let Ok(input) = BufReader::new(alloc, rt.stdin()) else {
         return Err(Stop::NoMemory);
     };
     let mut reader = Reading::new(input);
     let mut writer = Writing::new(rt.stdout());
-    carry(wait, alloc, passage, &mut reader, &mut writer, tally)
-}
-
-/// Tells why a run broke off, if it did, and the numbers.
-fn tell(rt: &HostRuntime, ended: Result<(), Stop>, tally: &Tally) {
-    if let Err(stop) = ended {
-        tell_stop(rt, stop);
-    }
-    tell_tally(rt, tally);
+    carry(alloc, passage, &mut reader, &mut writer, tally)
 }
 
 /// Tells why a run broke off.
@@ -180,18 +121,18 @@ fn tell_tally(rt: &HostRuntime, tally: &Tally) {
     }
 }
 
-/// Tells why a configuration is refused; nothing where memory ran out.
-fn refuse(rt: &HostRuntime, fault: &ConfigFault) -> Status {
-    let status = of_config(fault.kind);
-    if status == Status::NoMemory {
-        return status;
-    }
+/// Tells why there is no passage; nothing where memory ran out.
+fn refuse(rt: &HostRuntime, why: &NoPassage) {
     // A failed write changes nothing of the status.
-    let _ = match fault.text(rt.alloc()) {
-        Ok(text) => told(&mut rt.stderr(), text.as_slice()),
-        Err(_) => told(&mut rt.stderr(), b"faulty configuration"),
+    let _ = match why {
+        NoPassage::Config(fault) => match fault.text(rt.alloc()) {
+            Ok(text) => told(&mut rt.stderr(), text.as_slice()),
+            Err(_) => told(&mut rt.stderr(), b"faulty configuration"),
+        },
+        NoPassage::NoSource => told(&mut rt.stderr(), NO_SOURCE),
+        NoPassage::NoSink => told(&mut rt.stderr(), NO_SINK),
+        NoPassage::NoMemory => Ok(()),
     };
-    status
 }
 
 /// Writes a line.

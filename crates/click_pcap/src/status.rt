@@ -3,8 +3,8 @@
 ghost use Rattle.std.specs.Prelude.{◌≡◌};
 ghost use Rattle.click_pcap.specs.Statuses as spec;
 
+use crate::passage::NoPassage;
 use crate::stop::Stop;
-use click_router::FaultKind;
 use std::io;
 
 /// How the program ends, for its caller.
@@ -33,13 +33,13 @@ impl Status {
     }
 }
 
-/// The status of a configuration that was refused for this fault.
-pub fn of_config(kind: FaultKind) -> Status
-    ensures { result ≡ spec.config_status kind }
+/// The status where there is no passage.
+pub fn of_none(why: &NoPassage) -> Status
+    ensures { result ≡ spec.none_status why.now }
 {
-    match kind {
-        FaultKind::NoMemory => Status::NoMemory,
-        _ => Status::Faulty,
+    match why {
+        NoPassage::Config(_) | NoPassage::NoSource | NoPassage::NoSink => Status::Faulty,
+        NoPassage::NoMemory => Status::NoMemory,
     }
 }
 
@@ -48,14 +48,12 @@ pub fn of_stop(stop: Stop) -> Status
     ensures { result ≡ spec.stop_status stop }
 {
     match stop {
-        Stop::NoSource
-        | Stop::NoSink
-        | Stop::ShortHeader { .. }
+        Stop::ShortHeader { .. }
         | Stop::Header(_)
         | Stop::Cut { .. }
         | Stop::TooLong { .. }
-        | Stop::HistoryFull
-        | Stop::FeedStuck => Status::Faulty,
+        | Stop::GivesOn { .. }
+        | Stop::Uncounted => Status::Faulty,
         Stop::NoMemory => Status::NoMemory,
         Stop::ReadFailed | Stop::WriteFailed => Status::DeviceFailed,
     }

@@ -1,17 +1,11 @@
 //! Why a run breaks off.
 
 use click_capture::{HeaderFault, TooLong};
-use click_desk::DeskFault;
-use std::alloc::AllocError;
 use thiserror::Error;
 
 /// Why a run breaks off. Packets are counted from 1, and bytes of the capture from 0; `at` is where a record begins.
 #[derive(Clone, Copy, Debug, PartialEq, Eq, Error)]
 pub enum Stop {
-    #[error("the configuration has no source of the device --in")]
-    NoSource,
-    #[error("the configuration has no sink of the device --out")]
-    NoSink,
     #[error("byte {at}: the capture ends inside its header of 24 bytes")]
     ShortHeader {
         at: u64,
@@ -29,12 +23,15 @@ pub enum Stop {
         at: u64,
         fault: TooLong,
     },
-    /// The router's history is full.
-    #[error("a run has room for 1048576 calls, and made them all")]
-    HistoryFull,
-    /// A packet was put that no poll took. No run answers it.
-    #[error("a packet was left in the feed")]
-    FeedStuck,
+    /// The router gave packet after packet.
+    #[error("packet {number}, byte {at}: the sink was asked 1048576 times after it, and gave a packet each time")]
+    GivesOn {
+        number: u64,
+        at: u64,
+    },
+    /// As many records were read as are counted. No run comes to it.
+    #[error("18446744073709551615 packets were read, and no more are counted")]
+    Uncounted,
     #[error("out of memory")]
     NoMemory,
     #[error("a read failed")]
@@ -43,27 +40,11 @@ pub enum Stop {
     WriteFailed,
 }
 
-impl From<AllocError> for Stop {
-    ghost use Rattle.std.specs.Prelude.{◌≡◌};
-    ghost use Rattle.click_pcap.specs.declared.stop.Stop.TheVariants.{NoMemory};
-
-    ghost from_gives = { λ _ e. e ≡ NoMemory };
-
-    fn from(_error: AllocError) -> Stop {
-        Stop::NoMemory
-    }
-}
-
-impl From<DeskFault> for Stop {
-    ghost use Rattle.std.specs.Prelude.{◌≡◌};
-    ghost use Rattle.click_pcap.specs.Stops.{desk_stop};
-
-    ghost from_gives = { λ fault e. e ≡ desk_stop fault };
-
-    fn from(fault: DeskFault) -> Stop {
-        match fault {
-            DeskFault::NoMemory => Stop::NoMemory,
-            DeskFault::HistoryFull => Stop::HistoryFull,
-        }
-    }
+/// Why what came of a packet was not written to its end.
+#[derive(Clone, Copy, Debug, PartialEq, Eq)]
+pub enum Unsent {
+    /// The sink gave a packet each time that it was asked.
+    GivesOn,
+    NoMemory,
+    WriteFailed,
 }

@@ -1,8 +1,10 @@
 -- How the program ends.
-use Rattle.std.specs.Prelude.{ℕ, List, Bool, true, false, Result, Ok, Err, if◌then◌else◌}
+use Rattle.std.specs.Prelude.{ℕ, List, [], ◌∷◌, ◌++◌, Bool, true, false, Result, Ok, Err, codes, if◌then◌else◌}
 use Rattle.std.specs.List.{list_any}
 use Rattle.std.specs.declared.io.ErrorKind.{ErrorKind}
 use Rattle.std.specs.declared.io.ErrorKind.TheVariants as io
+use Rattle.click_router.specs.declared.check.Check.{Check}
+use Rattle.click_router.specs.declared.check.Check.TheVariants as check
 use Rattle.click_router.specs.declared.fault.FaultKind.{FaultKind}
 use Rattle.click_router.specs.declared.fault.FaultKind.TheVariants as kind
 use Rattle.click_control.specs.declared.serving.Ended.{Ended}
@@ -49,6 +51,7 @@ abbrev pub fault_status : RunFault → Status
 fault_status (fault.Config f) = config_status f.kind
 fault_status fault.NoMemory = status.NoMemory
 fault_status (fault.Close number) = status.Refused
+fault_status fault.NoView = status.Refused
 
 -- by one of several sessions; one that could not come in is as one whose device failed
 abbrev pub session_status : SessionEnd → Status
@@ -75,6 +78,17 @@ sessions_status ends =
     else if list_any (λ e. is_refused (session_status e)) ends then status.Refused
     else if list_any (λ e. is_device (session_status e)) ends then status.DeviceFailed
     else status.Good
+
+-- what a check is told as
+abbrev pub check_word : Check → List ℕ
+check_word check.Yes = codes "Yes"
+check_word check.NoElement = codes "NoElement"
+check_word check.NoHandler = codes "NoHandler"
+check_word check.WrongWay = codes "WrongWay"
+
+-- the line that tells it
+abbrev pub check_line : List ℕ → Check → List ℕ
+check_line name answer = codes "check " ++ name ++ codes ": " ++ check_word answer ++ 10 ∷ []
 
 -- where the words of the command line cannot be read
 abbrev pub unread_status : ErrorKind → Status

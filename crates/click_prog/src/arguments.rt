@@ -9,7 +9,6 @@ ghost use Rattle.clap.specs.declared.builder.command.Command.{Command};
 ghost use Rattle.clap.specs.declared.parser.matches.ArgMatches.{ArgMatches};
 ghost use Rattle.click_prog.specs.Asked.{AsksFor, IsGiven, IsGivenOr, IsInRanges, IsMistyped, IsNoNumber, IsNumber};
 
-use clap::builder::ValueParser;
 use clap::{Arg, ArgAction, ArgMatches, Command, Error};
 use std::alloc::Global;
 
@@ -28,6 +27,8 @@ pub struct Options<'a> {
     pub workers: usize,
     /// How many rounds each worker makes.
     pub rounds: u64,
+    /// The handler that is checked at the end.
+    pub check: Option<&'a str>,
 }
 
 /// Why a command line is refused.
@@ -35,8 +36,17 @@ pub struct Options<'a> {
 pub enum Refusal<'a> {
     /// What clap has to say of it; help is asked for so too.
     Clap(Error),
-    /// This is to be a number, and is not written in decimal digits alone.
-    NoNumber(&'a str),
+    NoNumber(NoNumber<'a>),
+}
+
+/// What was given where an option takes a number from `least` to `most`, in decimal digits alone, and is none.
+#[derive(Clone, Copy, Debug, Drop, thiserror::Error)]
+#[error("{option} takes a number from {least} to {most} in decimal digits, and '{text}' is none")]
+pub struct NoNumber<'a> {
+    option: &'static str,
+    text: &'a str,
+    least: u64,
+    most: u64,
 }
 
 /// What the words of a command line ask for, or why they are refused. `-e` takes the next word whatever it is.
@@ -58,28 +68,32 @@ fn parsed<'a>(alloc: Global, words: &'a [String]) -> Result<ArgMatches<'a>, Erro
     ensures text { IfOk result (λ matches. is_some (first_value (found_of matches) (codes "text")) ≡ true) }
     ensures parsed { IfOk result (λ matches. (command : Command) × IsParsedFrom command matches) }
 {
-    let port = number(alloc, "port", "PORT", 1, 65_535).short('p').help(
+    let port = number(alloc, "port", "PORT").short('p').help(
         "Listens on this port of 127.0.0.1, not on standard input (1 to 65535)",
     );
-    let sessions = number(alloc, "sessions", "SESSIONS", 1, 64)
+    let sessions = number(alloc, "sessions", "SESSIONS")
         .short('n')
         .help("How many sessions it accepts (1 to 64; 1 if not given)");
-    let workers = number(alloc, "workers", "WORKERS", 0, 16).short('w').help(
+    let workers = number(alloc, "workers", "WORKERS").short('w').help(
         "How many workers drive the router (0 to 16; 0 if not given)",
     );
     // Its id has a first letter of its own, by which the proof tells the ids apart.
-    let rounds = number(alloc, "number", "N", 0, 1_000_000)
-        .long("rounds")
-        .help("How many rounds each worker makes (0 to 1000000; 1000 if not given)");
+    let rounds = number(alloc, "number", "N").long("rounds").help(
+        "How many rounds each worker makes (0 to 1000000; 1000 if not given)",
+    );
     let command = Command::new(alloc, "click_prog")
         .version("1")
         .about("A Click router with control sessions on standard input and output")
+        .after_help(
+            "Commands of a session, a line each: READ NAME [TEXT], WRITE NAME [TEXT], READDATA NAME BYTES, WRITEDATA NAME BYTES,\nCHECKREAD NAME, CHECKWRITE NAME, QUIT. NAME is a handler, as c.count of the element c. docs/CONTROL.md has the replies.",
+        )
         .arg(text_argument(alloc))?
         .arg(port)?
         .arg(sessions)?
         .arg(workers)?
         .arg(rounds)?
-        .arg(readonly_argument(alloc))?;
+        .arg(readonly_argument(alloc))?
+        .arg(check_argument(alloc))?;
     let matches = command.try_get_matches_from(words)?;
     Ok(matches)
 }
@@ -92,9 +106,10 @@ fn options_in<'a>(matches: &ArgMatches<'a>) -> Result<Options<'a>, Refusal<'a>>
         text: matches.get_str("text"),
         readonly: matches.get_flag("readonly"),
         port: port_of(matches)?,
-        sessions: number_of(matches, "sessions", 1, 64, 1)? as usize,
-        workers: number_of(matches, "workers", 0, 16, 0)? as usize,
-        rounds: number_of(matches, "number", 0, 1_000_000, 1_000)?,
+        sessions: number_of(matches, "sessions", "-n <SESSIONS>", 1, 64, 1)? as usize,
+        workers: number_of(matches, "workers", "-w <WORKERS>", 0, 16, 0)? as usize,
+        rounds: number_of(matches, "number", "--rounds <N>", 0, 1_000_000, 1_000)?,
+        check: matches.get_str("check"),
     })
 }
 
@@ -122,13 +137,24 @@ fn readonly_argument<'a>(alloc: Global) -> Arg<'a>
         .action(ArgAction::SetTrue)
 }
 
-/// An option that takes a number from `least` to `most`.
-fn number<'a>(alloc: Global, id: &'a str, name: &'a str, least: u64, most: u64) -> Arg<'a>
+/// The option of a handler that is checked at the end.
+fn check_argument<'a>(alloc: Global) -> Arg<'a>
+    ensures { (result.id.now ≡ codes "check") × IsPlainArg result × (result.global ≡ false) }
+{
+    Arg::new(alloc, "check")
+        .long("check")
+        .value_name("NAME")
+        .help("At the end tells on standard error whether this handler can be read")
+        .action(ArgAction::Set)
+}
+
+/// An option that takes a number. Clap takes any text, `-1` too, and which number that is, if it is one, is looked at after it (`given`).
+fn number<'a>(alloc: Global, id: &'a str, name: &'a str) -> Arg<'a>
     ensures { (result.id.now ≡ id.entry.now) × IsPlainArg result × (result.global ≡ false) }
 {
     Arg::new(alloc, id)
         .value_name(name)
-        .value_parser(ValueParser::unsigned(least, most))
+        .allow_negative_numbers(true)
         .action(ArgAction::Set)
 }
 
@@ -137,7 +163,7 @@ fn port_of<'a>(matches: &ArgMatches<'a>) -> Result<Option<u16>, Refusal<'a>>
     ensures given { IfOk result (IsGiven 1 65535 (first_value (found_of matches.now) (codes "port"))) }
     ensures mistyped { IfErr result (λ _. IsMistyped 1 65535 (first_value (found_of matches.now) (codes "port"))) }
 {
-    match given(matches, "port", 1, 65_535)? {
+    match given(matches, "port", "-p <PORT>", 1, 65_535)? {
         Some(port) => Ok(Some(port as u16)),
         None => Ok(None),
     }
@@ -147,6 +173,7 @@ fn port_of<'a>(matches: &ArgMatches<'a>) -> Result<Option<u16>, Refusal<'a>>
 fn number_of<'a>(
     matches: &ArgMatches<'a>,
     id: &str,
+    option: &'static str,
     least: u64,
     most: u64,
     usual: u64,
@@ -156,16 +183,17 @@ fn number_of<'a>(
     ensures given { IfOk result (IsGivenOr least most usual (first_value (found_of matches.now) id.now)) }
     ensures mistyped { IfErr result (λ _. IsMistyped least most (first_value (found_of matches.now) id.now)) }
 {
-    match given(matches, id, least, most)? {
+    match given(matches, id, option, least, most)? {
         Some(number) => Ok(number),
         None => Ok(usual),
     }
 }
 
-/// The number that was given, if one was.
+/// The number that was given to the option, if one was.
 fn given<'a>(
     matches: &ArgMatches<'a>,
     id: &str,
+    option: &'static str,
     least: u64,
     most: u64,
 ) -> Result<Option<u64>, Refusal<'a>>
@@ -177,11 +205,16 @@ fn given<'a>(
     };
     match number_in(text, least, most) {
         Some(number) => Ok(Some(number)),
-        None => Err(Refusal::NoNumber(text)),
+        None => Err(Refusal::NoNumber(NoNumber {
+            option,
+            text,
+            least,
+            most,
+        })),
     }
 }
 
-/// The number that a text is in decimal digits alone. Clap takes a sign too, and has refused each that is not in the range.
+/// The number of the range that a text is, in decimal digits alone.
 fn number_in(text: &str, least: u64, most: u64) -> Option<u64>
     ensures { MatchOption result (IsNoNumber least most text.now) (IsNumber least most text.now) }
 {

@@ -43,6 +43,7 @@ fn program<R: Threads + Wait + Net<Listener = TcpListener, Stream = TcpStream> +
             host,
             options.text.unwrap().as_bytes(),
             plan_of(&options),
+            options.check.map(|name| name.as_bytes()),
             options.port,
         ),
         Err(refusal) => refused(host, &refusal),
@@ -55,6 +56,7 @@ fn serve<R: Threads + Wait + Net<Listener = TcpListener, Stream = TcpStream> + S
     host: &HostRuntime,
     text: &[u8],
     plan: Plan,
+    check: Option<&[u8]>,
     port: Option<u16>,
 ) -> Status {
     let comes = match port {
@@ -68,6 +70,7 @@ fn serve<R: Threads + Wait + Net<Listener = TcpListener, Stream = TcpStream> + S
         host,
         text,
         plan,
+        check,
         comes,
     };
     match with_table(rt, host.alloc(), serving) {
@@ -94,8 +97,8 @@ fn refused(host: &HostRuntime, refusal: &Refusal) -> Status {
         Refusal::Clap(error) => {
             let _ = host.eprint(error);
         }
-        Refusal::NoNumber(text) => {
-            let _ = eprintln!(host; "click_prog: '{text}' is no number in decimal digits");
+        Refusal::NoNumber(number) => {
+            let _ = eprintln!(host; "click_prog: {number}");
         }
     }
     Status::WrongArguments

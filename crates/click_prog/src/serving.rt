@@ -5,14 +5,14 @@ ghost use Rattle.std.specs.Io.KnownBytes.{Appends};
 ghost use Rattle.std.specs.declared.net.TcpListener.{TcpListener};
 ghost use Rattle.click_prog.specs.Asked.{IsInRanges, plan_of};
 ghost use Rattle.click_prog.specs.Running.{RunsTo, RunsAlone, AllRunTo, PlanRunsTo, fresh_input, fresh_output};
-ghost use Rattle.click_prog.specs.Statuses.{fault_status};
+ghost use Rattle.click_prog.specs.Statuses.{fault_status, check_line, check_word};
 
 use crate::arguments::Options;
 use crate::doors::{Shut, Standard};
 use crate::status::{Status, of_end, of_fault, of_sessions};
 use click_control::{InputDevice, OutputDevice, Reading, Sink, Source, Writing};
 use click_handlers::{Table, TakesTable};
-use click_router::{ConfigFault, Handlers};
+use click_router::{Check, ConfigFault, Handlers};
 use click_workers::{Door, Gate, Listening, OpenGate, RunFault, run, run_workers};
 use std::alloc::Global;
 use std::io::{self, Stdin, Stdout, Write};
@@ -68,7 +68,7 @@ pub fn plan_of(options: &Options) -> Plan
 }
 
 /// Serves one session that reads from this device and writes to that one, over the router of the text. The devices come back as the
-/// session left them. Why a text is refused is written to `errors`.
+/// session left them. Why a text is refused is written to `errors`, and whether the handler that is to be checked can be read at the end.
 pub fn session<T: Handlers + Drop, I: InputDevice, O: OutputDevice, E: Write, R: Wait>(
     rt: &R,
     alloc: Global,
@@ -78,6 +78,7 @@ pub fn session<T: Handlers + Drop, I: InputDevice, O: OutputDevice, E: Write, R:
     errors: &mut E,
     text: &[u8],
     readonly: bool,
+    check: Option<&[u8]>,
 ) -> (Status, Reading<I>, Writing<O>)
     ensures { RunsTo text.now readonly (fresh_input (I.remaining input)) (⟦<Reading<I> as Source>⟧.input result.1)
         (fresh_output (O.contents output)) (⟦<Writing<O> as Sink>⟧.output result.2) result.0 }
@@ -93,11 +94,12 @@ pub fn session<T: Handlers + Drop, I: InputDevice, O: OutputDevice, E: Write, R:
         errors,
         text,
         readonly,
+        check,
     );
     (status, reader, writer)
 }
 
-/// Serves one session with this reader and this writer, over the router of the text. Why a text is refused is written to `errors`.
+/// Serves one session with this reader and this writer, over the router of the text. What is to be told is written to `errors`.
 fn serve_text<T: Handlers + Drop, S: Source, W: Sink, E: Write, R: Wait>(
     rt: &R,
     alloc: Global,
@@ -107,16 +109,20 @@ fn serve_text<T: Handlers + Drop, S: Source, W: Sink, E: Write, R: Wait>(
     errors: &mut E,
     text: &[u8],
     readonly: bool,
+    check: Option<&[u8]>,
 ) -> Status
     ensures { RunsTo text.now readonly (S.input reader.old) (S.input reader.new) (W.output writer.old) (W.output writer.new) result }
 {
-    match run(rt, alloc, table, reader, writer, text, readonly) {
-        Ok(ran) => of_end(&ran.ended),
+    match run(rt, alloc, table, reader, writer, text, readonly, check) {
+        Ok(ran) => {
+            tell_check(errors, check, ran.checked);
+            of_end(&ran.ended)
+        }
         Err(fault) => refuse(alloc, errors, &fault),
     }
 }
 
-/// Serves sessions that come in at this door, with drivers beside them, over the router of the text. Why a text is refused is written to `errors`.
+/// Serves sessions that come in at this door, with drivers beside them, over the router of the text. What is to be told is written to `errors`.
 pub fn serve_all<T: Handlers + Send + Drop, D: Door, E: Write, R: Threads + Wait + Sync>(
     rt: &R,
     alloc: Global,
@@ -125,6 +131,7 @@ pub fn serve_all<T: Handlers + Send + Drop, D: Door, E: Write, R: Threads + Wait
     errors: &mut E,
     text: &[u8],
     plan: Plan,
+    check: Option<&[u8]>,
 ) -> Status
     ensures { AllRunTo D.lets_in D.Reader.input D.Writer.output ⟦<OpenGate as Gate>⟧.gives ⟦<OpenGate as Gate>⟧.told door.now plan.readonly text.now plan.sessions
         plan.workers plan.rounds result }
@@ -136,9 +143,12 @@ pub fn serve_all<T: Handlers + Send + Drop, D: Door, E: Write, R: Threads + Wait
         readonly,
     } = plan;
     match run_workers(
-        rt, alloc, table, text, readonly, door, sessions, workers, rounds, &OpenGate,
+        rt, alloc, table, text, readonly, door, sessions, workers, rounds, &OpenGate, check,
     ) {
-        Ok(ran) => of_sessions(ran.ended.as_slice()),
+        Ok(ran) => {
+            tell_check(errors, check, ran.checked);
+            of_sessions(ran.ended.as_slice())
+        }
         Err(fault) => refuse(alloc, errors, &fault),
     }
 }
@@ -171,6 +181,37 @@ fn told<W: Write>(to: &mut W, fault: &[u8]) -> io::Result<()>
     to.write_all(b"\n")
 }
 
+/// Tells what was checked, if anything was.
+fn tell_check<E: Write>(errors: &mut E, name: Option<&[u8]>, checked: Option<Check>) {
+    if let (Some(name), Some(check)) = (name, checked) {
+        // A failed write changes nothing of the status.
+        let _ = write_check(errors, name, check);
+    }
+}
+
+/// Writes what was checked as a line.
+fn write_check<W: Write>(to: &mut W, name: &[u8], check: Check) -> io::Result<()>
+    ensures { OnOk result (Appends (W.contents to.old) (W.contents to.new) (check_line name.now check)) }
+{
+    to.write_all(b"check ")?;
+    to.write_all(name)?;
+    to.write_all(b": ")?;
+    to.write_all(word_of(check))?;
+    to.write_all(b"\n")
+}
+
+/// What a check is told as.
+fn word_of(check: Check) -> &'static [u8]
+    ensures { result.now ≡ check_word check }
+{
+    match check {
+        Check::Yes => b"Yes",
+        Check::NoElement => b"NoElement",
+        Check::NoHandler => b"NoHandler",
+        Check::WrongWay => b"WrongWay",
+    }
+}
+
 /// Where sessions come from, as a command line asks for it.
 #[derive(Drop)]
 pub enum Comes {
@@ -188,6 +229,7 @@ pub struct Serving<'a> {
     pub host: &'a HostRuntime,
     pub text: &'a [u8],
     pub plan: Plan,
+    pub check: Option<&'a [u8]>,
     pub comes: Comes,
 }
 
@@ -199,9 +241,10 @@ impl<'a> TakesTable for Serving<'a> {
             host,
             text,
             plan,
+            check,
             comes,
         } = self;
-        serve_plan(rt, host, table, text, plan, comes)
+        serve_plan(rt, host, table, text, plan, check, comes)
     }
 }
 
@@ -212,6 +255,7 @@ fn serve_plan<T: Handlers + Send + Drop, R: Threads + Wait + Sync>(
     table: T,
     text: &[u8],
     plan: Plan,
+    check: Option<&[u8]>,
     comes: Comes,
 ) -> Status
     ensures alone { comes ≡ Comes.Standard → plan.workers ≡ 0 → RunsAlone text.now plan.readonly result }
@@ -235,17 +279,18 @@ fn serve_plan<T: Handlers + Send + Drop, R: Threads + Wait + Sync>(
                 &mut errors,
                 text,
                 plan.readonly,
+                check,
             );
             status
         }
         Comes::Standard => {
             let door = Standard::new(host.stdin(), host.stdout());
-            serve_all(rt, alloc, table, &door, &mut errors, text, plan)
+            serve_all(rt, alloc, table, &door, &mut errors, text, plan, check)
         }
         Comes::Over(listener) => {
             let door = Listening::new(listener);
-            serve_all(rt, alloc, table, &door, &mut errors, text, plan)
+            serve_all(rt, alloc, table, &door, &mut errors, text, plan, check)
         }
-        Comes::Nowhere => serve_all(rt, alloc, table, &Shut, &mut errors, text, plan),
+        Comes::Nowhere => serve_all(rt, alloc, table, &Shut, &mut errors, text, plan, check),
     }
 }

@@ -16,7 +16,7 @@ pub enum Status {
     FaultyConfiguration,
     WrongArguments,
     NoMemory,
-    /// A session's turn was refused, or the desk was not closed: neither comes of a run of the program.
+    /// A session's turn was refused, the desk was not closed, or there was no view for the check: none of these comes of a run of the program.
     Refused,
     DeviceFailed,
 }
@@ -56,7 +56,7 @@ pub fn of_fault(fault: &RunFault) -> Status
     match fault {
         RunFault::Config(fault) => of_config(fault),
         RunFault::NoMemory => Status::NoMemory,
-        RunFault::Close(_) => Status::Refused,
+        RunFault::Close(_) | RunFault::NoView => Status::Refused,
     }
 }
 

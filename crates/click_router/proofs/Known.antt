@@ -12,16 +12,16 @@ use Rattle.click_text.specs.Spans.{bytes_at}
 use Rattle.click_classes.specs.declared.class.TheConstants.{CLASSES}
 use Rattle.click_classes.specs.declared.class.Class.{Class as ElementClass}
 use Rattle.click_classes.specs.Classes.{name, class_of}
-use Rattle.click_expand.specs.Scopes.{Scope, whole, inside, is_body}
-use Rattle.click_expand.specs.Classes.{Meaning, primitive, compound, class_names, meaning, class_meaning}
-use Rattle.click_expand.specs.Elements.{head_class, Local}
-use Rattle.click_expand.specs.Faults.{scope_declared, scope_placed, scope_locals}
+use Rattle.click_scopes.specs.Scopes.{Scope, whole, inside, is_body}
+use Rattle.click_scopes.specs.Classes.{Meaning, primitive, compound, class_names, meaning, class_meaning}
+use Rattle.click_scopes.specs.Elements.{head_class, Local}
+use Rattle.click_scopes.specs.Faults.{scope_declared, scope_placed, scope_locals}
 use Rattle.click_expand.specs.Parameters.{Bindings}
 use Rattle.click_expand.specs.Instances.{Leaf, AreLeaves, no_elements, leaf, branch}
 use Rattle.click_expand.specs.Flat.{flat_element, IsFlat}
 use Rattle.click_expand.specs.declared.flat.Flat.{Flat}
-use Rattle.click_expand.proofs.Contained.{contains-here, contains-behind}
-use Rattle.click_expand.proofs.Founded.{local-made}
+use Rattle.click_scopes.proofs.Contained.{contains-here, contains-behind}
+use Rattle.click_scopes.proofs.Founded.{local-made}
 use Rattle.click_router.specs.Opened.{AreKnown}
 
 -- a word is the name of one of the classes

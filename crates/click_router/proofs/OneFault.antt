@@ -8,7 +8,7 @@ use Rattle.click_classes.specs.declared.fault.ArgFault.{ArgFault}
 use Rattle.click_classes.specs.declared.state.State.{State}
 use Rattle.click_expand.specs.declared.flat.FlatElement.{FlatElement}
 use Rattle.click_expand.specs.declared.flat.Flat.{Flat}
-use Rattle.click_expand.proofs.Nesting.{spelled-nested}
+use Rattle.click_scopes.proofs.Nesting.{spelled-nested}
 use Rattle.click_expand.proofs.FlatOnce.{flat-no-fault}
 use Rattle.click_expand.proofs.FaultOnce.{spelled-fault-once}
 use Rattle.click_ports.specs.Breaches.{IsFirstBreach}

@@ -6,7 +6,7 @@ use Rattle.click_text.specs.Spelling.{longest_text, Spells}
 use Rattle.click_text.proofs.Given.{spells_once}
 use Rattle.click_expand.specs.declared.flat.Flat.{Flat}
 use Rattle.click_expand.specs.Flat.{IsFlat}
-use Rattle.click_expand.proofs.Nesting.{spelled-nested}
+use Rattle.click_scopes.proofs.Nesting.{spelled-nested}
 use Rattle.click_expand.proofs.FlatOnce.{flat-once, flat-no-fault}
 use Rattle.click_engine.specs.Plant.{Plant, IsStarted}
 use Rattle.click_ports.specs.Net.{net_of}

@@ -1,6 +1,6 @@
 -- The router's own handlers (Click manual, "Handlers": global handlers). Their names have no dot, they are read and never written, and they make nothing of the
 -- text that they are read with.
-use Rattle.std.specs.Prelude.{ℕ, List, ◌++◌, length, flat_map, codes, decimal, Option, Some, None, if◌then◌else◌}
+use Rattle.std.specs.Prelude.{ℕ, List, ◌++◌, length, flat_map, codes, decimal, Option, Some, None, Bool, ◌||◌, if◌then◌else◌}
 use Rattle.std.specs.Str.{bytes_eq}
 use Rattle.click_classes.specs.Classes.{classes, name}
 use Rattle.click_expand.specs.FlatText.{flat_text_of}
@@ -30,3 +30,9 @@ global_value s handler =
     else if bytes_eq handler (codes "classes") then Some class_list
     else if bytes_eq handler (codes "overruns") then Some (decimal s.plant.overruns)
     else None
+
+-- the names of those handlers
+abbrev pub is_global : List ℕ → Bool
+is_global handler =
+    bytes_eq handler (codes "version") || bytes_eq handler (codes "list") || bytes_eq handler (codes "config") || bytes_eq handler (codes "flatconfig")
+    || bytes_eq handler (codes "classes") || bytes_eq handler (codes "overruns")

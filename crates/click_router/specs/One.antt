@@ -1,9 +1,10 @@
 -- One call of a router: the state after it, and the reply (Click manual, "Handlers"; TOCS 2000, "Packet transfer").
-use Rattle.std.specs.Prelude.{◌≡◌, ℕ, ◌-◌, ◌^◌, min, List, [], ◌∷◌, length, Bool, true, false, Option, Some, None, is_some, option_and_then, option_map, Result, Ok, Err, position, slice_get, slice_set, nat_eq, codes, ◌&&◌, ◌||◌, if◌then◌else◌}
+use Rattle.std.specs.Prelude.{◌≡◌, ℕ, ◌-◌, ◌^◌, min, List, [], ◌∷◌, length, map, Bool, true, false, Option, Some, None, is_some, option_and_then, option_map, Result, Ok, Err, position, slice_get, slice_set, nat_eq, codes, ◌&&◌, ◌||◌, if◌then◌else◌}
 use Rattle.std.specs.List.{before_last, after_last, list_any}
 use Rattle.std.specs.Str.{bytes_eq}
 use Rattle.click_packet.specs.Packet.{Packet}
 use Rattle.click_classes.specs.State.{class}
+use Rattle.click_classes.specs.declared.class.Class.{Class}
 use Rattle.click_engine.specs.Plant.{Plant}
 use Rattle.click_engine.specs.Rounds.{arrive, transmit, transmitted, source_of, sink_of, round}
 use Rattle.click_engine.specs.declared.world.Element.{Element}
@@ -13,11 +14,16 @@ use Rattle.click_handlers.specs.Reads.{read_value}
 use Rattle.click_handlers.specs.Writes.{write_value}
 use Rattle.click_handlers.specs.declared.fault.HandlerFault.{HandlerFault}
 use Rattle.click_ports.specs.Net.{names_of}
-use Rattle.click_router.specs.Globals.{global_value}
+use Rattle.click_router.specs.Globals.{global_value, is_global}
+use Rattle.click_router.specs.Opened.{IsOpened}
 use Rattle.click_router.specs.State.{RouterState}
 use Rattle.click_router.specs.Swap.{Swaps}
 use Rattle.click_router.specs.declared.call.Call.{Call}
 use Rattle.click_router.specs.declared.call.Call.TheVariants as call
+use Rattle.click_router.specs.declared.check.Check.{Check}
+use Rattle.click_router.specs.declared.check.Check.TheVariants as answer
+use Rattle.click_router.specs.declared.check.Direction.{Direction}
+use Rattle.click_router.specs.declared.check.Direction.TheVariants as direction
 use Rattle.click_router.specs.declared.call.Refusal.{Refusal}
 use Rattle.click_router.specs.declared.call.Refusal.TheVariants as refusal
 use Rattle.click_router.specs.declared.call.Reply.{Reply}
@@ -72,24 +78,56 @@ read_global name None = reply.Refused (refusal_of (is_hotconfig name))
 abbrev pub read : RouterState → List ℕ → List ℕ → Reply
 read s name text = if list_any is_dot name then read_found (found s (before name)) (after name) text else read_global name (global_value s name)
 
+-- the names of the elements and their classes, in flat order: all that a check looks at
+pub record Listing : Type 0 where
+  pub names : List (List ℕ)
+  pub classes : List Class
+
+abbrev pub listing_of : RouterState → Listing
+listing_of s = record { names = names_of s.flat.elements; classes = map (λ (e : Element). class e.state) s.plant.elements }
+
+-- the class of the element of a name
+abbrev pub class_named : Listing → List ℕ → Option Class
+class_named l name = option_and_then (slice_get l.classes) (position (bytes_eq name) l.names)
+
+abbrev pub other_way : Direction → Direction
+other_way direction.Read = direction.Write
+other_way direction.Write = direction.Read
+
+-- whether elements of a class have a handler for one way
+abbrev pub has_handler : Direction → Class → List ℕ → Bool
+has_handler direction.Read class handler = has_read class handler
+has_handler direction.Write class handler = has_write class handler
+
+-- the router's own handlers are read, but for the one that is written
+abbrev pub has_own : Direction → List ℕ → Bool
+has_own direction.Read name = is_global name
+has_own direction.Write name = is_hotconfig name
+
+-- what a check tells, by whether there is a handler for that way, and whether there is one for the other
+abbrev pub told : Bool → Bool → Check
+told has has_other = if has then answer.Yes else if has_other then answer.WrongWay else answer.NoHandler
+
+abbrev pub check_element : Option Class → Direction → List ℕ → Check
+check_element (Some class) way handler = told (has_handler way class handler) (has_handler (other_way way) class handler)
+check_element None way handler = answer.NoElement
+
 -- whether a handler can be asked one way
-abbrev pub check : Bool → Bool → Reply
-check has has_other = if has then reply.Done else reply.Refused (refusal_of has_other)
+abbrev pub check : Listing → Direction → List ℕ → Check
+check l way name =
+    if list_any is_dot name then check_element (class_named l (before name)) way (after name)
+    else told (has_own way name) (has_own (other_way way) name)
 
-abbrev pub check_read_found : Option (ℕ × Element) → List ℕ → Reply
-check_read_found (Some found) handler = check (has_read (class found.1.state) handler) (has_write (class found.1.state) handler)
-check_read_found None handler = reply.Refused refusal.NoElement
+-- the reply to a call that checks
+abbrev pub check_reply : Check → Reply
+check_reply answer.Yes = reply.Done
+check_reply answer.NoElement = reply.Refused refusal.NoElement
+check_reply answer.NoHandler = reply.Refused refusal.NoHandler
+check_reply answer.WrongWay = reply.Refused refusal.WrongWay
 
--- the router's own handlers can be read, but for the one that is written
-abbrev pub check_read : RouterState → List ℕ → Reply
-check_read s name = if list_any is_dot name then check_read_found (found s (before name)) (after name) else check (is_some (global_value s name)) (is_hotconfig name)
-
-abbrev pub check_write_found : Option (ℕ × Element) → List ℕ → Reply
-check_write_found (Some found) handler = check (has_write (class found.1.state) handler) (has_read (class found.1.state) handler)
-check_write_found None handler = reply.Refused refusal.NoElement
-
-abbrev pub check_write : RouterState → List ℕ → Reply
-check_write s name = if list_any is_dot name then check_write_found (found s (before name)) (after name) else check (is_hotconfig name) (is_some (global_value s name))
+-- they are the names and classes of the elements of what a text opens
+abbrev pub IsListing : List ℕ → Listing → Type 0
+IsListing text l = (s : RouterState) × IsOpened text s × (l ≡ listing_of s)
 
 -- the plant with another element at a place
 abbrev pub with_element : Plant → ℕ → Element → Plant
@@ -146,8 +184,8 @@ sent s device = elim (sink_of s.plant device) [
 abbrev pub Answers : RouterState → Call → RouterState → Reply → Type 0
 Answers s (call.Read name text) t r = (t ≡ s) × (r ≡ read s name text)
 Answers s (call.Write name text) t r = elim (is_hotconfig name) [ true ↦ Swaps s text t r | false ↦ write s name text ≡ (t, r) ]
-Answers s (call.CheckRead name) t r = (t ≡ s) × (r ≡ check_read s name)
-Answers s (call.CheckWrite name) t r = (t ≡ s) × (r ≡ check_write s name)
+Answers s (call.CheckRead name) t r = (t ≡ s) × (r ≡ check_reply (check (listing_of s) direction.Read name))
+Answers s (call.CheckWrite name) t r = (t ≡ s) × (r ≡ check_reply (check (listing_of s) direction.Write name))
 Answers s (call.Swap text) t r = Swaps s text t r
 Answers s (call.Arrive device p) t r = entered s device (p ∷ []) ≡ (t, r)
 Answers s (call.Poll device ps) t r = entered s device ps ≡ (t, r)

@@ -1,4 +1,4 @@
--- Polls of devices.
+-- Calls that carry packets, under names that contracts can use.
 use Rattle.std.specs.Prelude.{ℕ, List, Bool, true, false}
 use Rattle.click_packet.specs.Packet.{Packet}
 use Rattle.click_router.specs.declared.call.Call.{Call}
@@ -19,3 +19,11 @@ is_poll (call.Transmit device) = false
 -- packets of a device enter one after another
 abbrev pub poll : List ℕ → List Packet → Call
 poll device taken = call.Poll device taken
+
+-- a packet enters from a device
+abbrev pub arrival : List ℕ → Packet → Call
+arrival device p = call.Arrive device p
+
+-- a device takes a packet
+abbrev pub transmit : List ℕ → Call
+transmit device = call.Transmit device

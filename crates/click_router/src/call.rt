@@ -4,6 +4,7 @@ ghost use Rattle.std.specs.Prelude.{◌≡◌, false};
 ghost use Rattle.click_router.specs.One.{refusal_of, refusal_holds};
 
 use crate::fault::ConfigFault;
+use crate::globals::is_hotconfig;
 use click_handlers::HandlerFault;
 use click_packet::{Packet, StoredPacket};
 use click_text::sequence::Sequence;
@@ -50,6 +51,28 @@ pub enum Call {
     Transmit {
         device: Sequence<u8>,
     },
+}
+
+impl Call {
+    ghost use Rattle.std.specs.Prelude.{◌≡◌, Some, None, MatchOption};
+    ghost use Rattle.click_router.specs.One.{swap_text};
+
+    /// The text that the call asks to take over, if it asks that.
+    pub fn swap_text(&self) -> Option<&[u8]>
+        ensures { MatchOption result (swap_text self.now ≡ None) (λ text. swap_text self.now ≡ Some text.now) }
+    {
+        match self {
+            Call::Swap { text } => Some(text.as_slice()),
+            Call::Write { name, text } => {
+                if is_hotconfig(name.as_slice()) {
+                    Some(text.as_slice())
+                } else {
+                    None
+                }
+            }
+            _ => None,
+        }
+    }
 }
 
 /// Why a call is refused.

@@ -3,7 +3,7 @@
 ghost use Rattle.std.specs.Prelude.{◌≡◌, ◌++◌, None, Some, is_some, codes, decimal, IfOk, OnOk, MatchOption};
 ghost use Rattle.click_classes.specs.Classes.{name};
 ghost use Rattle.click_router.specs.State.{RouterState};
-ghost use Rattle.click_router.specs.Globals.{global_value, element_list, lines_of};
+ghost use Rattle.click_router.specs.Globals.{global_value, is_global, element_list, lines_of};
 ghost use Rattle.click_router.specs.One.{read_global, is_hotconfig};
 ghost use Rattle.click_router.specs.kept.GlobalNames.{name_of};
 
@@ -30,7 +30,8 @@ enum GlobalHandler {
 /// The router's own handler of that name.
 #[tactic(auto, unfolding(crate::specs::Globals::global_value))]
 fn named(name: &[u8]) -> Option<GlobalHandler>
-    ensures { MatchOption result ((s : RouterState) → global_value s name.now ≡ None) (λ handler. name.now ≡ name_of handler) }
+    ensures known { is_some result ≡ is_global name.now }
+    ensures handler { MatchOption result ((s : RouterState) → global_value s name.now ≡ None) (λ handler. name.now ≡ name_of handler) }
 {
     if name == b"version".as_slice() {
         return Some(GlobalHandler::Version);
@@ -55,7 +56,8 @@ fn named(name: &[u8]) -> Option<GlobalHandler>
 
 /// Whether the router itself has a handler of that name.
 pub(crate) fn has_global(name: &[u8]) -> bool
-    ensures { (s : RouterState) → result ≡ is_some (global_value s name.now) }
+    ensures known { result ≡ is_global name.now }
+    ensures answered { (s : RouterState) → result ≡ is_some (global_value s name.now) }
 {
     named(name).is_some()
 }

@@ -9,6 +9,7 @@ ghost use Rattle.click_handlers.specs.Writes.{write_value};
 ghost use Rattle.click_router.specs.One as spec;
 
 use crate::call::{Call, Refusal, Reply, StepFault, refusal_of};
+use crate::check::{Direction, check_reply};
 use crate::globals::{has_global, is_hotconfig};
 use crate::handler_name::split;
 use crate::recorded::{Kept, Recorded};
@@ -43,7 +44,7 @@ impl Running {
     ghost use Rattle.click_router.specs.One as spec;
 
     /// The element of a name, with its place.
-    fn find(&self, name: &[u8]) -> Option<(usize, &Element)>
+    pub(crate) fn find(&self, name: &[u8]) -> Option<(usize, &Element)>
         ensures found { MatchOption result (spec.found self.now name.now ≡ None) (λ found. spec.found self.now name.now ≡ Some (found.0, found.1.now)) }
         ensures there { IfSome result (λ found. slice_get self.now.plant.elements found.0 ≡ Some found.1.now) }
     {
@@ -113,53 +114,6 @@ fn read(
     match running.find(element) {
         Some((_, found)) => read_element(table, found, alloc, handler, text),
         None => Ok(Recorded::refused(Refusal::NoElement)),
-    }
-}
-
-/// Whether a handler can be asked one way.
-fn check(has: bool, has_other: bool) -> Recorded
-    ensures { result ≡ spec.check has has_other }
-{
-    if has {
-        Recorded::of(Kept::Done)
-    } else {
-        Recorded::refused(refusal_of(has_other))
-    }
-}
-
-/// Whether a handler can be read.
-fn check_read(table: &Table, running: &Running, name: &[u8]) -> Recorded
-    ensures { result ≡ spec.check_read running.now name.now }
-{
-    let Some((element, handler)) = split(name) else {
-        return check(has_global(name), is_hotconfig(name));
-    };
-    match running.find(element) {
-        Some((_, found)) => {
-            let class = found.state.class();
-            let reads = table.read(class, handler).is_some();
-            let writes = table.write(class, handler).is_some();
-            check(reads, writes)
-        }
-        None => Recorded::refused(Refusal::NoElement),
-    }
-}
-
-/// Whether a handler can be written.
-fn check_write(table: &Table, running: &Running, name: &[u8]) -> Recorded
-    ensures { result ≡ spec.check_write running.now name.now }
-{
-    let Some((element, handler)) = split(name) else {
-        return check(is_hotconfig(name), has_global(name));
-    };
-    match running.find(element) {
-        Some((_, found)) => {
-            let class = found.state.class();
-            let reads = table.read(class, handler).is_some();
-            let writes = table.write(class, handler).is_some();
-            check(writes, reads)
-        }
-        None => Recorded::refused(Refusal::NoElement),
     }
 }
 
@@ -262,8 +216,12 @@ impl Handlers for Table {
                 }
                 write(self, running, alloc, name.as_slice(), text.as_slice())
             }
-            Call::CheckRead { name } => Ok(check_read(self, running, name.as_slice())),
-            Call::CheckWrite { name } => Ok(check_write(self, running, name.as_slice())),
+            Call::CheckRead { name } => {
+                Ok(check_reply(running.check(Direction::Read, name.as_slice())))
+            }
+            Call::CheckWrite { name } => {
+                Ok(check_reply(running.check(Direction::Write, name.as_slice())))
+            }
             Call::Swap { text } => running.swap(alloc, text.as_slice()),
             Call::Arrive { device, packet } => Ok(running.arrive(device.as_slice(), packet)),
             Call::Poll { device, taken } => Ok(running.poll(device.as_slice(), taken.as_slice())),

@@ -22,6 +22,17 @@ fn enter_all(plant: &mut Plant, device: &[u8], taken: &[StoredPacket])
 
 impl Running {
     /// A packet enters from a device.
+    pub(crate) fn enter(&mut self, device: &[u8], packet: &Packet) -> Reply
+        ensures { entered self.old device.now (packet.now ∷ []) ≡ (self.new, result) }
+    {
+        if self.plant.enter(device, packet) {
+            Reply::Entered(1)
+        } else {
+            Reply::NoDevice
+        }
+    }
+
+    /// A packet at rest enters from a device.
     pub(crate) fn arrive(&mut self, device: &[u8], packet: &StoredPacket) -> Recorded
         ensures { entered self.old device.now (packet.now ∷ []) ≡ (self.new, result) }
     {

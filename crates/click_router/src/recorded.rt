@@ -46,7 +46,8 @@ impl Model for Recorded {
 }
 
 impl Recorded {
-    pub(crate) fn of(kept: Kept) -> Recorded
+    /// Of what is kept.
+    pub fn of(kept: Kept) -> Recorded
         ensures { result ≡ reply_of kept }
     {
         Recorded { kept }
@@ -77,7 +78,7 @@ impl Recorded {
     }
 
     /// Of a swap that is refused.
-    pub(crate) fn faulty(alloc: Global, fault: ConfigFault) -> Result<Recorded, AllocError>
+    pub fn faulty(alloc: Global, fault: ConfigFault) -> Result<Recorded, AllocError>
         ensures { IfOk result (λ r. r ≡ Reply.Refused (Refusal.Config fault)) }
     {
         Ok(Recorded {

@@ -5,7 +5,7 @@ use crate::handling::Handlers;
 use crate::opening::Prepared;
 use crate::recorded::Recorded;
 use crate::running::Running;
-use click_packet::PacketRoom;
+use click_packet::{Packet, PacketRoom};
 use std::alloc::Global;
 use std::marker::Model;
 
@@ -26,11 +26,11 @@ impl<T> Model for Router<T> {
 
 impl<T> Router<T> {
     ghost use Rattle.std.specs.Prelude.{◌≡◌, ◌↔◌, IsTrue, IsSome, List, false};
-    ghost use Rattle.click_packet.specs.Packet.{Packet};
-    ghost use Rattle.click_engine.specs.Rounds.{source_of};
+    ghost use Rattle.click_packet.specs.Packet.{Packet as APacket};
+    ghost use Rattle.click_engine.specs.Rounds.{source_of, sink_of};
     ghost use Rattle.click_router.specs.State.{RouterState};
     ghost use Rattle.click_router.specs.One.{Answers};
-    ghost use Rattle.click_router.specs.Polls.{poll};
+    ghost use Rattle.click_router.specs.Polls.{poll, arrival, transmit};
     ghost use Rattle.click_router.specs.Swap.{taken};
 
     /// Begins with what was prepared, and answers handlers through the table. It takes no memory.
@@ -46,9 +46,17 @@ impl<T> Router<T> {
     /// Whether an element is where packets of the device enter. Where none is, a poll of the device is answered so.
     pub fn has_source(&self, device: &[u8]) -> bool
         ensures source { IsTrue result ↔ IsSome (source_of self.now.plant device.now) }
-        ensures polled { (packets : List Packet) (next : RouterState) (reply : Reply) → Answers self.now (poll device.now packets) next reply → (result ≡ false) ↔ (reply ≡ Reply.NoDevice) }
+        ensures polled { (packets : List APacket) (next : RouterState) (reply : Reply) → Answers self.now (poll device.now packets) next reply → (result ≡ false) ↔ (reply ≡ Reply.NoDevice) }
     {
         self.running.has_source(device)
+    }
+
+    /// Whether an element is where packets of the device leave. Where none is, a transmit of the device is answered so.
+    pub fn has_sink(&self, device: &[u8]) -> bool
+        ensures sink { IsTrue result ↔ IsSome (sink_of self.now.plant device.now) }
+        ensures asked { (next : RouterState) (reply : Reply) → Answers self.now (transmit device.now) next reply → (result ≡ false) ↔ (reply ≡ Reply.NoDevice) }
+    {
+        self.running.has_sink(device)
     }
 
     /// What was prepared takes the place of what runs: a swap to a text that opens. Like-named queues of one class keep the packets that they have room for,
@@ -57,6 +65,20 @@ impl<T> Router<T> {
         ensures { self.new ≡ taken prepared self.old }
     {
         self.running.install(prepared);
+    }
+
+    /// A packet enters from a device, as by a step of Arrive. It takes no memory.
+    pub fn enter(&mut self, device: &[u8], packet: &Packet) -> Reply
+        ensures { Answers self.old (arrival device.now packet.now) self.new result }
+    {
+        self.running.enter(device, packet)
+    }
+
+    /// A device takes a packet, as by a step of Transmit. It takes no memory.
+    pub fn transmit(&mut self, device: &[u8]) -> Reply
+        ensures { Answers self.old (transmit device.now) self.new result }
+    {
+        self.running.transmit(device)
     }
 
     /// Each task runs once, as a step of Round runs it. How many packets they gave or pulled, as its reply tells it.

@@ -27,7 +27,7 @@ impl Model for Running {
 
 impl Running {
     ghost use Rattle.std.specs.Prelude.{◌≡◌, ◌↔◌, IsTrue, IsSome};
-    ghost use Rattle.click_engine.specs.Rounds.{source_of};
+    ghost use Rattle.click_engine.specs.Rounds.{source_of, sink_of};
 
     /// Its flat form.
     pub(crate) fn flat(&self) -> &Flat
@@ -41,5 +41,12 @@ impl Running {
         ensures { IsTrue result ↔ IsSome (source_of self.now.plant device.now) }
     {
         self.plant.has_source(device)
+    }
+
+    /// Whether an element is where packets of the device leave.
+    pub(crate) fn has_sink(&self, device: &[u8]) -> bool
+        ensures { IsTrue result ↔ IsSome (sink_of self.now.plant device.now) }
+    {
+        self.plant.has_sink(device)
     }
 }

@@ -1,3 +1,4 @@
+pub mod ArgumentsOnce
 pub mod Beginnings
 pub mod Closing
 pub mod Completes

@@ -4,3 +4,4 @@ pub mod Runnings
 pub mod Driving
 pub mod Gating
 pub mod Entering
+pub mod ShownAtEnd

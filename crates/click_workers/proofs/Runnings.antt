@@ -7,13 +7,12 @@ use Rattle.std.proofs.lemmas.List.Sums.{sum_by-cons}
 use Rattle.click_router.specs.declared.fault.ConfigFault.{ConfigFault}
 use Rattle.click_desk.specs.Booklet.{Booklet}
 use Rattle.click_desk.specs.History.{Legal, entries, entry}
-use Rattle.click_desk.specs.Openings.{IsOpenFault}
+use Rattle.click_desk.specs.Openings.{IsViewFault}
 use Rattle.click_desk.specs.Closing.{IsEntered, IsEachOnce, Closes}
 use Rattle.click_desk.specs.Sittings.{DeskName, Sitting, new_seat}
 use Rattle.click_rings.specs.Feeds.{Drawing, name_of}
 use Rattle.click_workers.specs.Seats.{IsOf}
 use Rattle.click_desk.specs.declared.entry.Entry.{Entry}
-use Rattle.click_desk.specs.declared.terms.Terms.{Terms}
 use Rattle.click_desk.specs.declared.open.OpenFault.{OpenFault}
 use Rattle.click_desk.specs.declared.open.OpenFault.TheVariants as told
 use Rattle.click_workers.specs.declared.runs.RunFault.{RunFault}
@@ -34,35 +33,38 @@ no-feeds desk seats book some all closes =
 pub headline-of : (text : List ℕ) (n : ℕ) (desk : DeskName) (seats : List Sitting) (book : Booklet) → IsOpenedWith text n desk → 0 < length seats → All (IsOf desk) seats
     → IsEachOnce desk.terms.seats seats → Closes desk seats book → Headline text n book
 headline-of text n desk seats book terms some all once closes = record {
-  opening = closes.opening ∙ ap (λ (t : Terms). t.opening) terms;
+  opening = closes.opening ∙ terms.0;
   replayed = closes.replayed;
   lawful = closes.lawful;
   entered = subst (λ (l : List Sitting). All (IsEntered book.entries) l) (sym closes.seats_are) closes.entered;
-  once = subst (λ m. IsEachOnce m book.seats) (ap (λ (t : Terms). t.seats) terms)
+  once = subst (λ m. IsEachOnce m book.seats) terms.2
       (subst (λ (l : List Sitting). IsEachOnce desk.terms.seats l) (sym closes.seats_are) once);
   numbered = subst (λ (l : List Sitting). All (λ e. count_by (λ s. s.number == e.seat) l ≡ 1) book.entries) (sym closes.seats_are) closes.numbered;
   no_feeds = no-feeds desk seats book some all closes;
   terms = subst (λ (l : List Sitting). All (λ (s : Sitting). IsOpenedWith text n s.desk) l) (sym closes.seats_are)
-      (λ k s below. ap (λ (d : DeskName). d.terms) (all k s below).0 ∙ terms);
+      (λ k s below. subst (λ (d : DeskName). IsOpenedWith text n d) (sym (all k s below).0) terms);
 }
 
 -- a fault that the opening told is the text's first, also as the run tells it
-pub true-fault : (seats : ℕ) (text : List ℕ) (fault : OpenFault) (result : RunFault) → ((f : ConfigFault) → (result ≡ run.Config f) ↔ (fault ≡ told.Config f))
-    → IsOpenFault seats [] text fault → IsTrueFault text result
-true-fault seats text fault (run.Config f) same why =
-    let h : IsOpenFault seats [] text (told.Config f) = subst (λ x. IsOpenFault seats [] text x) ((same f).0 refl) why in
-    (h.1, h.2)
-true-fault seats text fault run.NoMemory same why = tt
-true-fault seats text fault (run.Close code) same why = tt
+pub true-fault : (seats views : ℕ) (text : List ℕ) (fault : OpenFault) (result : RunFault) → ((f : ConfigFault) → (result ≡ run.Config f) ↔ (fault ≡ told.Config f))
+    → IsViewFault seats [] views text fault → IsTrueFault text result
+true-fault seats views text fault (run.Config f) same why =
+    let h : IsViewFault seats [] views text (told.Config f) = subst (λ x. IsViewFault seats [] views text x) ((same f).0 refl) why in
+    (h.1.1, h.1.2)
+true-fault seats views text fault run.NoMemory same why = tt
+true-fault seats views text fault (run.Close code) same why = tt
+true-fault seats views text fault run.NoView same why = tt
 
--- so many seats and no inlets are never why
-pub late-fault : (seats : ℕ) (text : List ℕ) (fault : OpenFault) → 0 < seats → seats ≤ 256 → IsOpenFault seats [] text fault → IsLate fault
-late-fault seats text told.SeatCount some within (inl none) = absurd (omega arith)
-late-fault seats text told.SeatCount some within (inr many) = absurd (omega arith)
-late-fault seats text told.DeviceTwice some within why = absurd (true≢false why.2)
-late-fault seats text told.InletCount some within why = let h = why.3 in absurd (omega arith)
-late-fault seats text (told.Config f) some within why = tt
-late-fault seats text told.NoMemory some within why = tt
+-- so many seats, no inlets and one view at most are never why
+pub late-fault : (seats views : ℕ) (text : List ℕ) (fault : OpenFault) → 0 < seats → seats ≤ 256 → views ≤ 1 → IsViewFault seats [] views text fault → IsLate fault
+late-fault seats views text told.SeatCount some within few (inl none) = absurd (omega arith)
+late-fault seats views text told.SeatCount some within few (inr many) = absurd (omega arith)
+late-fault seats views text told.DeviceTwice some within few why = absurd (true≢false why.2)
+late-fault seats views text told.InletCount some within few why = let h = why.3 in absurd (omega arith)
+late-fault seats views text (told.Config f) some within few why = tt
+late-fault seats views text told.NoMemory some within few why = tt
+late-fault seats views text told.ViewCount some within few why = let h = why.1 in absurd (omega arith)
+late-fault seats views text told.NoView some within few why = tt
 
 is-so : (b : Bool) (n : ℕ) → n ≡ cond b 1 0 + 0 → n ≡ 1 → b ≡ true
 is-so true n e h = refl

@@ -1,11 +1,15 @@
 -- What whole runs leave.
-use Rattle.std.specs.Prelude.{◌≡◌, ◌==◌, count_by, ℕ, List, [], ◌∷◌, map, drop, Bool, Result}
+use Rattle.std.specs.Prelude.{◌≡◌, ◌==◌, count_by, ℕ, List, [], ◌∷◌, map, drop, Bool, Option, Some, None, Result}
 use Rattle.std.specs.List.{All}
 use Rattle.click_router.specs.Opened.{IsFirstFault}
+use Rattle.click_router.specs.One.{Listing, IsListing, check}
 use Rattle.click_router.specs.declared.call.Call.{Call}
 use Rattle.click_router.specs.declared.call.Call.TheVariants as call
 use Rattle.click_router.specs.declared.call.Reply.{Reply}
+use Rattle.click_router.specs.declared.check.Check.{Check}
+use Rattle.click_router.specs.declared.check.Direction.TheVariants as direction
 use Rattle.click_router.specs.declared.fault.FaultKind.TheVariants as kind
+use Rattle.click_views.specs.Showing.{IsLast}
 use Rattle.click_desk.specs.Booklet.{Booklet}
 use Rattle.click_desk.specs.History.{Legal, EachLawful, installs, entry, entries}
 use Rattle.click_desk.specs.Closing.{IsEntered, IsEachOnce}
@@ -23,7 +27,7 @@ use Rattle.click_workers.specs.declared.runs.RunFault.TheVariants as fault
 
 -- the desk was opened with this text and this many seats, and its history has room for 1,048,576 entries
 abbrev pub IsOpenedWith : List ℕ → ℕ → DeskName → Type 0
-IsOpenedWith text n desk = desk.terms ≡ record { opening = text; room = 1048576; seats = n }
+IsOpenedWith text n desk = (desk.terms.opening ≡ text) × (desk.terms.room ≡ 1048576) × (desk.terms.seats ≡ n)
 
 -- The book is a history of one thread from this text, of so many seats: made one after another from what the text opens, its calls get just their replies and
 -- lead to its router, and every configuration that was installed is lawful. It has of each seat just the calls that the seat made, in their order and with
@@ -54,22 +58,51 @@ pub record RanOver (text : List ℕ) (readonly : Bool) (book : Booklet) (had lef
   pub served : SeatServes readonly most_reads NoneRefused (new_seat seat.desk [] 0) seat had left held holds result
   pub alone : Legal text (entries_of 0 seat.calls) book.router
 
+-- whether a handler of this name can be read, in the last configuration that the book installed
+abbrev pub Answers : List ℕ → Booklet → Check → Type 0
+Answers name book answer =
+    (text : List ℕ) × (l : Listing) × IsLast (installs book.opening book.entries) text × IsListing text l × (answer ≡ check l direction.Read name)
+
+-- how many views there are for a name that may be given
+abbrev pub views_for : Option (List ℕ) → ℕ
+views_for None = 0
+views_for (Some name) = 1
+
+-- the same of a name that may be given
+abbrev pub IsChecked : Option (List ℕ) → Booklet → Option Check → Type 0
+IsChecked None book None = Unit {0}
+IsChecked None book (Some answer) = ⊥
+IsChecked (Some name) book None = ⊥
+IsChecked (Some name) book (Some answer) = Answers name book answer
+
 -- where the configuration is said to be faulty, it is, and this is its first fault
 abbrev pub IsTrueFault : List ℕ → RunFault → Type 0
 IsTrueFault text (fault.Config f) = IsFirstFault text f × (f.kind ≡ kind.NoMemory → ⊥)
 IsTrueFault text fault.NoMemory = Unit {0}
 IsTrueFault text (fault.Close code) = Unit {0}
+IsTrueFault text fault.NoView = Unit {0}
 
 -- the close was not refused
 abbrev pub IsNoClose : RunFault → Type 0
 IsNoClose (fault.Config f) = Unit {0}
 IsNoClose fault.NoMemory = Unit {0}
 IsNoClose (fault.Close code) = ⊥
+IsNoClose fault.NoView = Unit {0}
 
--- a desk was not opened, and neither its seats nor its inlets are why
+-- a view was not to be had only where one was asked for
+abbrev pub IsViewAsked : Option (List ℕ) → RunFault → Type 0
+IsViewAsked None fault.NoView = ⊥
+IsViewAsked None (fault.Config f) = Unit {0}
+IsViewAsked None fault.NoMemory = Unit {0}
+IsViewAsked None (fault.Close code) = Unit {0}
+IsViewAsked (Some name) f = Unit {0}
+
+-- a desk was not opened, and neither the number of its seats nor its inlets nor the number of its views is why
 abbrev pub IsLate : OpenFault → Type 0
 IsLate refused.SeatCount = ⊥
 IsLate refused.DeviceTwice = ⊥
 IsLate refused.InletCount = ⊥
+IsLate refused.ViewCount = ⊥
 IsLate (refused.Config f) = Unit {0}
 IsLate refused.NoMemory = Unit {0}
+IsLate refused.NoView = Unit {0}

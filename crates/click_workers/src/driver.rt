@@ -12,7 +12,7 @@ use std::sync::Wait;
 /// Makes one Round, where the gate gives the turn and the desk does not refuse it. Says whether it was made.
 fn take_turn<T: Handlers, G: Gate, R: Wait>(
     rt: &R,
-    desk: &Desk<T>,
+    desk: &Desk<T, &R>,
     seat: &mut Seat<T>,
     gate: &G,
     who: usize,
@@ -37,7 +37,7 @@ fn take_turn<T: Handlers, G: Gate, R: Wait>(
 /// Makes this many Rounds, or stops at a closed gate or at the first fault. Says whether it made them all.
 pub(crate) fn drive<T: Handlers, G: Gate, R: Wait>(
     rt: &R,
-    desk: &Desk<T>,
+    desk: &Desk<T, &R>,
     mut seat: Seat<T>,
     gate: &G,
     who: usize,

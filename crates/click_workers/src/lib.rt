@@ -1,6 +1,7 @@
 //! Sessions and drivers at one desk, each in a thread of its own.
 #![tactic(auto)]
 
+mod checking;
 mod door;
 mod driver;
 mod gate;

@@ -1,18 +1,20 @@
 //! Whole runs.
 
-ghost use Rattle.std.specs.Prelude.{◌≡◌, ◌↔◌, ◌<◌, ◌≤◌, ◌+◌, ℕ, List, [], IfOk, IfErr, OnErr, vec_len, vec_capacity};
+ghost use Rattle.std.specs.Prelude.{◌≡◌, ◌↔◌, ◌<◌, ◌≤◌, ◌+◌, ℕ, List, [], IfOk, IfErr, IfSome, OnErr, length, option_map, vec_len, vec_capacity};
+ghost use Rattle.boxcar.specs.Table.{Shelves};
 ghost use Rattle.std.specs.List.{All};
 ghost use Rattle.click_desk.specs.Sittings.{seats_below};
 ghost use Rattle.click_workers.specs.Work.{Attended, Drove, Ready, Worked};
-ghost use Rattle.click_workers.specs.Runs.{Headline, IsOpenedWith, DriversRound, RanOver, IsTrueFault, IsNoClose, IsLate};
+ghost use Rattle.click_workers.specs.Runs.{Headline, IsOpenedWith, DriversRound, RanOver, IsChecked, IsTrueFault, IsNoClose, IsViewAsked, IsLate, views_for};
 
+use crate::checking::{Asked, close_and_check};
 use crate::door::Door;
 use crate::gate::Gate;
 use crate::session::{SessionEnd, serve_alone};
 use crate::work::{Work, work_all};
 use click_control::{Ended, ServeFault, Sink, Source};
-use click_desk::{Book, Desk, OpenFault, Seat};
-use click_router::{ConfigFault, Handlers};
+use click_desk::{Book, Desk, OpenFault, Seat, View};
+use click_router::{Check, ConfigFault, Handlers};
 use std::alloc::Global;
 use std::sync::Wait;
 use std::thread::Threads;
@@ -32,73 +34,136 @@ pub enum RunFault {
     /// The close was refused: 61 where a seat is missing, 62 where its calls are not its entries. No run answers it.
     #[error("the close was refused ({0})")]
     Close(u16),
+    /// There was no view for the check.
+    #[error("no view")]
+    NoView,
 }
 
-/// What came of each session and each driver, and the book.
+/// What came of each session and each driver, the book, and what was checked once all had ended.
 #[derive(Drop)]
 pub struct AllRan<T> {
     pub ended: Vec<SessionEnd>,
     pub drivers: Vec<bool>,
     pub book: Book<T>,
+    pub checked: Option<Check>,
 }
 
-/// How a session ended, and the book.
+/// How a session ended, the book, and what was checked then.
 #[derive(Drop)]
 pub struct Ran<T> {
     pub ended: Result<Ended, ServeFault>,
     pub book: Book<T>,
+    pub checked: Option<Check>,
 }
 
-/// Why no desk was opened, where it was to have one seat at least and 256 at most, and no inlets.
+/// Why no desk was opened, where it was to have one seat at least and 256 at most, no inlets, and one view at most.
 fn fault_of(fault: OpenFault) -> RunFault
     requires { IsLate fault }
     ensures config { (f : ConfigFault) → (result ≡ RunFault.Config f) ↔ (fault ≡ OpenFault.Config f) }
     ensures never_close { IsNoClose result }
+    ensures view { (result ≡ RunFault.NoView) ↔ (fault ≡ OpenFault.NoView) }
 {
     match fault {
-        OpenFault::SeatCount | OpenFault::DeviceTwice | OpenFault::InletCount => unreachable!(),
+        OpenFault::SeatCount
+        | OpenFault::DeviceTwice
+        | OpenFault::InletCount
+        | OpenFault::ViewCount => unreachable!(),
         OpenFault::Config(fault) => RunFault::Config(fault),
         OpenFault::NoMemory => RunFault::NoMemory,
+        OpenFault::NoView => RunFault::NoView,
     }
 }
 
-/// Opens a desk with new seats and no inlets.
-fn opened<T: Drop, R: Wait>(
-    rt: &R,
+/// A desk with new seats, and what is to be checked.
+struct Opened<'a, 'b, T, R: Wait> {
+    desk: Desk<T, &'a R>,
+    seats: Vec<Seat<T>>,
+    asked: Option<Asked<'b>>,
+}
+
+/// The view of a list of one at most, with the name that it is to check.
+fn asked_of<'a>(check: Option<&'a [u8]>, mut views: Vec<View>) -> Option<Asked<'a>>
+    requires { length views.items ≡ views_for (option_map (λ n. n.now) check) }
+    ensures name { option_map (λ a. a.name.now) result ≡ option_map (λ n. n.now) check.entry }
+    ensures view { (board : Shelves) → All (λ v. v.board ≡ board) views.items → IfSome result (λ a. a.view.board ≡ board) }
+{
+    match check {
+        None => None,
+        Some(name) => match views.pop() {
+            Some(view) => Some(Asked { view, name }),
+            None => unreachable!(),
+        },
+    }
+}
+
+/// How many views answer what is to be checked.
+fn views_asked(check: Option<&[u8]>) -> usize
+    ensures { result ≡ views_for (option_map (λ n. n.now) check.entry) }
+{
+    match check {
+        None => 0,
+        Some(_) => 1,
+    }
+}
+
+/// Opens a desk with new seats and no inlets, and with a view where one is to check.
+fn open_desk<'a, 'b, T: Drop, R: Wait>(
+    rt: &'a R,
     alloc: Global,
     table: T,
     text: &[u8],
     seats: usize,
-) -> Result<(Desk<T>, Vec<Seat<T>>), RunFault>
+    check: Option<&'b [u8]>,
+) -> Result<Opened<'a, 'b, T, R>, RunFault>
     requires { (0 < seats) × (seats ≤ 256) }
-    ensures desk { IfOk result (λ r. IsOpenedWith text.now seats r.0) }
-    ensures many { IfOk result (λ r. r.0.terms.seats ≡ seats) }
-    ensures seats { IfOk result (λ r. (r.1.items ≡ seats_below r.0 [] seats) × All (λ s. s.desk ≡ r.0) r.1.items) }
+    ensures desk { IfOk result (λ o. IsOpenedWith text.now seats o.desk) }
+    ensures many { IfOk result (λ o. o.desk.terms.seats ≡ seats) }
+    ensures seats { IfOk result (λ o. (o.seats.items ≡ seats_below o.desk [] seats) × All (λ s. s.desk ≡ o.desk) o.seats.items) }
+    ensures name { IfOk result (λ o. option_map (λ a. a.name.now) o.asked ≡ option_map (λ n. n.now) check.entry) }
+    ensures view { IfOk result (λ o. IfSome o.asked (λ a. a.view.board ≡ o.desk.terms.origin)) }
     ensures config { IfErr result (IsTrueFault text.now) }
     ensures never_close { IfErr result IsNoClose }
+    ensures view_asked { IfErr result (IsViewAsked (option_map (λ n. n.now) check.entry)) }
 {
-    match Desk::open(rt, alloc, table, text, ROOM, seats, Vec::new(alloc)) {
-        Ok(opened) => Ok(opened),
+    let views = views_asked(check);
+    let inlets = Vec::new(alloc);
+    match Desk::open_with_views(rt, alloc, table, text, ROOM, seats, inlets, views) {
+        Ok((desk, seats, views)) => Ok(Opened {
+            desk,
+            seats,
+            asked: asked_of(check, views),
+        }),
         Err(refused) => Err(fault_of(refused.fault)),
     }
 }
 
+/// A desk with the work at it, and what is to be checked.
+struct Begun<'a, 'b, T, R: Wait> {
+    desk: Desk<T, &'a R>,
+    work: Work<T>,
+    asked: Option<Asked<'b>>,
+}
+
 /// Opens a desk with new seats, and takes the room for what comes of each: all that can fail of a run of many is here, before anybody is served.
-fn opened_for_all<T: Drop, R: Wait>(
-    rt: &R,
+fn begin_work<'a, 'b, T: Drop, R: Wait>(
+    rt: &'a R,
     alloc: Global,
     table: T,
     text: &[u8],
     sessions: usize,
     workers: usize,
-) -> Result<(Desk<T>, Work<T>), RunFault>
+    check: Option<&'b [u8]>,
+) -> Result<Begun<'a, 'b, T, R>, RunFault>
     requires { (0 < sessions + workers) × (sessions + workers ≤ 256) }
-    ensures desk { IfOk result (λ r. IsOpenedWith text.now (sessions + workers) r.0) }
-    ensures many { IfOk result (λ r. r.0.terms.seats ≡ vec_len r.1.seats) }
-    ensures count { IfOk result (λ r. sessions + workers ≡ vec_len r.1.seats) }
-    ensures ready { IfOk result (λ r. Ready r.0 sessions (vec_len r.1.seats) r.1.seats.items r.1.ended.items r.1.drivers.items (vec_capacity r.1.ended) (vec_capacity r.1.drivers)) }
+    ensures desk { IfOk result (λ b. IsOpenedWith text.now (sessions + workers) b.desk) }
+    ensures many { IfOk result (λ b. b.desk.terms.seats ≡ vec_len b.work.seats) }
+    ensures count { IfOk result (λ b. sessions + workers ≡ vec_len b.work.seats) }
+    ensures ready { IfOk result (λ b. Ready b.desk sessions (vec_len b.work.seats) b.work.seats.items b.work.ended.items b.work.drivers.items (vec_capacity b.work.ended) (vec_capacity b.work.drivers)) }
+    ensures name { IfOk result (λ b. option_map (λ a. a.name.now) b.asked ≡ option_map (λ n. n.now) check.entry) }
+    ensures view { IfOk result (λ b. IfSome b.asked (λ a. a.view.board ≡ b.desk.terms.origin)) }
     ensures config { IfErr result (IsTrueFault text.now) }
     ensures never_close { IfErr result IsNoClose }
+    ensures view_asked { IfErr result (IsViewAsked (option_map (λ n. n.now) check.entry)) }
 {
     let Ok(ended) = Vec::with_capacity(alloc, sessions) else {
         return Err(RunFault::NoMemory);
@@ -106,7 +171,8 @@ fn opened_for_all<T: Drop, R: Wait>(
     let Ok(drivers) = Vec::with_capacity(alloc, workers) else {
         return Err(RunFault::NoMemory);
     };
-    let (desk, seats) = match opened(rt, alloc, table, text, sessions + workers) {
+    let many = sessions + workers;
+    let Opened { desk, seats, asked } = match open_desk(rt, alloc, table, text, many, check) {
         Ok(opened) => opened,
         Err(fault) => return Err(fault),
     };
@@ -115,32 +181,37 @@ fn opened_for_all<T: Drop, R: Wait>(
         ended,
         drivers,
     };
-    Ok((desk, work))
+    Ok(Begun { desk, work, asked })
 }
 
 /// Serves one session over a desk with one new seat, and closes it. It cannot fail.
 fn serve_and_close<T: Handlers + Drop, S: Source, W: Sink, R: Wait>(
     rt: &R,
     alloc: Global,
-    desk: Desk<T>,
+    desk: Desk<T, &R>,
     mut seats: Vec<Seat<T>>,
     reader: &mut S,
     writer: &mut W,
     readonly: bool,
+    asked: Option<Asked>,
 ) -> Ran<T>
     requires many { desk.terms.seats ≡ 1 }
     requires seats { seats.items ≡ seats_below desk [] 1 }
-    ensures headline { (text : List ℕ) → IsOpenedWith text 1 desk → Headline text 1 result.book }
-    ensures served { (text : List ℕ) → IsOpenedWith text 1 desk → RanOver text readonly result.book (S.input reader.old) (S.input reader.new) (W.output writer.old) (W.output writer.new) result.ended }
+    requires view { IfSome asked (λ a. a.view.board ≡ desk.terms.origin) }
+    ensures headline { (text : List ℕ) → IsOpenedWith text 1 desk.entry → Headline text 1 result.book }
+    ensures served { (text : List ℕ) → IsOpenedWith text 1 desk.entry → RanOver text readonly result.book (S.input reader.old) (S.input reader.new) (W.output writer.old) (W.output writer.new) result.ended }
+    ensures checked { IsChecked (option_map (λ a. a.name.now) asked.entry) result.book result.checked }
 {
     let Some(seat) = seats.pop() else {
         unreachable!()
     };
     let (ended, seat) = serve_alone(rt, alloc, &desk, seat, reader, writer, readonly);
     seats.push_reserved(seat);
-    match desk.close(rt, seats) {
-        Ok(book) => Ran { ended, book },
-        Err(_) => unreachable!(),
+    let (book, checked) = close_and_check(rt, desk, seats, asked);
+    Ran {
+        ended,
+        book,
+        checked,
     }
 }
 
@@ -148,20 +219,23 @@ fn serve_and_close<T: Handlers + Drop, S: Source, W: Sink, R: Wait>(
 fn work_and_close<T: Handlers + Send + Drop, D: Door, G: Gate, R: Threads + Wait + Sync>(
     rt: &R,
     alloc: Global,
-    desk: Desk<T>,
+    desk: Desk<T, &R>,
     readonly: bool,
     door: &D,
     gate: &G,
     sessions: usize,
     rounds: u64,
     work: Work<T>,
+    asked: Option<Asked>,
 ) -> AllRan<T>
     requires many { desk.terms.seats ≡ vec_len work.seats }
     requires some { 0 < vec_len work.seats }
     requires ready { Ready desk sessions (vec_len work.seats) work.seats.items work.ended.items work.drivers.items (vec_capacity work.ended) (vec_capacity work.drivers) }
-    ensures headline { (text : List ℕ) (n : ℕ) → n ≡ vec_len work.seats → IsOpenedWith text n desk → Headline text n result.book }
+    requires view { IfSome asked (λ a. a.view.board ≡ desk.terms.origin) }
+    ensures headline { (text : List ℕ) (n : ℕ) → n ≡ vec_len work.seats → IsOpenedWith text n desk.entry → Headline text n result.book }
     ensures worked { (n : ℕ) → n ≡ vec_len work.seats → Worked (Attended D.lets_in D.Reader.input D.Writer.output G.gives G.told door.now gate.now readonly) (Drove G.gives G.told gate.now rounds)
         sessions n result.book.seats result.ended.items result.drivers.items }
+    ensures checked { IsChecked (option_map (λ a. a.name.now) asked.entry) result.book result.checked }
 {
     let Work {
         seats,
@@ -170,17 +244,17 @@ fn work_and_close<T: Handlers + Send + Drop, D: Door, G: Gate, R: Threads + Wait
     } = work_all(
         rt, alloc, &desk, readonly, door, gate, sessions, rounds, work,
     );
-    match desk.close(rt, seats) {
-        Ok(book) => AllRan {
-            ended,
-            drivers,
-            book,
-        },
-        Err(_) => unreachable!(),
+    let (book, checked) = close_and_check(rt, desk, seats, asked);
+    AllRan {
+        ended,
+        drivers,
+        book,
+        checked,
     }
 }
 
-/// Serves one session over a desk with one seat, and closes it.
+/// Serves one session over a desk with one seat, and closes it. Where a name is given, a view then learns what the seat was told and answers whether that
+/// handler can be read.
 ///
 /// The session's answers that are not refused for memory or room are those of one thread that begins with what the text opens.
 pub fn run<T: Handlers + Drop, S: Source, W: Sink, R: Wait>(
@@ -191,21 +265,25 @@ pub fn run<T: Handlers + Drop, S: Source, W: Sink, R: Wait>(
     writer: &mut W,
     text: &[u8],
     readonly: bool,
+    check: Option<&[u8]>,
 ) -> Result<Ran<T>, RunFault>
     ensures headline { IfOk result (λ ran. Headline text.now 1 ran.book) }
     ensures served { IfOk result (λ ran. RanOver text.now readonly ran.book (S.input reader.old) (S.input reader.new) (W.output writer.old) (W.output writer.new) ran.ended) }
+    ensures checked { IfOk result (λ ran. IsChecked (option_map (λ n. n.now) check.entry) ran.book ran.checked) }
     ensures untouched { OnErr result ((S.input reader.new ≡ S.input reader.old) × (W.output writer.new ≡ W.output writer.old)) }
     ensures config { IfErr result (IsTrueFault text.now) }
     ensures never_close { IfErr result IsNoClose }
+    ensures view_asked { IfErr result (IsViewAsked (option_map (λ n. n.now) check.entry)) }
 {
-    let (desk, seats) = match opened(rt, alloc, table, text, 1) {
+    let Opened { desk, seats, asked } = match open_desk(rt, alloc, table, text, 1, check) {
         Ok(opened) => opened,
         Err(fault) => return Err(fault),
     };
-    Ok(serve_and_close(rt, alloc, desk, seats, reader, writer, readonly))
+    Ok(serve_and_close(rt, alloc, desk, seats, reader, writer, readonly, asked))
 }
 
-/// Runs sessions and drivers over a desk, each in a thread of its own where one can be made, and closes the desk.
+/// Runs sessions and drivers over a desk, each in a thread of its own where one can be made, and closes the desk. Where a name is given, a view then learns what
+/// every seat was told and answers whether that handler can be read.
 ///
 /// Sessions have the numbers from 1 on, drivers those after them, and each has the seat of the number before it.
 pub fn run_workers<T: Handlers + Send + Drop, D: Door, G: Gate, R: Threads + Wait + Sync>(
@@ -219,20 +297,25 @@ pub fn run_workers<T: Handlers + Send + Drop, D: Door, G: Gate, R: Threads + Wai
     workers: usize,
     rounds: u64,
     gate: &G,
+    check: Option<&[u8]>,
 ) -> Result<AllRan<T>, RunFault>
     requires { (0 < sessions + workers) × (sessions + workers ≤ 256) }
     ensures headline { IfOk result (λ ran. Headline text.now (sessions + workers) ran.book) }
     ensures worked { IfOk result (λ ran. Worked (Attended D.lets_in D.Reader.input D.Writer.output G.gives G.told door.now gate.now readonly) (Drove G.gives G.told gate.now rounds)
         sessions (sessions + workers) ran.book.seats ran.ended.items ran.drivers.items) }
     ensures rounds { IfOk result (λ ran. DriversRound sessions ran.book) }
+    ensures checked { IfOk result (λ ran. IsChecked (option_map (λ n. n.now) check.entry) ran.book ran.checked) }
     ensures config { IfErr result (IsTrueFault text.now) }
     ensures never_close { IfErr result IsNoClose }
+    ensures view_asked { IfErr result (IsViewAsked (option_map (λ n. n.now) check.entry)) }
 {
-    let (desk, work) = match opened_for_all(rt, alloc, table, text, sessions, workers) {
-        Ok(opened) => opened,
+    let Begun { desk, work, asked } = match begin_work(
+        rt, alloc, table, text, sessions, workers, check,
+    ) {
+        Ok(begun) => begun,
         Err(fault) => return Err(fault),
     };
     Ok(work_and_close(
-        rt, alloc, desk, readonly, door, gate, sessions, rounds, work,
+        rt, alloc, desk, readonly, door, gate, sessions, rounds, work, asked,
     ))
 }

@@ -10,13 +10,13 @@ use std::marker::Model;
 use std::sync::Wait;
 
 /// A seat at the desk that it belongs to. Contracts see it as the seat.
-pub struct Seated<'a, T, R> {
+pub struct Seated<'a, T, R, B: Wait + Drop> {
     rt: &'a R,
-    desk: &'a Desk<T>,
+    desk: &'a Desk<T, B>,
     seat: Seat<T>,
 }
 
-impl<'a, T, R> Model for Seated<'a, T, R> {
+impl<'a, T, R, B: Wait + Drop> Model for Seated<'a, T, R, B> {
     ghost use Rattle.click_desk.specs.Sittings.{Sitting};
 
     ghost Value = { Sitting };
@@ -28,8 +28,8 @@ impl<'a, T, R> Model for Seated<'a, T, R> {
     ghost invariant = { λ p. p.seat.desk ≡ p.desk.now };
 }
 
-impl<'a, T, R> Seated<'a, T, R> {
-    pub fn new(rt: &'a R, desk: &'a Desk<T>, seat: Seat<T>) -> Seated<'a, T, R>
+impl<'a, T, R, B: Wait + Drop> Seated<'a, T, R, B> {
+    pub fn new(rt: &'a R, desk: &'a Desk<T, B>, seat: Seat<T>) -> Seated<'a, T, R, B>
         requires { seat.desk ≡ desk.now }
         ensures { result ≡ seat }
     {
@@ -49,7 +49,7 @@ impl<'a, T, R> Seated<'a, T, R> {
     }
 }
 
-impl<'a, T: Handlers, R: Wait> Port for Seated<'a, T, R> {
+impl<'a, T: Handlers, R: Wait, B: Wait + Drop> Port for Seated<'a, T, R, B> {
     ghost use Rattle.click_workers.specs.Seats.{SeatAsks};
 
     ghost asks = { SeatAsks };

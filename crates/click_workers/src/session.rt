@@ -18,7 +18,7 @@ use std::sync::Wait;
 pub fn serve_at<T: Handlers, S: Source, W: Sink, G: Turns, R: Wait>(
     rt: &R,
     alloc: Global,
-    desk: &Desk<T>,
+    desk: &Desk<T, &R>,
     seat: Seat<T>,
     reader: &mut S,
     writer: &mut W,
@@ -39,7 +39,7 @@ pub fn serve_at<T: Handlers, S: Source, W: Sink, G: Turns, R: Wait>(
 pub(crate) fn serve_alone<T: Handlers, S: Source, W: Sink, R: Wait>(
     rt: &R,
     alloc: Global,
-    desk: &Desk<T>,
+    desk: &Desk<T, &R>,
     seat: Seat<T>,
     reader: &mut S,
     writer: &mut W,
@@ -69,7 +69,7 @@ const MOST_READS: u32 = 4_294_967_295;
 pub(crate) fn attend<T: Handlers, D: Door, G: Gate, R: Wait>(
     rt: &R,
     alloc: Global,
-    desk: &Desk<T>,
+    desk: &Desk<T, &R>,
     seat: Seat<T>,
     readonly: bool,
     door: &D,

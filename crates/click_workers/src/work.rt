@@ -27,7 +27,11 @@ pub(crate) struct Work<T> {
 }
 
 /// Takes the last of the new seats.
-fn last_of<T>(desk: &Desk<T>, sessions: usize, work: Work<T>) -> (Option<Seat<T>>, Work<T>)
+fn last_of<T, B: Wait + Drop>(
+    desk: &Desk<T, B>,
+    sessions: usize,
+    work: Work<T>,
+) -> (Option<Seat<T>>, Work<T>)
     requires { Ready desk.now sessions (vec_len work.seats) work.seats.items work.ended.items work.drivers.items (vec_capacity work.ended) (vec_capacity work.drivers) }
     ensures some { IfSome result.0 (λ s. (s ≡ new_seat desk.now [] (vec_len result.1.seats)) × (vec_len work.seats ≡ vec_len result.1.seats + 1)) }
     ensures none { IfNone result.0 ((vec_len work.seats ≡ 0) × (vec_len result.1.seats ≡ 0)) }
@@ -52,7 +56,7 @@ fn last_of<T>(desk: &Desk<T>, sessions: usize, work: Work<T>) -> (Option<Seat<T>
 pub(crate) fn work_all<T: Handlers + Send + Drop, D: Door, G: Gate, R: Threads + Wait + Sync>(
     rt: &R,
     alloc: Global,
-    desk: &Desk<T>,
+    desk: &Desk<T, &R>,
     readonly: bool,
     door: &D,
     gate: &G,

@@ -10,7 +10,7 @@ use Rattle.click_text.specs.declared.lexer.Piece.TheVariants as piece
 use Rattle.click_text.specs.Pieces.{digit, is_word, IsPiece}
 use Rattle.click_text.proofs.Beginnings.{word_form}
 use Rattle.click_text.proofs.WordForms.{word_on}
-use Rattle.click_expand.specs.Elements.{name_with_number}
+use Rattle.click_scopes.specs.Elements.{name_with_number}
 use Rattle.click_expand.specs.Flat.{flat_name}
 
 abbrev pub IsName : List ℕ → Type 0

@@ -25,10 +25,10 @@ use Rattle.click_text.specs.Pieces.{is_word, digit}
 use Rattle.click_text.specs.Spelling.{Spells}
 use Rattle.click_expand.specs.declared.flat.Connection.{Connection}
 use Rattle.click_expand.specs.declared.flat.Flat.{Flat}
-use Rattle.click_expand.specs.Scopes.{Scope, whole, inside, statements_of, body_statements, statement_elements, is_body}
-use Rattle.click_expand.specs.Classes.{primitive, compound, class_names, meaning, class_meaning}
-use Rattle.click_expand.specs.Elements.{Placed, place, placed, Role, makes, refers, pseudo, role, made_name, head_class, Local, local, local_by, count_with, locals_from}
-use Rattle.click_expand.specs.Faults.{End, WrittenConnection, ScopeNames, written_end, scope_names, number_behind, port_number, joints_behind, joints_from, statement_joints, scope_joints, scope_locals, scope_declared, scope_placed}
+use Rattle.click_scopes.specs.Scopes.{Scope, whole, inside, statements_of, body_statements, statement_elements, is_body}
+use Rattle.click_scopes.specs.Classes.{primitive, compound, class_names, meaning, class_meaning}
+use Rattle.click_scopes.specs.Elements.{Placed, place, placed, Role, makes, refers, pseudo, role, made_name, head_class, Local, local, local_by, count_with, locals_from}
+use Rattle.click_scopes.specs.Faults.{End, WrittenConnection, ScopeNames, written_end, scope_names, number_behind, port_number, joints_behind, joints_from, statement_joints, scope_joints, scope_locals, scope_declared, scope_placed}
 use Rattle.click_expand.specs.Instances.{Leaf, AreLeaves, no_elements, leaf, branch}
 use Rattle.click_expand.specs.Connections.{Node, output_of, input_of, begin_node, end_node, Leads, by_connection, further}
 use Rattle.click_expand.specs.Flat.{flat_name, IsFlat}

@@ -9,8 +9,8 @@ use Rattle.click_text.specs.Grammar.{element, link, chain}
 use Rattle.click_text.specs.Spans.{bytes_at}
 use Rattle.click_expand.specs.declared.flat.FlatElement.{FlatElement}
 use Rattle.click_expand.specs.declared.flat.Connection.{Connection}
-use Rattle.click_expand.specs.Elements.{string_or_empty}
-use Rattle.click_expand.specs.Faults.{port_number}
+use Rattle.click_scopes.specs.Elements.{string_or_empty}
+use Rattle.click_scopes.specs.Faults.{port_number}
 use Rattle.click_expand.specs.FlatText.{name_at_place}
 
 abbrev pub element_statement : Span → Span → Option Span → Statement

@@ -9,10 +9,10 @@ use Rattle.click_text.specs.declared.syntax.Config.{Config}
 use Rattle.click_expand.specs.declared.flat.FlatElement.{FlatElement}
 use Rattle.click_expand.specs.declared.flat.Connection.{Connection}
 use Rattle.click_expand.specs.declared.flat.Flat.{Flat}
-use Rattle.click_expand.specs.Scopes.{Scope, whole}
-use Rattle.click_expand.specs.Classes.{primitive}
-use Rattle.click_expand.specs.Elements.{Local}
-use Rattle.click_expand.specs.Faults.{WrittenConnection, scope_joints, scope_locals, first_token}
+use Rattle.click_scopes.specs.Scopes.{Scope, whole}
+use Rattle.click_scopes.specs.Classes.{primitive}
+use Rattle.click_scopes.specs.Elements.{Local}
+use Rattle.click_scopes.specs.Faults.{WrittenConnection, scope_joints, scope_locals, first_token}
 use Rattle.click_expand.specs.Parameters.{IsReplaced, value_in}
 use Rattle.click_expand.specs.Instances.{Leaf, AreLeaves, no_elements, leaf, LeadsTo, to_whole, to_inner}
 use Rattle.click_expand.specs.Connections.{Node, output_of, input_of, begin_node, end_node, Leads, by_connection, further}

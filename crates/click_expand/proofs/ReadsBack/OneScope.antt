@@ -14,8 +14,8 @@ use Rattle.click_text.specs.Grammar.{element}
 use Rattle.click_text.specs.Spans.{bytes_at}
 use Rattle.click_expand.specs.declared.flat.FlatElement.{FlatElement}
 use Rattle.click_expand.specs.declared.flat.Connection.{Connection}
-use Rattle.click_expand.specs.Classes.{primitive, class_names, primitive_of, meaning}
-use Rattle.click_expand.specs.Elements.{Placed, place, placed, declared_names, has_name, refers, role, Local, local, locals_from}
+use Rattle.click_scopes.specs.Classes.{primitive, class_names, primitive_of, meaning}
+use Rattle.click_scopes.specs.Elements.{Placed, place, placed, declared_names, has_name, refers, role, Local, local, locals_from}
 use Rattle.click_expand.specs.FlatText.{name_at_place}
 use Rattle.click_expand.proofs.ReadsBack.Lines.{element_statement, connection_statement, AreLines, no_lines, first_connection, first_element}
 

@@ -14,13 +14,13 @@ use Rattle.click_text.specs.declared.syntax.Statement.TheVariants as statement
 use Rattle.click_text.specs.declared.syntax.Config.{Config}
 use Rattle.click_text.specs.Grammar.{element}
 use Rattle.click_text.specs.Spans.{bytes_at}
-use Rattle.click_expand.specs.declared.fault.FaultKind.{FaultKind}
+use Rattle.click_scopes.specs.declared.fault.WrongUse.{WrongUse}
 use Rattle.click_expand.specs.declared.flat.FlatElement.{FlatElement}
 use Rattle.click_expand.specs.declared.flat.Connection.{Connection}
-use Rattle.click_expand.specs.Scopes.{Scope, whole, inside, Stands, at_top, nested, bodies_in, is_body}
-use Rattle.click_expand.specs.Classes.{primitive, compound, meaning}
-use Rattle.click_expand.specs.Elements.{Placed, place, placed, declared_names, has_name, input_name, output_name, Role, refers, makes, role, element_meaning, Local, locals_from, made_name}
-use Rattle.click_expand.specs.Faults.{End, WrittenConnection, ScopeNames, scope_names, written_end, end_by, joints_behind, joints_from, declared_meaning, scope_placed, scope_declared, scope_joints, is_pseudo, IsWrong, unknown_name, unknown_class, unknown_declared, unknown_original, named_twice, port_declared, formal_twice, wrong_parameters, no_output, no_input, output_as_source, input_as_target, input_gap, output_gap}
+use Rattle.click_scopes.specs.Scopes.{Scope, whole, inside, Stands, at_top, nested, bodies_in, is_body}
+use Rattle.click_scopes.specs.Classes.{primitive, compound, meaning}
+use Rattle.click_scopes.specs.Elements.{Placed, place, placed, declared_names, has_name, input_name, output_name, Role, refers, makes, role, element_meaning, Local, locals_from, made_name}
+use Rattle.click_scopes.specs.Faults.{End, WrittenConnection, ScopeNames, scope_names, written_end, end_by, joints_behind, joints_from, declared_meaning, scope_placed, scope_declared, scope_joints, is_pseudo, IsWrong, unknown_name, unknown_class, unknown_declared, unknown_original, named_twice, port_declared, formal_twice, wrong_parameters, no_output, no_input, output_as_source, input_as_target, input_gap, output_gap}
 use Rattle.click_expand.specs.Flat.{AreDistinct}
 use Rattle.click_expand.specs.FlatText.{name_at_place}
 use Rattle.click_expand.proofs.ReadsBack.Lines.{element_statement, connection_statement, AreLines, no_lines, first_connection, first_element}
@@ -237,7 +237,7 @@ joined_in c all ks h s visible around j t m =
     let f : Contains (scope_joints c whole []) j = rw (i.0, i.1) at m in
     joint_at (scope_joints c whole []) j h.joints f
 
-pub one_sound : (c : Config) (all : List FlatElement) (ks : List Connection) → AreDistinct (names all) → Says c all ks → (k : FaultKind) (at : Span) → IsWrong c k at → ⊥
+pub one_sound : (c : Config) (all : List FlatElement) (ks : List Connection) → AreDistinct (names all) → Says c all ks → (k : WrongUse) (at : Span) → IsWrong c k at → ⊥
 one_sound c all ks d h k at (unknown_name s visible around front back p w t e r hd tx m) =
     made_some c.text (names all) p (made_in c all ks h s visible around front back p t e) (makes_in c all ks h s visible around p t r) m
 one_sound c all ks d h k at (unknown_class s visible around front back p w string t e hd tx m) =

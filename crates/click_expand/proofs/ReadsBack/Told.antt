@@ -17,8 +17,8 @@ use Rattle.click_text.specs.Grammar.{written_port, IsPort, no_port, bracketed, I
 use Rattle.click_expand.specs.declared.flat.FlatElement.{FlatElement}
 use Rattle.click_expand.specs.declared.flat.Connection.{Connection}
 use Rattle.click_expand.specs.declared.flat.Flat.{Flat}
-use Rattle.click_expand.specs.Elements.{string_or_empty}
-use Rattle.click_expand.specs.Faults.{port_number}
+use Rattle.click_scopes.specs.Elements.{string_or_empty}
+use Rattle.click_scopes.specs.Faults.{port_number}
 use Rattle.click_expand.specs.Flat.{is_whole}
 use Rattle.click_expand.specs.FlatText.{string_of, element_line, connection_line, out_port, in_port, name_at_place, flat_text_of}
 use Rattle.click_expand.proofs.ReadsBack.Lines.{element_statement, connection_statement, IsDeclared, IsJoined, AreLines, no_lines, first_connection, first_element}

@@ -2,9 +2,9 @@
 use Rattle.std.specs.Prelude.{ℕ, List, [], slice_get, Option, Some, None, Vec}
 use Rattle.std.specs.Global.{Global}
 use Rattle.click_text.specs.Spans.{bytes_at}
-use Rattle.click_expand.specs.declared.classes.ClassOf.{ClassOf}
-use Rattle.click_expand.specs.declared.classes.ClassOf.TheVariants as class
-use Rattle.click_expand.specs.declared.scope_elements.Local.{Local as LocalKept}
+use Rattle.click_scopes.specs.declared.classes.ClassOf.{ClassOf}
+use Rattle.click_scopes.specs.declared.classes.ClassOf.TheVariants as class
+use Rattle.click_scopes.specs.declared.scope_elements.Local.{Local as LocalKept}
 
 abbrev pub class_kept : List ℕ → Option ClassOf → List ℕ
 class_kept text (Some (class.Primitive s)) = bytes_at text s

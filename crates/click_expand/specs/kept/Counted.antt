@@ -1,9 +1,9 @@
 -- How much a scope stands for, from the sizes of the bodies before it.
 use Rattle.std.specs.Prelude.{◌≡◌, ◌+◌, ℕ, List, sum_by, min, slice_get, Option, Some, None}
 use Rattle.click_expand.specs.Flat.{most_elements, most_paths}
-use Rattle.click_expand.specs.declared.classes.ClassOf.{ClassOf}
-use Rattle.click_expand.specs.declared.classes.ClassOf.TheVariants as class
-use Rattle.click_expand.specs.declared.scope_elements.Local.{Local}
+use Rattle.click_scopes.specs.declared.classes.ClassOf.{ClassOf}
+use Rattle.click_scopes.specs.declared.classes.ClassOf.TheVariants as class
+use Rattle.click_scopes.specs.declared.scope_elements.Local.{Local}
 use Rattle.click_expand.specs.declared.sizes.Size.{Size}
 
 -- the size of a scope that may not be there

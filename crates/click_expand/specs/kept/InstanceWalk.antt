@@ -1,10 +1,10 @@
 -- What one step of the walk over the instances does.
 use Rattle.std.specs.Prelude.{◌≡◌, ◌<◌, ◌++◌, ℕ, List, [], ◌∷◌, length, slice_get, slice_set, eqb, Bool, true, false, Option, Some, None, Vec, if◌then◌else◌}
 use Rattle.std.specs.Global.{Global}
-use Rattle.click_expand.specs.declared.classes.ClassOf.{ClassOf}
-use Rattle.click_expand.specs.declared.classes.ClassOf.TheVariants as class
-use Rattle.click_expand.specs.declared.scope_elements.Local.{Local}
-use Rattle.click_expand.specs.declared.scopes.Scope.{Scope}
+use Rattle.click_scopes.specs.declared.classes.ClassOf.{ClassOf}
+use Rattle.click_scopes.specs.declared.classes.ClassOf.TheVariants as class
+use Rattle.click_scopes.specs.declared.scope_elements.Local.{Local}
+use Rattle.click_scopes.specs.declared.scopes.Scope.{Scope}
 use Rattle.click_expand.specs.declared.instances.InstancePart.{InstancePart}
 use Rattle.click_expand.specs.declared.instances.InstancePart.TheVariants as part
 use Rattle.click_expand.specs.declared.instances.Place.{Place}

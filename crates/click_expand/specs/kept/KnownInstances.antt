@@ -4,13 +4,13 @@ use Rattle.click_text.specs.declared.syntax.Span.{Span}
 use Rattle.click_text.specs.declared.syntax.Statement.{Statement}
 use Rattle.click_text.specs.declared.syntax.Config.{Config}
 use Rattle.click_text.specs.Arguments.{AreArguments}
-use Rattle.click_expand.specs.Scopes.{Scope, whole, inside, Stands}
-use Rattle.click_expand.specs.Classes.{primitive, compound}
-use Rattle.click_expand.specs.Elements.{Local}
-use Rattle.click_expand.specs.Faults.{scope_locals, first_token}
+use Rattle.click_scopes.specs.Scopes.{Scope, whole, inside, Stands}
+use Rattle.click_scopes.specs.Classes.{primitive, compound}
+use Rattle.click_scopes.specs.Elements.{Local}
+use Rattle.click_scopes.specs.Faults.{scope_locals, first_token}
 use Rattle.click_expand.specs.Parameters.{Bindings, value_in, IsReplaced}
 use Rattle.click_expand.specs.Instances.{Leaf, AreValues, LeadsTo}
-use Rattle.click_expand.specs.kept.Scoped.{table_place}
+use Rattle.click_scopes.specs.kept.Scoped.{table_place}
 use Rattle.click_expand.specs.declared.instances.InstancePart.{InstancePart}
 use Rattle.click_expand.specs.declared.instances.InstancePart.TheVariants as part
 use Rattle.click_expand.specs.declared.instances.Place.{Place}

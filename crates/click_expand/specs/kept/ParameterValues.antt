@@ -3,10 +3,10 @@ use Rattle.std.specs.Prelude.{◌≡◌, ℕ, List, [], ◌∷◌, slice_get, Op
 use Rattle.std.specs.Global.{Global}
 use Rattle.click_text.specs.declared.syntax.Span.{Span}
 use Rattle.click_text.specs.declared.syntax.Config.{Config}
-use Rattle.click_expand.specs.Elements.{string_or_empty}
+use Rattle.click_scopes.specs.Elements.{string_or_empty}
 use Rattle.click_expand.specs.Parameters.{Bindings, IsReplaced}
 use Rattle.click_expand.specs.kept.KnownInstances.{KnownInstance}
-use Rattle.click_expand.specs.declared.scope_elements.Local.{Local as LocalKept}
+use Rattle.click_scopes.specs.declared.scope_elements.Local.{Local as LocalKept}
 use Rattle.click_expand.specs.declared.parameter_values.UnreadText.{UnreadText}
 use Rattle.click_expand.specs.declared.parameter_values.Argument.{Argument}
 use Rattle.click_expand.specs.declared.parameter_values.ParameterValue.{ParameterValue}

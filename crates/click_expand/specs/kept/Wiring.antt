@@ -2,9 +2,9 @@
 use Rattle.std.specs.Prelude.{◌≡◌, ℕ, List, [], ◌∷◌, ◌++◌, map, slice_get, nat_eq, Bool, true, false, ◌&&◌, Contains, Vec, Option, Some, None}
 use Rattle.std.specs.Global.{Global}
 use Rattle.std.specs.Map.{lookup}
-use Rattle.click_expand.specs.declared.written_connections.Owner.{Owner}
-use Rattle.click_expand.specs.declared.written_connections.Owner.TheVariants as owner
-use Rattle.click_expand.specs.declared.written_connections.WrittenConnection.{WrittenConnection}
+use Rattle.click_scopes.specs.declared.written_connections.Owner.{Owner}
+use Rattle.click_scopes.specs.declared.written_connections.Owner.TheVariants as owner
+use Rattle.click_scopes.specs.declared.written_connections.WrittenConnection.{WrittenConnection}
 use Rattle.click_expand.specs.declared.instances.InstancePart.{InstancePart}
 use Rattle.click_expand.specs.declared.instances.InstancePart.TheVariants as part
 use Rattle.click_expand.specs.declared.instances.Place.{Place}

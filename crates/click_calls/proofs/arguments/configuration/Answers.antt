@@ -6,7 +6,7 @@ pub returns : goal.returns
 returns c =
     let text_id : c.action-text.result.id.now ≡ codes "text" = search rules in
     let first : (t : List ℕ) → c.action-text.result.id.now ≡ t → slice_index t 0 ≡ 116 = λ t e. rw (← e, text_id) refl in
-    let given = one_required_value c.about.result c.in_ok-command.command c.action-text.result c.in_ok-matches.matches
+    let given = one_required_value c.after_help.result c.in_ok-command.command c.action-text.result c.in_ok-matches.matches
     c.in_ok-command.ensures (search rules) (search rules) (search rules) (search rules) (search rules) (search rules) (search rules)
     (search rules) (search rules) (search rules)
     (λ e. let bad : 0 ≡ 116 = first [] e in absurd (omega arith))

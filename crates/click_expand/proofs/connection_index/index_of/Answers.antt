@@ -1,6 +1,6 @@
 use Rattle.std.proofs.Common.{refl}
-use Rattle.click_expand.specs.declared.written_connections.WrittenConnection.{WrittenConnection}
-use Rattle.click_expand.specs.declared.written_connections.Owner.TheVariants as owner
+use Rattle.click_scopes.specs.declared.written_connections.WrittenConnection.{WrittenConnection}
+use Rattle.click_scopes.specs.declared.written_connections.Owner.TheVariants as owner
 use Rattle.click_expand.proofs.Indexing.{index-more}
 use Rattle.click_expand.proofs.connection_index.index_of.Goals as goal
 

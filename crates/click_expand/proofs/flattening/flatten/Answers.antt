@@ -1,5 +1,5 @@
 use Rattle.std.proofs.Common.{◌∙◌}
-use Rattle.click_expand.proofs.Nesting.{spelled-nested}
+use Rattle.click_scopes.proofs.Nesting.{spelled-nested}
 use Rattle.click_expand.proofs.FlatOnce.{flat-once}
 use Rattle.click_expand.proofs.Answering.{refused-for-memory}
 use Rattle.click_expand.proofs.flattening.flatten.Goals as goal

@@ -1,4 +1,4 @@
-use Rattle.click_expand.proofs.Nesting.{spelled-nested}
+use Rattle.click_scopes.proofs.Nesting.{spelled-nested}
 use Rattle.click_expand.proofs.FlatOnce.{flat-once, flat-no-fault}
 use Rattle.click_expand.proofs.FaultOnce.{spelled-fault-once}
 use Rattle.click_expand.proofs.laws.flat_once.Goals as goal

@@ -3,7 +3,7 @@ use Rattle.std.specs.Prelude.{option_and_then}
 use Rattle.std.specs.List.{slice_get}
 use Rattle.std.proofs.lemmas.Option.{slice_get_past, slice_get-get_or}
 use Rattle.click_text.specs.Spans.{bytes_at}
-use Rattle.click_expand.specs.Scopes.{body_formals}
+use Rattle.click_scopes.specs.Scopes.{body_formals}
 use Rattle.click_expand.specs.Parameters.{scope_value, IsReplaced}
 use Rattle.click_expand.specs.kept.ParameterValues.{own_arguments, IsValue}
 use Rattle.click_expand.proofs.Valued.{own-value, value-beside, no-value, bytes-short, found-short}

@@ -1,6 +1,6 @@
 use Rattle.std.proofs.Common.{get_or, Contains, refl, subst, sym, arith}
 use Rattle.std.proofs.lemmas.List.{take_all}
-use Rattle.click_expand.specs.declared.written_connections.Owner.TheVariants as owner
+use Rattle.click_scopes.specs.declared.written_connections.Owner.TheVariants as owner
 use Rattle.click_expand.specs.declared.connection_index.ScopePort.{ScopePort}
 use Rattle.click_expand.specs.kept.Wiring.{scope_port}
 use Rattle.click_expand.proofs.LeadingThrough.{owned-next}

@@ -1,7 +1,7 @@
 use Rattle.std.proofs.Common.{◌≡◌, ◌<◌, ◌∙◌, List, Some, length, get_or, subst, sym, ap, arith}
 use Rattle.std.specs.List.{slice_get}
 use Rattle.std.proofs.lemmas.Option.{slice_get-get_or}
-use Rattle.click_expand.specs.declared.written_connections.Owner.TheVariants as owner
+use Rattle.click_scopes.specs.declared.written_connections.Owner.TheVariants as owner
 use Rattle.click_expand.specs.declared.connection_index.ScopePort.{ScopePort}
 use Rattle.click_expand.specs.kept.Wiring.{scope_port, ends_in}
 use Rattle.click_expand.specs.kept.Passthrough.{body_at, GoesOnBehind, LeadsThrough}

@@ -1,6 +1,6 @@
 use Rattle.std.proofs.Common.{get_or, Bool, subst, refl, ◌≡◌}
 use Rattle.indexmap.specs.IndexSet.{insert_key}
-use Rattle.click_expand.specs.declared.written_connections.Owner.TheVariants as owner
+use Rattle.click_scopes.specs.declared.written_connections.Owner.TheVariants as owner
 use Rattle.click_expand.specs.declared.connection_index.ScopePort.{ScopePort}
 use Rattle.click_expand.specs.kept.Wiring.{scope_port}
 use Rattle.click_expand.specs.kept.Passthrough.{body_at}

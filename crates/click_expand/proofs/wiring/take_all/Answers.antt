@@ -1,5 +1,5 @@
 use Rattle.std.proofs.Common.{◌∷◌, [], get_or, subst, refl}
-use Rattle.click_expand.specs.declared.written_connections.Owner.TheVariants as owner
+use Rattle.click_scopes.specs.declared.written_connections.Owner.TheVariants as owner
 use Rattle.click_expand.specs.declared.connection_index.ScopePort.{ScopePort}
 use Rattle.click_expand.specs.declared.connection_index.Reached.{Reached}
 use Rattle.click_expand.specs.kept.Wiring.{scope_port, Takes}

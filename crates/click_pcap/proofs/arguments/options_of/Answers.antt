@@ -1,4 +1,4 @@
-use Rattle.std.proofs.Common.{◌≡◌, ◌<◌, List, [], ◌∷◌, All, true, rules, arith, refl, codes}
+use Rattle.std.proofs.Common.{◌≡◌, List, [], ◌∷◌, All, true, rules, arith, refl, codes}
 use Rattle.clap.specs.declared.builder.arg.Arg.{Arg}
 use Rattle.clap.specs.Built.{FitsChain, TakesValue}
 use Rattle.clap.proofs.CallerLemmas.{required_in_chain, some_of_text}

@@ -1,7 +1,8 @@
 use Rattle.std.proofs.Common.{◌≡◌, [], List, length}
+use Rattle.click_capture.specs.Captures.{Record}
 use Rattle.click_control.specs.Peers.{Input, Output}
 use Rattle.click_pcap.specs.Ways.{Way}
-use Rattle.click_pcap.specs.Carrying.{Leg, Carried, IsNextAt}
+use Rattle.click_pcap.specs.Carrying.{Carried, IsNextAt}
 use Rattle.click_pcap.proofs.carrying.carry_each.Given as goal
 
 -- so many records were carried
@@ -10,4 +11,4 @@ invariant-loop-before g l =
     let input = g.I.Source.input in
     let output = g.O.Sink.output in
     (had : Input) (held : Output) (first : Way) → Carried l.header had (input l.initial.reader) held (output l.initial.writer) first l.initial.passage []
-    → (legs : List Leg) × Carried l.header had (input l.reader) held (output l.writer) first l.passage legs × (length legs ≡ l.before) × IsNextAt l.header legs l.at
+    → (records : List Record) × Carried l.header had (input l.reader) held (output l.writer) first l.passage records × (length records ≡ l.before) × IsNextAt l.header records l.at

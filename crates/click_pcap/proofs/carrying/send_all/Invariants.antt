@@ -1,14 +1,13 @@
-use Rattle.std.proofs.Common.{◌≡◌, List, false}
+use Rattle.std.proofs.Common.{◌≡◌, List, length, false}
 use Rattle.click_control.specs.Peers.{HasWritten}
-use Rattle.click_router.specs.declared.call.Call.{Call}
-use Rattle.click_router.specs.declared.call.Reply.{Reply}
-use Rattle.click_pcap.specs.Ways.{called, AllTransmit}
+use Rattle.click_packet.specs.Packet.{Packet}
 use Rattle.click_pcap.specs.Carrying.{told}
+use Rattle.click_pcap.specs.Ways.{went, Gave}
 use Rattle.click_pcap.proofs.carrying.send_all.Given as goal
 
--- what the transmits gave so far is written
-abbrev pub invariant-loop : goal.invariant-loop
-invariant-loop g l =
+-- what the sink gave so far is written
+abbrev pub invariant-loop-asked : goal.invariant-loop-asked
+invariant-loop-asked g l =
     let output = g.O.Sink.output in
-    (made : List (Call × Reply)) × AllTransmit l.fn.passage.sink made × (l.passage ≡ called l.fn.passage made)
-    × HasWritten (output l.fn.writer) (output l.writer) (told l.header.order l.time made) false
+    (sent : List Packet) × (length sent ≡ l.asked) × Gave l.fn.passage.sink l.fn.passage.router sent l.passage.router × (l.passage ≡ went l.fn.passage l.passage.router)
+    × HasWritten (output l.fn.writer) (output l.writer) (told l.header.order l.time sent) false

@@ -1,4 +1,4 @@
-use Rattle.std.proofs.Common.{length, ◌-◌, ◌≡◌, ◌≤◌, take}
+use Rattle.std.proofs.Common.{length, ◌-◌, ◌≤◌, take}
 use Rattle.click_pcap.specs.Reading.{Took}
 use Rattle.click_pcap.proofs.reading.fill.Given as goal
 

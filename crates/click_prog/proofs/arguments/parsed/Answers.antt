@@ -1,4 +1,4 @@
-use Rattle.std.proofs.Common.{◌≡◌, ◌<◌, ◌&&◌, ◌==◌, not, ap, subst, ℕ, Bool, zero, suc, List, [], ◌∷◌, length, All, true, false, rules, inl, inr, arith, refl, slice_index, codes, sym, ◌∙◌}
+use Rattle.std.proofs.Common.{◌≡◌, ◌<◌, ◌&&◌, ◌==◌, not, ap, subst, ℕ, Bool, zero, suc, List, [], ◌∷◌, length, All, true, false, inl, inr, arith, refl, slice_index, codes, sym, ◌∙◌}
 use Rattle.std.specs.Str.{bytes_eq}
 use Rattle.std.specs.List.{AllByRecursion, slice_index_or}
 use Rattle.std.proofs.lemmas.List.Elements.{All-nil, All-cons}
@@ -79,25 +79,27 @@ returns-clause-text c =
     let workers = c.help-workers.result in
     let rounds = c.help-rounds.result in
     let readonly = c.readonly_argument.result in
-    let xs : List Arg = text ∷ port ∷ sessions ∷ workers ∷ rounds ∷ readonly ∷ [] in
+    let check = c.check_argument.result in
+    let xs : List Arg = text ∷ port ∷ sessions ∷ workers ∷ rounds ∷ readonly ∷ check ∷ [] in
     let t : Named (codes "text") text = c.text_argument.ensures.plain in
     let p : Named (codes "port") port = rw (c.help-port.ensures, c.short.ensures) c.number.ensures in
     let s : Named (codes "sessions") sessions = rw (c.help-sessions.ensures, c.short-2.ensures) c.number-2.ensures in
     let w : Named (codes "workers") workers = rw (c.help-workers.ensures, c.short-3.ensures) c.number-3.ensures in
     let n : Named (codes "number") rounds = rw (c.help-rounds.ensures, c.long.ensures) c.number-4.ensures in
     let r : Named (codes "readonly") readonly = c.readonly_argument.ensures in
+    let k : Named (codes "check") check = c.check_argument.ensures in
     let all : All FitsChain xs = all_fit xs (
       fits text (codes "text") t refl,
       (
         fits port (codes "port") p refl,
         (
           fits sessions (codes "sessions") s refl,
-          (fits workers (codes "workers") w refl, (fits rounds (codes "number") n refl, (fits readonly (codes "readonly") r refl, tt))),
+          (fits workers (codes "workers") w refl, (fits rounds (codes "number") n refl, (fits readonly (codes "readonly") r refl, (fits check (codes "check") k refl, tt)))),
         ),
       ),
     ) in
-    let new : differ xs ≡ true = rw (t.0, p.0, s.0, w.0, n.0, r.0) refl in
-    rw (← t.0) (required_in_chain c.about.result c.in_ok-command.command xs 0 text c.in_ok-matches.matches (
+    let new : differ xs ≡ true = rw (t.0, p.0, s.0, w.0, n.0, r.0, k.0) refl in
+    rw (← t.0) (required_in_chain c.after_help.result c.in_ok-command.command xs 0 text c.in_ok-matches.matches (
       c.in_ok-arg.field-0,
       c.in_ok-arg.ensures,
       (
@@ -106,9 +108,13 @@ returns-clause-text c =
         (
           c.in_ok-arg-3.field-0,
           c.in_ok-arg-3.ensures,
-          (c.in_ok-arg-4.field-0, c.in_ok-arg-4.ensures, (c.in_ok-arg-5.field-0, c.in_ok-arg-5.ensures, (c.in_ok-command.command, c.in_ok-command.ensures, refl))),
+          (c.in_ok-arg-4.field-0, c.in_ok-arg-4.ensures, (c.in_ok-arg-5.field-0, c.in_ok-arg-5.ensures, (c.in_ok-arg-6.field-0, c.in_ok-arg-6.ensures, (c.in_ok-command.command, c.in_ok-command.ensures, refl)))),
         ),
       ),
     )
-    (search rules) (search rules) (search rules) (search rules) all (distinct xs new) (omega arith) c.text_argument.ensures.takes
-    c.in_ok-matches.ensures.parsed)
+    (ap (λ x. x.args.items) c.after_help.ensures ∙ (ap (λ x. x.args.items) c.about.ensures ∙ (ap (λ x. x.args.items) c.version.ensures ∙ c.new.ensures.empty.0)))
+    (ap (λ x. x.groups.items) c.after_help.ensures ∙ (ap (λ x. x.groups.items) c.about.ensures ∙ (ap (λ x. x.groups.items) c.version.ensures ∙ c.new.ensures.empty.1)))
+    (ap (λ x. x.has_globals) c.after_help.ensures ∙ (ap (λ x. x.has_globals) c.about.ensures ∙ (ap (λ x. x.has_globals) c.version.ensures ∙ c.new.ensures.local)))
+    (ap (λ x. x.subcommand_negates_reqs) c.after_help.ensures ∙ (ap (λ x. x.subcommand_negates_reqs) c.about.ensures
+    ∙ (ap (λ x. x.subcommand_negates_reqs) c.version.ensures ∙ c.new.ensures.negates)))
+    all (distinct xs new) (omega arith) c.text_argument.ensures.takes c.in_ok-matches.ensures.parsed)

@@ -1,4 +1,4 @@
-use Rattle.std.proofs.Common.{◌≡◌, ◌<◌, List, [], ◌∷◌, ◌++◌, length, refl, sym, ap, ◌∙◌, subst, arith}
+use Rattle.std.proofs.Common.{◌≡◌, ◌<◌, true, false, true≢false, List, [], ◌∷◌, ◌++◌, map, length, refl, sym, ap, ◌∙◌, subst, arith}
 use Rattle.std.specs.List.{All}
 use Rattle.std.proofs.lemmas.List.Elements.{All-nil, All-push}
 use Rattle.click_desk.specs.History.{Legal}
@@ -6,30 +6,45 @@ use Rattle.click_desk.specs.Sittings.{Sitting, new_seat}
 use Rattle.click_control.specs.Serving.{NoneRefused, most_reads}
 use Rattle.click_workers.specs.Seats.{SeatServes, IsOf}
 use Rattle.click_workers.specs.Runs.{entries_of}
-use Rattle.click_workers.proofs.Workings.{last-new}
+use Rattle.click_desk.specs.Closing.{IsEachOnce}
+use Rattle.click_workers.proofs.Workings.{last-new, once-of}
 use Rattle.click_workers.proofs.Runnings.{headline-of, one-seat}
 use Rattle.click_workers.proofs.runs.serve_and_close.Goals as goal
 
+pub close_and_check-book-requires-clause-once : goal.close_and_check-book-requires-clause-once
+close_and_check-book-requires-clause-once g c =
+    let desk = c.args.desk in
+    let s = c.serve_alone-ended.result.1 in
+    let seats = c.push_reserved.new.self.items in
+    let taken = last-new desk 0 1 c.args.seats.items c.pop.new.self.items c.in-Some.seat c.requires.seats c.in-Some.ensures.items refl in
+    let items : seats ≡ s ∷ [] = c.push_reserved.ensures.items ∙ ap (λ l. l ++ s ∷ []) taken.0 in
+    let number : s.number ≡ 0 = c.serve_alone-ended.ensures.same.1 ∙ ap (λ (t : Sitting). t.number) taken.1 in
+    let once : IsEachOnce 1 seats = once-of desk 1 seats (ap (λ l. map (λ (t : Sitting). t.number) l) items ∙ ap (λ n. n ∷ []) number) in
+    subst (λ m. IsEachOnce m seats) (sym c.requires.many) once
+
 pub returns-clause-headline : goal.returns-clause-headline
 returns-clause-headline g c = λ text terms.
-    let closes = c.in-Ok.ensures.ok in
+    let closes = c.close_and_check-book.ensures.closes in
     let desk = c.args.desk in
     let s = c.serve_alone-ended.result.1 in
     let taken = last-new desk 0 1 c.args.seats.items c.pop.new.self.items c.in-Some.seat c.requires.seats c.in-Some.ensures.items refl in
     let items : c.push_reserved.new.self.items ≡ s ∷ [] = c.push_reserved.ensures.items ∙ ap (λ l. l ++ s ∷ []) taken.0 in
     let of : IsOf desk s = (c.serve_alone-ended.ensures.same.0 ∙ ap (λ (t : Sitting). t.desk) taken.1, c.serve_alone-ended.ensures.same.2 ∙ ap (λ (t : Sitting). t.feeds) taken.1) in
-    headline-of text 1 desk c.push_reserved.new.self.items c.in-Ok.book terms
+    let number : s.number ≡ 0 = c.serve_alone-ended.ensures.same.1 ∙ ap (λ (t : Sitting). t.number) taken.1 in
+    let alone : IsEachOnce 1 c.push_reserved.new.self.items = once-of desk 1 c.push_reserved.new.self.items (ap (λ l. map (λ (t : Sitting). t.number) l) items ∙ ap (λ n. n ∷ []) number) in
+    let once : IsEachOnce desk.terms.seats c.push_reserved.new.self.items = subst (λ m. IsEachOnce m c.push_reserved.new.self.items) (sym c.requires.many) alone in
+    headline-of text 1 desk c.push_reserved.new.self.items c.close_and_check-book.result.0 terms
     (subst (λ (l : List Sitting). 0 < length l) (sym items) (omega arith))
-    (subst (λ (l : List Sitting). All (IsOf desk) l) (sym items) (All-push (IsOf desk) [] s (All-nil (IsOf desk)) of)) closes.0 closes.1
+    (subst (λ (l : List Sitting). All (IsOf desk) l) (sym items) (All-push (IsOf desk) [] s (All-nil (IsOf desk)) of)) once closes
 
 pub returns-clause-served : goal.returns-clause-served
 returns-clause-served g c = λ text terms.
-    let book = c.in-Ok.book in
+    let book = c.close_and_check-book.result.0 in
     let desk = c.args.desk in
     let s = c.serve_alone-ended.result.1 in
-    let closes = c.in-Ok.ensures.ok in
+    let closes = c.close_and_check-book.ensures.closes in
     let taken = last-new desk 0 1 c.args.seats.items c.pop.new.self.items c.in-Some.seat c.requires.seats c.in-Some.ensures.items refl in
-    let seats : book.seats ≡ s ∷ [] = closes.1.seats_are ∙ c.push_reserved.ensures.items ∙ ap (λ l. l ++ s ∷ []) taken.0 in
+    let seats : book.seats ≡ s ∷ [] = closes.seats_are ∙ c.push_reserved.ensures.items ∙ ap (λ l. l ++ s ∷ []) taken.0 in
     let number : s.number ≡ 0 = c.serve_alone-ended.ensures.same.1 ∙ ap (λ (t : Sitting). t.number) taken.1 in
     let same : s.desk ≡ desk = c.serve_alone-ended.ensures.same.0 ∙ ap (λ (t : Sitting). t.desk) taken.1 in
     let fresh : c.in-Some.seat ≡ new_seat s.desk [] 0 = taken.1 ∙ ap (λ d. new_seat d [] 0) (sym same) in
@@ -42,3 +57,12 @@ returns-clause-served g c = λ text terms.
           (g.W.Sink.output c.args.writer.now) (g.W.Sink.output c.serve_alone-ended.new.writer) c.serve_alone-ended.result.0) fresh c.serve_alone-ended.ensures;
       alone = subst (λ n. Legal text (entries_of n s.calls) book.router) number (one-seat text book s headline seats).1;
     }
+
+pub unreachable-requires : goal.unreachable-requires
+unreachable-requires g c =
+    let some : false ≡ true = c.in_default.ensures.variant.1 (omega (arith, c.args.seats.ok.0, ap length c.requires.seats)) in
+    true≢false (sym some)
+
+pub serve_alone-ended-requires : goal.serve_alone-ended-requires
+serve_alone-ended-requires g c =
+    ap (λ (t : Sitting). t.desk) (last-new c.args.desk 0 1 c.args.seats.items c.pop.new.self.items c.in-Some.seat c.requires.seats c.in-Some.ensures.items refl).1

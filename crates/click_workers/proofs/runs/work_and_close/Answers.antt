@@ -5,24 +5,27 @@ use Rattle.click_workers.proofs.Workings.{once-of, worked-as}
 use Rattle.click_workers.proofs.Runnings.{headline-of}
 use Rattle.click_workers.proofs.runs.work_and_close.Goals as goal
 
-pub close-requires : goal.close-requires
-close-requires g c = λ k d below. (c.work_all-seats.ensures.desk k d below).0
+pub close_and_check-book-requires-clause-seats : goal.close_and_check-book-requires-clause-seats
+close_and_check-book-requires-clause-seats g c = λ k d below. (c.work_all-seats.ensures.desk k d below).0
 
-pub unreachable-requires : goal.unreachable-requires
-unreachable-requires g c =
+pub close_and_check-book-requires-clause-once : goal.close_and_check-book-requires-clause-once
+close_and_check-book-requires-clause-once g c =
     let desk = c.args.desk in
     let seats = c.work_all-seats.result.seats.items in
     let once : IsEachOnce (vec_len c.args.work.seats) seats = once-of desk _ seats c.work_all-seats.ensures.worked.numbers in
-    c.in-Err.ensures.refused.0 (subst (λ m. IsEachOnce m seats) (sym c.requires.many) once)
+    subst (λ m. IsEachOnce m seats) (sym c.requires.many) once
 
 pub returns-clause-headline : goal.returns-clause-headline
 returns-clause-headline g c = λ text n is terms.
-    let closes = c.in-Ok.ensures.ok in
-    headline-of text n c.args.desk _ c.in-Ok.book terms
-    (omega (arith, c.work_all-seats.ensures.worked.many, c.requires.some)) c.work_all-seats.ensures.desk closes.0 closes.1
+    let closes = c.close_and_check-book.ensures.closes in
+    let seats = c.work_all-seats.result.seats.items in
+    let all : IsEachOnce (vec_len c.args.work.seats) seats = once-of c.args.desk _ seats c.work_all-seats.ensures.worked.numbers in
+    let once : IsEachOnce c.args.desk.terms.seats seats = subst (λ m. IsEachOnce m seats) (sym c.requires.many) all in
+    headline-of text n c.args.desk _ c.close_and_check-book.result.0 terms
+    (omega (arith, c.work_all-seats.ensures.worked.many, c.requires.some)) c.work_all-seats.ensures.desk once closes
 
 pub returns-clause-worked : goal.returns-clause-worked
 returns-clause-worked g c = λ n is.
     let attends = Attended g.D.Door.lets_in g.D.Reader.Source.input g.D.Writer.Sink.output g.G.Gate.gives g.G.Gate.told c.args.door.now c.args.gate.now c.args.readonly in
     let drives = Drove g.G.Gate.gives g.G.Gate.told c.args.gate.now c.args.rounds in
-    worked-as attends drives c.args.sessions _ _ _ _ _ _ _ _ is c.in-Ok.ensures.ok.1.seats_are refl refl c.work_all-seats.ensures.worked
+    worked-as attends drives c.args.sessions _ _ _ _ _ _ _ _ is c.close_and_check-book.ensures.closes.seats_are refl refl c.work_all-seats.ensures.worked

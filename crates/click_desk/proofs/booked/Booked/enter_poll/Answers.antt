@@ -3,16 +3,17 @@ use Rattle.std.proofs.lemmas.List.{with_items_is}
 use Rattle.click_packet.specs.Packet.{Packet}
 use Rattle.click_rings.specs.Feeds.{Drawing, name_of, has_feed, are_apart, drew}
 use Rattle.click_rings.proofs.Draws.{drew_feeds}
-use Rattle.click_router.specs.One.{Answers}
+use Rattle.click_router.specs.One.{Answers, swap_text}
 use Rattle.click_router.specs.Polls.{poll}
 use Rattle.click_router.specs.declared.call.Call.{Call}
 use Rattle.click_desk.specs.declared.booked.Ledger.{Ledger}
 use Rattle.click_desk.specs.declared.entry.Entry.{Entry}
 use Rattle.click_desk.specs.Charters.{charter_of}
 use Rattle.click_desk.specs.Booking.{Booking}
-use Rattle.click_desk.specs.History.{entry, Legal}
+use Rattle.click_desk.specs.History.{entry, Legal, installs}
 use Rattle.click_desk.specs.Polls.{IsPolled}
 use Rattle.click_desk.proofs.Histories.{legal_more}
+use Rattle.click_desk.proofs.Published.{published_same, quiet}
 use Rattle.click_desk.proofs.Polled.{polled_drew, drew_length, none_of}
 use Rattle.click_desk.proofs.booked.Booked.enter_poll.Goals as goal
 
@@ -64,6 +65,11 @@ invariant_of-self-2 g c =
       returns-clause-legal g c,
       returns-clause-polled g c,
       ap are_apart names ∙ subst (λ (l : Ledger). are_apart (map name_of l.taps.items) ≡ true) (sym c.deref_mut-ledger.ensures.value) c.self.invariant.2,
+      (let call : Call = c.draw-call.result.0 in
+          let e : Entry = entry c.args.number call c.in-Ok-recorded_twice.entered in
+          let items : c.push_reserved.new.self.items ≡ ledger.entries.items ++ e ∷ [] = c.push_reserved.ensures.items ∙ ap (λ l. l ++ e ∷ []) c.reserve.ensures.items in
+          let held : ledger.published ≡ record { board = ledger.terms.origin; list = installs ledger.terms.opening ledger.entries.items } = subst (λ (l : Ledger). l.published ≡ record { board = l.terms.origin; list = installs l.terms.opening l.entries.items }) (sym c.deref_mut-ledger.ensures.value) c.self.invariant.3 in
+          published_same ledger.terms.origin ledger.terms.opening ledger.entries.items c.push_reserved.new.self.items e ledger.published held items (quiet call c.in-Ok-recorded_twice.entered (ap swap_text d.1))),
     )
 
 pub returns-clause-terms : goal.returns-clause-terms

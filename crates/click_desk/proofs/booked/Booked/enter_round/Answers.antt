@@ -4,9 +4,10 @@ use Rattle.click_router.specs.One.{Answers}
 use Rattle.click_router.specs.declared.call.Call.TheVariants as call
 use Rattle.click_desk.specs.declared.booked.Ledger.{Ledger}
 use Rattle.click_desk.specs.declared.entry.Entry.{Entry}
-use Rattle.click_desk.specs.History.{entry, Legal}
+use Rattle.click_desk.specs.History.{entry, Legal, installs}
 use Rattle.click_desk.specs.Polls.{IsPolled}
 use Rattle.click_desk.proofs.Histories.{legal_more}
+use Rattle.click_desk.proofs.Published.{published_same, quiet}
 use Rattle.click_desk.proofs.Polled.{polled_same}
 use Rattle.click_desk.proofs.booked.Booked.enter_round.Goals as goal
 
@@ -32,8 +33,13 @@ returns-clause-polled g c =
     subst (λ (l : List Entry). IsPolled l ledger.taps.items) (sym items) (polled_same ledger.entries.items e ledger.taps.items refl drawn)
 
 pub invariant_of-self-2 : goal.invariant_of-self-2
-invariant_of-self-2 g c = (
-  returns-clause-legal g c,
-  returns-clause-polled g c,
-  subst (λ (l : Ledger). are_apart (map name_of l.taps.items) ≡ true) (sym c.deref_mut-ledger.ensures.value) c.self.invariant.2,
-)
+invariant_of-self-2 g c =
+    let ledger : Ledger = c.deref_mut-ledger.result.now in
+    let e : Entry = entry c.args.number call.Round c.worked.result in
+    let items : c.push_reserved.new.self.items ≡ ledger.entries.items ++ e ∷ [] = c.push_reserved.ensures.items ∙ ap (λ l. l ++ e ∷ []) c.reserve.ensures.items in
+    let held : ledger.published ≡ record { board = ledger.terms.origin; list = installs ledger.terms.opening ledger.entries.items } = subst (λ (l : Ledger). l.published ≡ record { board = l.terms.origin; list = installs l.terms.opening l.entries.items }) (sym c.deref_mut-ledger.ensures.value) c.self.invariant.3 in (
+      returns-clause-legal g c,
+      returns-clause-polled g c,
+      subst (λ (l : Ledger). are_apart (map name_of l.taps.items) ≡ true) (sym c.deref_mut-ledger.ensures.value) c.self.invariant.2,
+      published_same ledger.terms.origin ledger.terms.opening ledger.entries.items c.push_reserved.new.self.items e ledger.published held items (quiet call.Round c.worked.result refl),
+    )

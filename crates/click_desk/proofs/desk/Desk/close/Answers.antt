@@ -4,7 +4,8 @@ use Rattle.std.proofs.lemmas.List.{with_items_is}
 use Rattle.click_router.specs.State.{RouterState}
 use Rattle.click_desk.specs.declared.entry.Entry.{Entry}
 use Rattle.click_desk.specs.declared.terms.Terms.{Terms}
-use Rattle.click_desk.specs.History.{Legal, entries}
+use Rattle.click_desk.specs.History.{Legal, entries, installs}
+use Rattle.click_views.specs.Showing.{Showing}
 use Rattle.click_rings.specs.Feeds.{Drawing, name_of, are_apart}
 use Rattle.click_desk.specs.declared.charter.Charter.{Charter}
 use Rattle.click_desk.specs.Charters.{charter_of, terms_of}
@@ -69,13 +70,16 @@ returns-clause-ok g c =
         numbered = each_seated c.args.self.terms.seats c.args.seats.items r.1.items once none;
         feeds = λ s. fed s ∙ ap (λ (y : Charter). y.feeds) charter;
         polled = subst (λ (y : List Entry × List Drawing). IsPolled y.0 y.1) (λ i. (sym p.0 i, sym p.2 i)) c.into_parts-terms.ensures.polled;
+        origin = ap (λ (s : Showing (List ℕ)). s.board) c.into_parts-terms.ensures.published ∙ ap (λ (y : Terms). y.origin) terms;
       },
     )
 
 pub invariant_of-result : goal.invariant_of-result
 invariant_of-result g c =
     let p = c.into_parts-terms.ensures.parts in
-    let r = c.into_parts-terms.result in (
+    let r = c.into_parts-terms.result in
+    let opening : r.0.opening ≡ c.take_last-booked.result.terms.opening = ap (λ (y : Charter). y.opening) (sym c.into_parts-terms.ensures.terms) in (
       subst (λ (y : List Entry × List Drawing). IsPolled y.0 y.1) (λ i. (sym p.0 i, sym p.2 i)) c.into_parts-terms.ensures.polled,
       ap (λ (l : List Drawing). are_apart (map name_of l)) p.2 ∙ c.into_parts-terms.ensures.apart,
+      ap (λ (s : Showing (List ℕ)). s.list) c.into_parts-terms.ensures.published ∙ (λ i. installs (sym opening i) (sym p.0 i)),
     )

@@ -1,4 +1,6 @@
-use Rattle.std.proofs.Common.{inl}
+use Rattle.std.proofs.Common.{inl, ap, sym, ◌∙◌}
+use Rattle.click_desk.specs.History.{installs}
+use Rattle.click_desk.specs.declared.view.View.{View}
 use Rattle.click_desk.proofs.Calls.{as_call, may_give, sound, polls, refuses}
 use Rattle.click_desk.proofs.desk.Desk.poll.Goals as goal
 
@@ -17,7 +19,9 @@ invariant_of-seat g c =
     let calls2 = c.enter_poll-result.new.calls.items in
     let some = as_call c.take-booked.result c.enter_poll-result.new.self c.seat.inside.number calls calls2 c.args.device.now c.args.most c.enter_poll-result.result (record { terms = e.terms; legal = e.legal; ok = e.ok; err = e.err; full = e.full }) in
     let s = sound _ c.seat.inside.number calls _ _ _ _ _ calls2 some.0 c.enter_poll-result.result c.seat.invariant.1 c.seat.invariant.2.made c.take-booked.ensures.taken some.1 c.give.ensures.given in
-    (c.give.ensures.queue.1, s.0, s.1)
+    let terms = sym (ap (λ (v : View). v.terms) c.give.ensures.given) in
+    let seen = sym (ap (λ (v : View). v.seen) c.give.ensures.given) in
+    (c.give.ensures.queue.1, s.0, s.1, c.notice-notice.ensures ∙ (λ i. record { board = (terms i).origin; list = installs (terms i).opening (seen i) }))
 
 pub returns-clause-ok : goal.returns-clause-ok
 returns-clause-ok g c =

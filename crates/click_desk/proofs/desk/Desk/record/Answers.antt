@@ -1,4 +1,6 @@
-use Rattle.std.proofs.Common.{inl}
+use Rattle.std.proofs.Common.{inl, ap, sym, ◌∙◌}
+use Rattle.click_desk.specs.History.{installs}
+use Rattle.click_desk.specs.declared.view.View.{View}
 use Rattle.click_desk.proofs.Calls.{may_give, sound, answers, refuses}
 use Rattle.click_desk.proofs.desk.Desk.record.Goals as goal
 
@@ -13,7 +15,9 @@ invariant_of-seat g c =
     let e = c.enter-result.ensures in
     let s = sound _ c.seat.inside.number c.seat.inside.calls.items _ _ _ _ _ c.enter-result.new.calls.items c.args.call c.enter-result.result c.seat.invariant.1 c.seat.invariant.2.made c.take-booked.ensures.taken
     (record { terms = e.terms; legal = e.legal; ok = e.ok; err = e.err; full = e.full }) c.give.ensures.given in
-    (c.give.ensures.queue.1, s.0, s.1)
+    let terms = sym (ap (λ (v : View). v.terms) c.give.ensures.given) in
+    let seen = sym (ap (λ (v : View). v.seen) c.give.ensures.given) in
+    (c.give.ensures.queue.1, s.0, s.1, c.notice.ensures ∙ (λ i. record { board = (terms i).origin; list = installs (terms i).opening (seen i) }))
 
 pub returns-clause-ok : goal.returns-clause-ok
 returns-clause-ok g c =

@@ -1,6 +1,0 @@
-use Rattle.click_expand.specs.kept.NameFaults.{IsWrongEntry}
-use Rattle.click_expand.specs.kept.FirstFault.{IsLeast}
-use Rattle.click_expand.proofs.name_faults.in_entries.Given as goal
-
-abbrev pub invariant-loop-entry : goal.invariant-loop-entry
-invariant-loop-entry l = IsLeast (IsWrongEntry l.entries l.entry-index) l.first

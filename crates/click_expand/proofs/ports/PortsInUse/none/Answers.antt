@@ -1,6 +1,0 @@
-use Rattle.std.proofs.Common.{refl}
-use Rattle.click_expand.proofs.Porting.{used-none}
-use Rattle.click_expand.proofs.ports.PortsInUse.none.Goals as goal
-
-pub returns : goal.returns
-returns c = used-none _ refl

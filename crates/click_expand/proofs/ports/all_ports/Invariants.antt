@@ -1,5 +1,0 @@
-use Rattle.click_expand.proofs.Counting.{Counted}
-use Rattle.click_expand.proofs.ports.all_ports.Given as goal
-
-abbrev pub invariant-loop-place : goal.invariant-loop-place
-invariant-loop-place l = Counted l.config l.ports.items l.place

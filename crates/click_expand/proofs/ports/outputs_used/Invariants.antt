@@ -1,6 +1,0 @@
-use Rattle.std.proofs.Common.{take}
-use Rattle.click_expand.specs.kept.CompoundFaults.{outputs_kept, IsUsed}
-use Rattle.click_expand.proofs.ports.outputs_used.Given as goal
-
-abbrev pub invariant-loop-joint : goal.invariant-loop-joint
-invariant-loop-joint l = IsUsed (outputs_kept (take l.joint-index l.joints)) l.used.count l.used.ports

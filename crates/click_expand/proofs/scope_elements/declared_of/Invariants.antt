@@ -1,7 +1,0 @@
-use Rattle.std.proofs.Common.{◌≡◌, ℕ, List}
-use Rattle.click_expand.specs.Elements.{has_name}
-use Rattle.click_expand.proofs.Making.{declared_by}
-use Rattle.click_expand.proofs.scope_elements.declared_of.Given as goal
-
-abbrev pub invariant-loop-one : goal.invariant-loop-one
-invariant-loop-one l = (name : List ℕ) → has_name name l.names ≡ has_name name (declared_by l.text l.written l.one-index)

@@ -1,0 +1,105 @@
+//! Whether a handler can be asked one way, by the names and the classes of the elements alone.
+
+ghost use Rattle.std.specs.Prelude.{◌≡◌};
+ghost use Rattle.click_router.specs.One as spec;
+
+use crate::call::Refusal;
+use crate::globals::{has_global, is_hotconfig};
+use crate::handler_name::split;
+use crate::recorded::{Kept, Recorded};
+use crate::running::Running;
+use click_classes::Class;
+use click_handlers::{has_read, has_write};
+
+/// Which way a handler is asked.
+#[derive(Clone, Copy, Debug, PartialEq, Eq)]
+pub enum Direction {
+    Read,
+    Write,
+}
+
+/// Whether a handler can be asked one way (Click manual, "Handlers"). A name is parted at its last dot; one without a dot names a handler of the router itself.
+#[derive(Clone, Copy, Debug, PartialEq, Eq)]
+pub enum Check {
+    Yes,
+    /// No element has that name.
+    NoElement,
+    /// There is no such handler, either way.
+    NoHandler,
+    /// There is such a handler for the other way alone.
+    WrongWay,
+}
+
+/// What a check tells, by whether there is a handler for that way, and whether there is one for the other.
+fn told(has: bool, has_other: bool) -> Check
+    ensures { result ≡ spec.told has has_other }
+{
+    if has {
+        Check::Yes
+    } else if has_other {
+        Check::WrongWay
+    } else {
+        Check::NoHandler
+    }
+}
+
+/// Whether a handler of the router itself can be asked one way.
+pub(crate) fn check_own(way: Direction, name: &[u8]) -> Check
+    ensures { result ≡ spec.told (spec.has_own way name.now) (spec.has_own (spec.other_way way) name.now) }
+{
+    match way {
+        Direction::Read => told(has_global(name), is_hotconfig(name)),
+        Direction::Write => told(is_hotconfig(name), has_global(name)),
+    }
+}
+
+/// Whether a handler of an element of this class can be asked one way. Without a class there is no element.
+pub(crate) fn check_element(class: Option<Class>, way: Direction, handler: &[u8]) -> Check
+    ensures { result ≡ spec.check_element class way handler.now }
+{
+    let Some(class) = class else {
+        return Check::NoElement;
+    };
+    match way {
+        Direction::Read => told(has_read(class, handler), has_write(class, handler)),
+        Direction::Write => told(has_write(class, handler), has_read(class, handler)),
+    }
+}
+
+/// The reply to a call that checks.
+pub(crate) fn check_reply(check: Check) -> Recorded
+    ensures { result ≡ spec.check_reply check }
+{
+    match check {
+        Check::Yes => Recorded::of(Kept::Done),
+        Check::NoElement => Recorded::refused(Refusal::NoElement),
+        Check::NoHandler => Recorded::refused(Refusal::NoHandler),
+        Check::WrongWay => Recorded::refused(Refusal::WrongWay),
+    }
+}
+
+impl Running {
+    ghost use Rattle.std.specs.Prelude.{◌≡◌};
+    ghost use Rattle.click_router.specs.One as spec;
+
+    /// The class of the element of a name.
+    #[tactic(auto, using(crate::proofs::Listings::class_found))]
+    fn class_named(&self, name: &[u8]) -> Option<Class>
+        ensures { result ≡ spec.class_named (spec.listing_of self.now) name.now }
+    {
+        match self.find(name) {
+            Some((_, element)) => Some(element.state.class()),
+            None => None,
+        }
+    }
+
+    /// Whether a handler can be asked one way.
+    pub(crate) fn check(&self, way: Direction, name: &[u8]) -> Check
+        ensures { result ≡ spec.check (spec.listing_of self.now) way name.now }
+    {
+        match split(name) {
+            Some((element, handler)) => check_element(self.class_named(element), way, handler),
+            None => check_own(way, name),
+        }
+    }
+}

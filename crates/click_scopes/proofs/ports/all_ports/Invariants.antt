@@ -1,0 +1,5 @@
+use Rattle.click_scopes.proofs.Counting.{Counted}
+use Rattle.click_scopes.proofs.ports.all_ports.Given as goal
+
+abbrev pub invariant-loop-place : goal.invariant-loop-place
+invariant-loop-place l = Counted l.config l.ports.items l.place

@@ -1,0 +1,45 @@
+use Rattle.std.proofs.Common.{◌++◌, [], sym, ap, subst}
+use Rattle.std.proofs.lemmas.List.{append-nil}
+use Rattle.click_scopes.specs.kept.Scoped.{ports_in}
+use Rattle.click_scopes.specs.kept.Standing.{written_ports}
+use Rattle.click_scopes.proofs.Keeping.{Kept, kept-first, kept-next, more-more}
+use Rattle.click_scopes.proofs.Synonyms.{renamed-first, renamed-next, renamed-all, ports-next, ports-all}
+use Rattle.click_scopes.proofs.scopes.written_of.Goals as goal
+
+pub loop-statement-preserved : goal.loop-statement-preserved
+loop-statement-preserved c =
+    let v = c.loop-statement.invariant in let es = c.loop-statement.entries.items in let new = c.define.new.entries.items in
+    let ws = c.loop-statement.written.items in let all = c.args.statements.now in let i = c.loop-statement.statement-index in
+    record {
+      grows = more-more _ es new v.grows c.define.ensures.grows;
+      kept = λ visible h.
+          kept-next c.args.text.now es new c.args.scope c.loop-statement.top c.in_ok-top.top ws c.push_elements.new.written.items
+          _ c.loop-statement.roots.items c.push_roots.new.roots.items visible
+          all i _ c.statement-item.result c.loop-statement-test.true c.statement-item.is c.define.ensures.grows
+          c.in_ok-push_elements.ensures c.in_ok-push_roots.ensures c.in_ok-top.ensures.shows (v.kept visible h);
+      ports = ports-next ws c.push_elements.new.written.items c.loop-statement.top all i _ c.statement-item.result c.loop-statement-test.true c.statement-item.is
+          c.in_ok-push_elements.ensures v.ports;
+      synonyms = λ visible h.
+          renamed-next c.args.text.now visible _ es new c.loop-statement.top all i _ c.statement-item.result c.loop-statement-test.true c.statement-item.is
+          (v.kept visible h).shows c.in_ok-top.ensures.adds (v.synonyms visible h);
+    }
+
+pub loop-statement-init : goal.loop-statement-init
+loop-statement-init c =
+    let text = c.args.text.now in let es = c.args.entries.now.items in let roots = c.args.roots.now.items in let ss = c.args.statements.now in
+    record {
+      grows = ([], sym (append-nil es));
+      kept = λ visible h.
+          subst (λ ws. Kept text es c.args.scope c.args.outside ws roots roots visible 0 ss) (sym c.new-written.ensures.items)
+          (kept-first text es c.args.scope c.args.outside roots visible ss h);
+      ports = ap (λ ws. written_ports ws ++ ports_in ss) c.new-written.ensures.items;
+      synonyms = λ visible h. renamed-first text visible es ss;
+    }
+
+pub returns-clause-ports : goal.returns-clause-ports
+returns-clause-ports c = ports-all c.loop-statement.written.items c.args.statements.now c.loop-statement.statement-index c.loop-statement-test.false c.loop-statement.invariant.ports
+
+pub returns-clause-synonyms : goal.returns-clause-synonyms
+returns-clause-synonyms c = λ visible h.
+    renamed-all c.args.text.now visible _ c.loop-statement.entries.items c.args.statements.now c.loop-statement.statement-index c.loop-statement-test.false
+    (c.loop-statement.invariant.synonyms visible h)

@@ -1,0 +1,224 @@
+-- Wrong uses of names, classes, parameters and ports, in any scope of a configuration: also in classes that are never used.
+use Rattle.std.specs.Prelude.{◌≡◌, ◌≢◌, ◌⊎◌, ℕ, ◌+◌, ◌<◌, ◌≤◌, max, List, [], ◌∷◌, ◌++◌, reverse, length, map, slice_get, Contains, Bool, true, false, Option, Some, None, if◌then◌else◌}
+use Rattle.std.specs.Str.{bytes_eq}
+use Rattle.click_text.specs.declared.syntax.Span.{Span}
+use Rattle.click_text.specs.declared.syntax.Port.{Port}
+use Rattle.click_text.specs.declared.syntax.Class.TheVariants as class
+use Rattle.click_text.specs.declared.syntax.Head.{Head}
+use Rattle.click_text.specs.declared.syntax.Head.TheVariants as head
+use Rattle.click_text.specs.declared.syntax.Link.{Link}
+use Rattle.click_text.specs.declared.syntax.Statement.{Statement}
+use Rattle.click_text.specs.declared.syntax.Statement.TheVariants as statement
+use Rattle.click_text.specs.declared.syntax.Body.{Body}
+use Rattle.click_text.specs.declared.syntax.Config.{Config}
+use Rattle.click_text.specs.Spans.{bytes_at}
+use Rattle.click_text.specs.Pieces.{span}
+use Rattle.click_text.specs.Arguments.{AreArguments}
+use Rattle.click_scopes.specs.Scopes.{Scope, inside, is_body, statements_of, formals_of, Stands, statement_elements}
+use Rattle.click_scopes.specs.Classes.{Meaning, compound, meaning}
+use Rattle.click_scopes.specs.Elements.{Placed, place, placed, head_name, declared_names, has_name, input_name, output_name, is_port_name, Role, pseudo, refers, makes, role, made_name, name_by, count_with, element_meaning, Local, locals_from, string_or_empty}
+use Rattle.click_scopes.specs.declared.fault.WrongUse.{WrongUse}
+use Rattle.click_scopes.specs.declared.fault.WrongUse.TheVariants as kind
+
+-- the scope's elements as written, after the statements that are visible before them
+abbrev pub scope_placed : Config → Scope → List Statement → List Placed
+scope_placed c s visible = placed visible (statements_of c s)
+
+abbrev pub scope_declared : Config → Scope → List Statement → List (List ℕ)
+scope_declared c s visible = declared_names c.text (scope_placed c s visible)
+
+-- the elements of the scope
+abbrev pub scope_locals : Config → Scope → List Statement → List Local
+scope_locals c s visible = locals_from c.text (is_body s) (scope_declared c s visible) 0 (scope_placed c s visible)
+
+abbrev pub role_in : Config → Scope → List Statement → Placed → Role
+role_in c s visible p = role c.text (is_body s) (scope_declared c s visible) p.element
+
+-- the open brace of a body
+abbrev pub brace_by : Option Body → Span
+brace_by None = span 0 0
+brace_by (Some b) = span b.span.start (b.span.start + 1)
+
+abbrev pub brace_of : Config → ℕ → Span
+brace_of c b = brace_by (slice_get c.bodies b)
+
+-- the first token of an element
+abbrev pub first_token : Config → Head → Span
+first_token c (head.Word s) = s
+first_token c (head.Declared s d) = s
+first_token c (head.Compound b) = brace_of c b
+
+-- A joined end of a connection as written: the name that it goes by, its role, its class and its first token.
+pub record End : Type 0 where
+  pub name : List ℕ
+  pub role : Role
+  pub meaning : Option Meaning
+  pub first : Span
+
+-- the class of the first element that is declared under the name
+abbrev pub is_declared_as : List ℕ → List ℕ → Option (List ℕ) → Bool
+is_declared_as text name None = false
+is_declared_as text name (Some n) = bytes_eq n name
+
+abbrev pub declared_meaning : List ℕ → List Placed → List ℕ → Option Meaning
+declared_meaning text [] name = None
+declared_meaning text (p ∷ ps) name =
+    if is_declared_as text name (head_name text p.element.head) then element_meaning text p else declared_meaning text ps name
+
+-- what a scope says of the names in it
+pub record ScopeNames : Type 0 where
+  pub in_body : Bool
+  pub declared : List (List ℕ)
+  pub written : List Placed
+
+abbrev pub scope_names : Config → Scope → List Statement → ScopeNames
+scope_names c s visible = record { in_body = is_body s; declared = scope_declared c s visible; written = scope_placed c s visible }
+
+abbrev pub end_meaning : Config → ScopeNames → Placed → List ℕ → Role → Option Meaning
+end_meaning c names p name pseudo = None
+end_meaning c names p name refers = declared_meaning c.text names.written name
+end_meaning c names p name makes = element_meaning c.text p
+
+abbrev pub end_by : Config → ScopeNames → ℕ → Placed → Role → End
+end_by c names n p r = record {
+  name = name_by c.text n p.element.head r;
+  role = r;
+  meaning = end_meaning c names p (name_by c.text n p.element.head r) r;
+  first = first_token c p.element.head;
+}
+
+abbrev pub written_end : Config → ScopeNames → ℕ → Placed → End
+written_end c names n p = end_by c names n p (role c.text names.in_body names.declared p.element)
+
+-- a connection as written
+pub record WrittenConnection : Type 0 where
+  pub from : End
+  pub out_port : ℕ
+  pub to : End
+  pub in_port : ℕ
+
+-- a port that is not written is 0
+abbrev pub port_number : Option Port → ℕ
+port_number None = 0
+port_number (Some p) = p.number
+
+abbrev pub joint : End → Link → End → WrittenConnection
+joint a l b = record { from = a; out_port = port_number l.from; to = b; in_port = port_number l.to }
+
+-- how many elements stand after one as written
+abbrev pub number_behind : Config → ScopeNames → ℕ → Placed → ℕ
+number_behind c names n p = count_with (role c.text names.in_body names.declared p.element) n
+
+unfoldable pub joints_behind : Config → ScopeNames → List Statement → ℕ → End → List Link → List WrittenConnection
+joints_behind c names visible n a [] = []
+joints_behind c names visible n a (l ∷ ls) =
+    let b = written_end c names n (place visible l.element) in
+    joint a l b ∷ joints_behind c names visible (number_behind c names n (place visible l.element)) b ls
+
+unfoldable pub number_after_all : Config → ScopeNames → ℕ → List Placed → ℕ
+number_after_all c names n [] = n
+number_after_all c names n (p ∷ ps) = number_after_all c names (number_behind c names n p) ps
+
+abbrev pub statement_joints : Config → ScopeNames → List Statement → ℕ → Statement → List WrittenConnection
+statement_joints c names visible n (statement.Chain k) =
+    joints_behind c names visible (number_behind c names n (place visible k.first)) (written_end c names n (place visible k.first)) k.links
+statement_joints c names visible n _ = []
+
+unfoldable pub joints_from : Config → ScopeNames → List Statement → ℕ → List Statement → List WrittenConnection
+joints_from c names visible n [] = []
+joints_from c names visible n (st ∷ ss) =
+    statement_joints c names visible n st
+    ++ joints_from c names (st ∷ visible) (number_after_all c names n (map (place visible) (statement_elements st))) ss
+
+-- the connections of a scope as written
+abbrev pub scope_joints : Config → Scope → List Statement → List WrittenConnection
+scope_joints c s visible = joints_from c (scope_names c s visible) visible 0 (statements_of c s)
+
+-- the ports of `input` that stand as sources, and those of `output` that stand as targets
+abbrev pub is_pseudo : List ℕ → End → Bool
+is_pseudo w e = elim e.role [ pseudo ↦ bytes_eq e.name w | refers ↦ false | makes ↦ false ]
+
+abbrev pub input_ports : List WrittenConnection → List ℕ
+input_ports [] = []
+input_ports (j ∷ js) = if is_pseudo input_name j.from then j.out_port ∷ input_ports js else input_ports js
+
+abbrev pub output_ports : List WrittenConnection → List ℕ
+output_ports [] = []
+output_ports (j ∷ js) = if is_pseudo output_name j.to then j.in_port ∷ output_ports js else output_ports js
+
+-- a body has as many ports as the highest one in use says
+abbrev pub port_count : List ℕ → ℕ
+port_count [] = 0
+port_count (p ∷ ps) = max (p + 1) (port_count ps)
+
+-- The roles and names of a body's ends do not depend on what is visible before it.
+abbrev pub inputs_of : Config → ℕ → List ℕ
+inputs_of c b = input_ports (scope_joints c (inside b) [])
+
+abbrev pub outputs_of : Config → ℕ → List ℕ
+outputs_of c b = output_ports (scope_joints c (inside b) [])
+
+-- A wrong use, of that kind, at the token of that span.
+pub data IsWrong (c : Config) : WrongUse → Span → Type 0 where
+  -- a bare word that names no element and no class
+  unknown_name : (s : Scope) (visible : List Statement) (around : List Scope) (front back : List Placed) (p : Placed) (w : Span) → Stands c s visible around →
+      scope_placed c s visible ≡ front ++ p ∷ back → role_in c s visible p ≡ makes → p.element.head ≡ head.Word w → p.element.text ≡ None →
+      element_meaning c.text p ≡ None → IsWrong c kind.UnknownName w
+  -- a word that stands for a class and names none
+  unknown_class : (s : Scope) (visible : List Statement) (around : List Scope) (front back : List Placed) (p : Placed) (w string : Span) → Stands c s visible around →
+      scope_placed c s visible ≡ front ++ p ∷ back → p.element.head ≡ head.Word w → p.element.text ≡ Some string →
+      element_meaning c.text p ≡ None → IsWrong c kind.UnknownClass w
+  unknown_declared : (s : Scope) (visible : List Statement) (around : List Scope) (front back : List Placed) (p : Placed) (n w : Span) → Stands c s visible around →
+      scope_placed c s visible ≡ front ++ p ∷ back → p.element.head ≡ head.Declared n (class.Named w) →
+      element_meaning c.text p ≡ None → IsWrong c kind.UnknownClass w
+  unknown_original : (s : Scope) (visible : List Statement) (around : List Scope) (before after : List Statement) (n w : Span) → Stands c s visible around →
+      statements_of c s ≡ before ++ statement.Synonym n w ∷ after → meaning c.text (reverse before ++ visible) (bytes_at c.text w) ≡ None →
+      IsWrong c kind.UnknownClass w
+  -- an element whose name an earlier one of its scope has; that of an unknown class used as an element is not known
+  named_twice : (s : Scope) (visible : List Statement) (around : List Scope) (front back : List Placed) (p : Placed) → Stands c s visible around →
+      scope_placed c s visible ≡ front ++ p ∷ back → role_in c s visible p ≡ makes →
+      ((n : Span) × (d : _) × (p.element.head ≡ head.Declared n d)) ⊎ (element_meaning c.text p ≢ None) →
+      (let earlier = locals_from c.text (is_body s) (scope_declared c s visible) 0 front in
+      has_name (made_name c.text (length earlier) p.element.head) (map (λ l. l.name) earlier) ≡ true) →
+      IsWrong c kind.DeclaredTwice (first_token c p.element.head)
+  -- `input` or `output` declared in a body
+  port_declared : (b : ℕ) (visible : List Statement) (around : List Scope) (front back : List Placed) (p : Placed) (n : Span) (d : _) → Stands c (inside b) visible around →
+      scope_placed c (inside b) visible ≡ front ++ p ∷ back → p.element.head ≡ head.Declared n d → is_port_name (bytes_at c.text n) ≡ true →
+      IsWrong c kind.DeclaredTwice n
+  -- two parameters of one name
+  formal_twice : (b : ℕ) (visible : List Statement) (around : List Scope) (front back : List Span) (f : Span) → Stands c (inside b) visible around →
+      formals_of c (inside b) ≡ front ++ f ∷ back → has_name (bytes_at c.text f) (map (bytes_at c.text) front) ≡ true → IsWrong c kind.DeclaredTwice f
+  -- a compound's element with more or fewer arguments than it has parameters
+  wrong_parameters : (s : Scope) (visible : List Statement) (around : List Scope) (front back : List Placed) (p : Placed) (b : ℕ) (arguments : List Span) → Stands c s visible around →
+      scope_placed c s visible ≡ front ++ p ∷ back → role_in c s visible p ≡ makes → element_meaning c.text p ≡ Some (compound b) →
+      AreArguments (string_or_empty c.text p.element.text) arguments → length arguments ≢ length (formals_of c (inside b)) →
+      IsWrong c kind.WrongParameters (first_token c p.element.head)
+  -- a port that the element's compound lacks; `output` as a source, and `input` as a target
+  no_output : (s : Scope) (visible : List Statement) (around : List Scope) (j : WrittenConnection) (b : ℕ) → Stands c s visible around → Contains (scope_joints c s visible) j →
+      j.from.role ≢ pseudo → j.from.meaning ≡ Some (compound b) → port_count (outputs_of c b) ≤ j.out_port → IsWrong c kind.CompoundPort j.from.first
+  no_input : (s : Scope) (visible : List Statement) (around : List Scope) (j : WrittenConnection) (b : ℕ) → Stands c s visible around → Contains (scope_joints c s visible) j →
+      j.to.role ≢ pseudo → j.to.meaning ≡ Some (compound b) → port_count (inputs_of c b) ≤ j.in_port → IsWrong c kind.CompoundPort j.to.first
+  output_as_source : (s : Scope) (visible : List Statement) (around : List Scope) (j : WrittenConnection) → Stands c s visible around → Contains (scope_joints c s visible) j →
+      is_pseudo output_name j.from ≡ true → IsWrong c kind.CompoundPort j.from.first
+  input_as_target : (s : Scope) (visible : List Statement) (around : List Scope) (j : WrittenConnection) → Stands c s visible around → Contains (scope_joints c s visible) j →
+      is_pseudo input_name j.to ≡ true → IsWrong c kind.CompoundPort j.to.first
+  -- a port of a body below its highest one that is not in use
+  input_gap : (b : ℕ) (visible : List Statement) (around : List Scope) (p : ℕ) → Stands c (inside b) visible around →
+      p < port_count (inputs_of c b) → (Contains (inputs_of c b) p → ⊥) → IsWrong c kind.CompoundPort (brace_of c b)
+  output_gap : (b : ℕ) (visible : List Statement) (around : List Scope) (p : ℕ) → Stands c (inside b) visible around →
+      p < port_count (outputs_of c b) → (Contains (outputs_of c b) p → ⊥) → IsWrong c kind.CompoundPort (brace_of c b)
+
+abbrev pub fault_number : WrongUse → ℕ
+fault_number kind.UnknownName = 11
+fault_number kind.DeclaredTwice = 12
+fault_number kind.UnknownClass = 13
+fault_number kind.WrongParameters = 14
+fault_number kind.CompoundPort = 15
+
+-- the wrong use whose place is first; of two at one place, that of the lower number
+pub record IsFirstWrong (c : Config) (k : WrongUse) (s : Span) : Type 0 where
+  pub wrong : IsWrong c k s
+  pub first : (j : WrongUse) (t : Span) → IsWrong c j t → (s.start < t.start) ⊎ ((s.start ≡ t.start) × (fault_number k ≤ fault_number j))
+
+abbrev pub IsFaultless : Config → Type 0
+IsFaultless c = (k : WrongUse) (s : Span) → IsWrong c k s → ⊥

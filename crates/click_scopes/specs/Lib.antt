@@ -1,0 +1,6 @@
+pub mod Scopes
+pub mod Classes
+pub mod Elements
+pub mod Faults
+pub mod Analysis
+pub mod kept

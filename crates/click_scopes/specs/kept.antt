@@ -1,0 +1,11 @@
+pub mod Tables
+pub mod Standing
+pub mod Nesting
+pub mod Scoped
+pub mod ScopeElements
+pub mod FirstFault
+pub mod WrittenConnections
+pub mod CompoundArguments
+pub mod NameFaults
+pub mod ConnectionEnds
+pub mod CompoundFaults

@@ -1,0 +1,151 @@
+-- Wrong uses of compounds, as the code looks for them.
+use Rattle.std.specs.Prelude.{◌≡◌, ◌⊎◌, ℕ, ◌<◌, List, [], ◌∷◌, length, slice_get, slice_index_or, Bool, false, not, Contains, nat_eq, nat_lt, Option, Some, None, Vec, ◌↔◌, IsTrue}
+use Rattle.std.specs.List.{list_any}
+use Rattle.std.specs.Global.{Global}
+use Rattle.click_text.specs.declared.syntax.Span.{Span}
+use Rattle.click_text.specs.declared.syntax.Body.{Body}
+use Rattle.click_text.specs.declared.syntax.Config.{Config}
+use Rattle.click_scopes.specs.Scopes.{body_formals}
+use Rattle.click_scopes.specs.Faults.{brace_by, port_count, inputs_of, outputs_of}
+use Rattle.click_scopes.specs.kept.FirstFault.{token_fault, token_fault_if, first_in}
+use Rattle.click_scopes.specs.declared.classes.ClassOf.{ClassOf}
+use Rattle.click_scopes.specs.declared.classes.ClassOf.TheVariants as class
+use Rattle.click_scopes.specs.declared.fault.WrongUse.TheVariants as kind
+use Rattle.click_scopes.specs.declared.scope_elements.Local.{Local as LocalKept}
+use Rattle.click_scopes.specs.declared.written_connections.Owner.{Owner}
+use Rattle.click_scopes.specs.declared.written_connections.Owner.TheVariants as owner
+use Rattle.click_scopes.specs.declared.written_connections.WrittenConnection.{WrittenConnection as ConnectionKept}
+use Rattle.click_scopes.specs.declared.ports.Ports.{Ports}
+use Rattle.click_scopes.specs.declared.first_fault.TokenFault.{TokenFault}
+
+-- One of the first of these places has that wrong use.
+pub record Among (C : ℕ → TokenFault → Type 0) (end : ℕ) (w : TokenFault) : Type 0 where
+  pub place : ℕ
+  pub within : place < end
+  pub is : C place w
+
+-- the inputs of a body that its connections name, and the outputs
+abbrev pub from_input : Owner → ℕ → List ℕ → List ℕ
+from_input owner.Input p ps = p ∷ ps
+from_input owner.Output p ps = ps
+from_input (owner.Element i) p ps = ps
+
+abbrev pub to_output : Owner → ℕ → List ℕ → List ℕ
+to_output owner.Input p ps = ps
+to_output owner.Output p ps = p ∷ ps
+to_output (owner.Element i) p ps = ps
+
+abbrev pub inputs_kept : List ConnectionKept → List ℕ
+inputs_kept [] = []
+inputs_kept (k ∷ ks) = from_input k.from.owner k.out_port (inputs_kept ks)
+
+abbrev pub outputs_kept : List ConnectionKept → List ℕ
+outputs_kept [] = []
+outputs_kept (k ∷ ks) = to_output k.to.owner k.in_port (outputs_kept ks)
+
+-- a port of a body below its highest one is not in use
+pub record HasGap (ports : List ℕ) : Type 0 where
+  pub port : ℕ
+  pub below : port < port_count ports
+  pub unused : Contains ports port → ⊥
+
+abbrev pub has_port : ℕ → List ℕ → Bool
+has_port p ports = list_any (nat_eq p) ports
+
+-- these are the ports in use: their number by the highest, and a flag for each
+pub record IsUsed (ports : List ℕ) (count : ℕ) (flags : List Bool) : Type 0 where
+  pub size : length flags ≡ 256
+  pub counts : count ≡ port_count ports
+  pub each : (p : ℕ) → p < 256 → slice_index_or flags p false ≡ has_port p ports
+
+pub record IsPorts (inputs outputs : List ℕ) (p : Ports) : Type 0 where
+  pub ins : p.inputs ≡ port_count inputs
+  pub outs : p.outputs ≡ port_count outputs
+  pub gaps : IsTrue p.gap ↔ (HasGap inputs ⊎ HasGap outputs)
+
+abbrev pub ports_or : Option Ports → Ports
+ports_or None = record { inputs = 0; outputs = 0; gap = false }
+ports_or (Some p) = p
+
+-- the ports of each body, and none where there is no body
+pub record ArePorts (c : Config) (ports : List Ports) : Type 0 where
+  pub each : (b : ℕ) → IsPorts (inputs_of c b) (outputs_of c b) (ports_or (slice_get ports b))
+
+-- a compound's element with more or fewer arguments than it has parameters
+abbrev pub call_fault_by : List Body → ℕ → Option (List Span) → Span → Option TokenFault
+call_fault_by bodies b None first = None
+call_fault_by bodies b (Some spans) first = token_fault_if (not (nat_eq (length spans) (length (body_formals (slice_get bodies b))))) kind.WrongParameters first
+
+abbrev pub compound_by : Option ClassOf → Option ℕ
+compound_by None = None
+compound_by (Some (class.Primitive s)) = None
+compound_by (Some (class.Compound b)) = Some b
+
+abbrev pub call_fault_of : List Body → Option ℕ → Option (List Span) → Span → Option TokenFault
+call_fault_of bodies None spans first = None
+call_fault_of bodies (Some b) spans first = call_fault_by bodies b spans first
+
+abbrev pub call_fault_at : List Body → LocalKept → Option (List Span) → Option TokenFault
+call_fault_at bodies l spans = call_fault_of bodies (compound_by l.class) spans (first_in bodies l.head)
+
+-- the element at that place among these has a wrong number of arguments
+pub record IsWrongCall (bodies : List Body) (ls : List LocalKept) (arguments : List (List Span)) (place : ℕ) (w : TokenFault) : Type 0 where
+  pub element : LocalKept
+  pub there : slice_get ls place ≡ Some element
+  pub is : call_fault_at bodies element (slice_get arguments place) ≡ Some w
+
+-- the compound that the element at a place is
+abbrev pub compound_in : Option LocalKept → Option ℕ
+compound_in None = None
+compound_in (Some l) = compound_by l.class
+
+abbrev pub outputs_by : List Ports → Option ℕ → Option ℕ
+outputs_by ports None = None
+outputs_by ports (Some b) = Some ((ports_or (slice_get ports b)).outputs)
+
+abbrev pub inputs_by : List Ports → Option ℕ → Option ℕ
+inputs_by ports None = None
+inputs_by ports (Some b) = Some ((ports_or (slice_get ports b)).inputs)
+
+-- a port that there is not, where it is known how many there are
+abbrev pub lacking : Option ℕ → ℕ → Span → Option TokenFault
+lacking None port first = None
+lacking (Some n) port first = token_fault_if (not (nat_lt port n)) kind.CompoundPort first
+
+abbrev pub source_by : List LocalKept → List Ports → Owner → ℕ → Span → Option TokenFault
+source_by ls ports owner.Input port first = None
+source_by ls ports owner.Output port first = Some (token_fault kind.CompoundPort first)
+source_by ls ports (owner.Element i) port first = lacking (outputs_by ports (compound_in (slice_get ls i))) port first
+
+abbrev pub target_by : List LocalKept → List Ports → Owner → ℕ → Span → Option TokenFault
+target_by ls ports owner.Input port first = Some (token_fault kind.CompoundPort first)
+target_by ls ports owner.Output port first = None
+target_by ls ports (owner.Element i) port first = lacking (inputs_by ports (compound_in (slice_get ls i))) port first
+
+-- an end of the connection at that place is wrong
+pub record IsWrongJoint (ls : List LocalKept) (ports : List Ports) (ks : List ConnectionKept) (place : ℕ) (w : TokenFault) : Type 0 where
+  pub joint : ConnectionKept
+  pub there : slice_get ks place ≡ Some joint
+  pub is : (source_by ls ports joint.from.owner joint.out_port joint.from.first ≡ Some w) ⊎ (target_by ls ports joint.to.owner joint.in_port joint.to.first ≡ Some w)
+
+abbrev pub list_or_empty : {X : Type 0} → Option (List X) → List X
+list_or_empty None = []
+list_or_empty (Some xs) = xs
+
+abbrev pub items_of : {X : Type 0} → Option (Vec X Global) → List X
+items_of None = []
+items_of (Some v) = v.items
+
+-- a wrong use in the scope at that place
+abbrev pub IsWrongIn : List Body → List (Vec LocalKept Global) → List (List (List Span)) → List (List ConnectionKept) → List Ports → ℕ → TokenFault → Type 0
+IsWrongIn bodies locals arguments joints ports place w =
+    let ls = items_of (slice_get locals place) in
+    let ks = list_or_empty (slice_get joints place) in
+    Among (IsWrongCall bodies ls (list_or_empty (slice_get arguments place))) (length ls) w ⊎ Among (IsWrongJoint ls ports ks) (length ks) w
+
+abbrev pub gap_at : List Body → List Ports → ℕ → Option TokenFault
+gap_at bodies ports b = token_fault_if ((ports_or (slice_get ports b)).gap) kind.CompoundPort (brace_by (slice_get bodies b))
+
+-- a wrong use in the body at that place, or of its ports
+abbrev pub IsCompoundFaultOfBody : List Body → List (Vec LocalKept Global) → List (List (List Span)) → List (List ConnectionKept) → List Ports → ℕ → TokenFault → Type 0
+IsCompoundFaultOfBody bodies locals arguments joints ports place w = IsWrongIn bodies locals arguments joints ports place w ⊎ (gap_at bodies ports place ≡ Some w)

@@ -1,0 +1,55 @@
+-- The elements of each scope, as the code keeps them.
+use Rattle.std.specs.Prelude.{◌≡◌, ℕ, List, map, filter_map, slice_get, Bool, Option, Some, None, Vec}
+use Rattle.std.specs.Global.{Global}
+use Rattle.click_text.specs.declared.syntax.Span.{Span}
+use Rattle.click_text.specs.declared.syntax.Element.{Element}
+use Rattle.click_text.specs.declared.syntax.Statement.{Statement}
+use Rattle.click_text.specs.declared.syntax.Config.{Config}
+use Rattle.click_scopes.specs.Scopes.{Scope, is_body, Stands}
+use Rattle.click_scopes.specs.Elements.{Placed, Role, pseudo, refers, makes, role, declared_names, locals_from}
+use Rattle.click_scopes.specs.Faults.{scope_placed, scope_declared, scope_locals}
+use Rattle.click_scopes.specs.kept.Tables.{AreWritten, elements_of, names_declared, local_of}
+use Rattle.click_scopes.specs.kept.Scoped.{table_place}
+use Rattle.click_scopes.specs.declared.classes.ClassEntry.{ClassEntry}
+use Rattle.click_scopes.specs.declared.scopes.WrittenElement.{WrittenElement}
+use Rattle.click_scopes.specs.declared.scope_elements.Local.{Local as LocalKept}
+
+-- the elements of a scope that is written so
+abbrev pub AreLocalsOf : List ℕ → List ClassEntry → Bool → List WrittenElement → List LocalKept → Type 0
+AreLocalsOf text entries in_body ws ls =
+    (ps : List Placed) → AreWritten text entries ws ps → map (local_of text) ls ≡ locals_from text in_body (declared_names text ps) 0 ps
+
+-- the elements of each scope, by its place in the table
+abbrev pub AreAllLocals : Config → List (Vec LocalKept Global) → Type 0
+AreAllLocals c all =
+    (s : Scope) (visible : List Statement) (around : List Scope) → Stands c s visible around →
+    (ls : Vec LocalKept Global) × (slice_get all (table_place c s) ≡ Some ls) × (map (local_of c.text) ls.items ≡ scope_locals c s visible)
+
+-- the configuration string of an element that makes one: None where none is written
+abbrev pub string_where_made : Role → Option Span → Option (Option Span)
+string_where_made makes t = Some t
+string_where_made refers t = None
+string_where_made pseudo t = None
+
+abbrev pub string_made : List ℕ → Bool → List (List ℕ) → Element → Option (Option Span)
+string_made text in_body declared e = string_where_made (role text in_body declared e) e.text
+
+-- those of the elements that these make
+abbrev pub strings_made : List ℕ → Bool → List (List ℕ) → List Element → List (Option Span)
+strings_made text in_body declared es = filter_map (string_made text in_body declared) es
+
+abbrev pub strings_of : List LocalKept → List (Option Span)
+strings_of ls = map (λ (l : LocalKept). l.text) ls
+
+-- the strings of the elements of a scope that is written so
+abbrev pub AreStringsOf : List ℕ → Bool → List WrittenElement → List LocalKept → Type 0
+AreStringsOf text in_body ws ls = strings_of ls ≡ strings_made text in_body (names_declared text (elements_of ws)) (elements_of ws)
+
+abbrev pub scope_strings : Config → Scope → List Statement → List (Option Span)
+scope_strings c s visible = strings_made c.text (is_body s) (scope_declared c s visible) (map (λ (p : Placed). p.element) (scope_placed c s visible))
+
+-- the configuration strings of the elements of each scope, by its place in the table
+abbrev pub AreAllStrings : Config → List (Vec LocalKept Global) → Type 0
+AreAllStrings c all =
+    (s : Scope) (visible : List Statement) (around : List Scope) → Stands c s visible around →
+    (ls : Vec LocalKept Global) × (slice_get all (table_place c s) ≡ Some ls) × (strings_of ls.items ≡ scope_strings c s visible)

@@ -1,0 +1,68 @@
+-- The table of the scopes of a configuration.
+use Rattle.std.specs.Prelude.{◌≡◌, ℕ, List, [], ◌∷◌, ◌++◌, reverse, length, map, flat_map, slice_get, Option, Some, None}
+use Rattle.click_text.specs.declared.syntax.Span.{Span}
+use Rattle.click_text.specs.declared.syntax.Link.{Link}
+use Rattle.click_text.specs.declared.syntax.Statement.{Statement}
+use Rattle.click_text.specs.declared.syntax.Statement.TheVariants as statement
+use Rattle.click_text.specs.Spans.{bytes_at}
+use Rattle.click_scopes.specs.Classes.{Meaning, meaning}
+use Rattle.click_scopes.specs.Faults.{port_number}
+use Rattle.click_scopes.specs.declared.scopes.WrittenElement.{WrittenElement}
+use Rattle.click_text.specs.declared.syntax.Config.{Config}
+use Rattle.click_scopes.specs.Scopes.{Scope, whole, inside, statements_of, Stands}
+use Rattle.click_scopes.specs.Elements.{placed}
+use Rattle.click_scopes.specs.kept.Tables.{AreWritten, meaning_by}
+use Rattle.click_scopes.specs.declared.classes.ClassEntry.{ClassEntry}
+use Rattle.click_scopes.specs.declared.scopes.Scope.{Scope as ScopeKept}
+
+-- the place of a scope in the table: that of its body, or the one after all bodies
+abbrev pub table_place : Config → Scope → ℕ
+table_place c whole = length c.bodies
+table_place c (inside b) = b
+
+abbrev pub outer_of : Config → List Scope → ℕ
+outer_of c [] = length c.bodies
+outer_of c (s ∷ around) = table_place c s
+
+-- the ports that join an element to the one before it in its chain: none for the first, and none where no chain is
+abbrev pub ports_of : Statement → List (Option (ℕ × ℕ))
+ports_of (statement.Chain k) = None ∷ map (λ (l : Link). Some (port_number l.from, port_number l.to)) k.links
+ports_of (statement.Declaration d) = map (λ (n : Span). None) d.names
+ports_of (statement.Definition n b) = []
+ports_of (statement.Synonym n d) = []
+ports_of (statement.Requirement t) = []
+
+abbrev pub ports_in : List Statement → List (Option (ℕ × ℕ))
+ports_in ss = flat_map ports_of ss
+
+-- A scope as the code keeps it.
+pub record IsScope (c : Config) (entries : List ClassEntry) (s : Scope) (visible : List Statement) (around : List Scope) (k : ScopeKept) : Type 0 where
+  pub written : AreWritten c.text entries k.written.items (placed visible (statements_of c s))
+  pub ports : map (λ (w : WrittenElement). w.ports) k.written.items ≡ ports_in (statements_of c s)
+  pub outer : k.outer ≡ outer_of c around
+
+-- each scope is in the table
+abbrev pub AreScopes : Config → List ClassEntry → List ScopeKept → Type 0
+AreScopes c entries ks =
+    (s : Scope) (visible : List Statement) (around : List Scope) → Stands c s visible around →
+    (k : ScopeKept) × (slice_get ks (table_place c s) ≡ Some k) × IsScope c entries s visible around k
+
+-- A synonym of a scope, and what its class means.
+pub record IsSynonym (c : Config) (original : Span) (m : Option Meaning) : Type 0 where
+  pub scope : Scope
+  pub visible : List Statement
+  pub around : List Scope
+  pub stands : Stands c scope visible around
+  pub before : List Statement
+  pub after : List Statement
+  pub name : Span
+  pub splits : statements_of c scope ≡ before ++ statement.Synonym name original ∷ after
+  pub meaning : m ≡ meaning c.text (reverse before ++ visible) (bytes_at c.text original)
+
+-- The synonyms among the definitions are those of the configuration's scopes.
+pub record AreSynonyms (c : Config) (entries : List ClassEntry) : Type 0 where
+  pub sound : (i : ℕ) (e : ClassEntry) (w : Span) → slice_get entries i ≡ Some e → e.original ≡ Some w → IsSynonym c w (meaning_by c.text e.class)
+  pub complete : (s : Scope) (visible : List Statement) (around : List Scope) (before after : List Statement) (n w : Span) → Stands c s visible around →
+      statements_of c s ≡ before ++ statement.Synonym n w ∷ after →
+      (i : ℕ) × (e : ClassEntry) × (slice_get entries i ≡ Some e) × (e.original ≡ Some w)
+      × (meaning_by c.text e.class ≡ meaning c.text (reverse before ++ visible) (bytes_at c.text w))

@@ -1,0 +1,94 @@
+-- What the code keeps of the statements of a scope.
+use Rattle.std.specs.Prelude.{◌≡◌, ◌⊎◌, ℕ, List, [], ◌∷◌, ◌++◌, reverse, map, slice_get, Contains, Option, Some, None}
+use Rattle.std.specs.List.{cons_option}
+use Rattle.click_text.specs.declared.syntax.Span.{Span}
+use Rattle.click_text.specs.declared.syntax.Head.TheVariants as head
+use Rattle.click_text.specs.declared.syntax.Element.{Element}
+use Rattle.click_text.specs.declared.syntax.Link.{Link}
+use Rattle.click_text.specs.declared.syntax.Declaration.{Declaration}
+use Rattle.click_text.specs.declared.syntax.Statement.{Statement}
+use Rattle.click_text.specs.declared.syntax.Statement.TheVariants as statement
+use Rattle.click_text.specs.Grammar.{element}
+use Rattle.click_text.specs.Spans.{bytes_at}
+use Rattle.click_scopes.specs.Classes.{Meaning, meaning}
+use Rattle.click_scopes.specs.Faults.{port_number}
+use Rattle.click_scopes.specs.declared.scopes.WrittenElement.{WrittenElement}
+use Rattle.click_scopes.specs.declared.scopes.Root.{Root}
+use Rattle.click_scopes.specs.declared.classes.ClassEntry.{ClassEntry}
+use Rattle.click_scopes.specs.Scopes.{bodies_in}
+use Rattle.click_scopes.specs.kept.Nesting.{direct}
+use Rattle.click_scopes.specs.kept.Tables.{meaning_by, Shows, IsEntry}
+
+abbrev pub kept_element : Element → Option ℕ → Option (ℕ × ℕ) → WrittenElement
+kept_element e top ports = record { element = e; top = top; ports = ports }
+
+abbrev pub kept_link : Option ℕ → Link → WrittenElement
+kept_link top l = kept_element l.element top (Some (port_number l.from, port_number l.to))
+
+abbrev pub kept_name : Declaration → Option ℕ → Span → WrittenElement
+kept_name d top n = kept_element (element (head.Declared n d.class) d.text) top None
+
+-- the elements of a statement
+abbrev pub kept_elements : Option ℕ → Statement → List WrittenElement
+kept_elements top (statement.Chain k) = kept_element k.first top None ∷ map (λ l. kept_link top l) k.links
+kept_elements top (statement.Declaration d) = map (λ n. kept_name d top n) d.names
+kept_elements top (statement.Definition n b) = []
+kept_elements top (statement.Synonym n d) = []
+kept_elements top (statement.Requirement t) = []
+
+abbrev pub root : ℕ → Option ℕ → ℕ → Root
+root outer top b = record { body = b; outer = outer; top = top }
+
+-- each part of a list is so
+abbrev pub Each : {X : Type 0} → (X → Type 0) → List X → Type 0
+Each P [] = Unit {0}
+Each P (x ∷ xs) = P x × Each P xs
+
+-- A body that stands in one of these statements, and what is visible before that.
+pub record IsRoot (text : List ℕ) (entries : List ClassEntry) (scope : ℕ) (visible statements : List Statement) (r : Root) : Type 0 where
+  pub before : List Statement
+  pub after : List Statement
+  pub statement : Statement
+  pub splits : statements ≡ before ++ statement ∷ after
+  pub there : Contains (bodies_in statement) r.body
+  pub shows : Shows text entries r.top (reverse before ++ visible)
+  pub outer : r.outer ≡ scope
+
+-- the bodies that stand in these statements are added
+pub record AreRoots (text : List ℕ) (entries : List ClassEntry) (scope : ℕ) (visible statements : List Statement) (old new : List Root) : Type 0 where
+  pub more : List Root
+  pub is : new ≡ old ++ more
+  pub bodies : map (λ (r : Root). r.body) more ≡ direct statements
+  pub each : Each (IsRoot text entries scope visible statements) more
+
+abbrev pub written_ports : List WrittenElement → List (Option (ℕ × ℕ))
+written_ports ws = map (λ (w : WrittenElement). w.ports) ws
+
+-- What a statement adds to the definitions after those that are visible before it: one at the end, or none.
+pub record IsDefined (text : List ℕ) (visible : List Statement) (top : Option ℕ) (st : Statement) (old new : List ClassEntry) : Type 0 where
+  pub entry : Option ClassEntry
+  pub is : IsEntry text visible top st entry
+  pub added : new ≡ old ++ cons_option entry []
+
+-- One of these definitions is that synonym, with that meaning.
+pub record HasSynonym (text : List ℕ) (entries : List ClassEntry) (original : Span) (m : Option Meaning) : Type 0 where
+  pub place : ℕ
+  pub entry : ClassEntry
+  pub there : slice_get entries place ≡ Some entry
+  pub is : entry.original ≡ Some original
+  pub class : meaning_by text entry.class ≡ m
+
+-- A synonym among these statements, and what its class means.
+pub record IsSynonymAmong (text : List ℕ) (visible statements : List Statement) (original : Span) (m : Option Meaning) : Type 0 where
+  pub before : List Statement
+  pub after : List Statement
+  pub name : Span
+  pub splits : statements ≡ before ++ statement.Synonym name original ∷ after
+  pub meaning : m ≡ meaning text (reverse before ++ visible) (bytes_at text original)
+
+-- the synonyms among the definitions that are added are those of these statements
+pub record AddsSynonyms (text : List ℕ) (visible statements : List Statement) (old new : List ClassEntry) : Type 0 where
+  pub sound : (i : ℕ) (e : ClassEntry) (w : Span) → slice_get new i ≡ Some e → e.original ≡ Some w →
+      (slice_get old i ≡ Some e) ⊎ IsSynonymAmong text visible statements w (meaning_by text e.class)
+  pub complete : (before after : List Statement) (n w : Span) → statements ≡ before ++ statement.Synonym n w ∷ after →
+      HasSynonym text new w (meaning text (reverse before ++ visible) (bytes_at text w))

@@ -1,0 +1,183 @@
+//! Wrong uses of names, classes, parameters and ports: the first in the text.
+
+ghost use Rattle.std.specs.Prelude.{◌≡◌, length, IfOk};
+ghost use Rattle.click_scopes.specs.Elements.{has_name};
+ghost use Rattle.click_scopes.specs.Faults.{fault_number};
+ghost use Rattle.click_scopes.specs.kept.FirstFault as spec;
+ghost use Rattle.click_scopes.specs.kept.FirstFault.{unknown_at, port_at, twice_at, first_in, local_at, AreShort, IsLeast, IsWrongLocal, IsWrongFormal};
+
+use crate::classes::ClassOf;
+use crate::fault::WrongUse;
+use crate::names::Names;
+use crate::scope_elements::{Local, is_port_name};
+use click_text::syntax::{Body, Class, Head, Span};
+use std::alloc::{AllocError, Global};
+
+/// A wrong use.
+#[derive(Clone, Copy, Debug, PartialEq, Eq)]
+pub struct TokenFault {
+    pub kind: WrongUse,
+    pub span: Span,
+}
+
+/// The number that operators see.
+fn number(kind: WrongUse) -> u8
+    ensures { result ≡ fault_number kind }
+{
+    match kind {
+        WrongUse::UnknownName => 11,
+        WrongUse::DeclaredTwice => 12,
+        WrongUse::UnknownClass => 13,
+        WrongUse::WrongParameters => 14,
+        WrongUse::CompoundPort => 15,
+    }
+}
+
+/// One comes before another: by its place, then by its number.
+fn comes_before(a: TokenFault, b: TokenFault) -> bool
+    ensures { result ≡ spec.comes_before a b }
+{
+    if a.span.start == b.span.start {
+        number(a.kind) < number(b.kind)
+    } else {
+        a.span.start < b.span.start
+    }
+}
+
+/// The first of two, where there are such.
+pub fn first_of(a: Option<TokenFault>, b: Option<TokenFault>) -> Option<TokenFault>
+    ensures { result ≡ spec.first_of a b }
+{
+    match (a, b) {
+        (None, _) => b,
+        (Some(_), None) => a,
+        (Some(x), Some(y)) => { if comes_before(y, x) { b } else { a } }
+    }
+}
+
+/// A wrong use of that kind there, where the test says so.
+pub(crate) fn wrong_if(test: bool, kind: WrongUse, span: Span) -> Option<TokenFault>
+    ensures { result ≡ spec.token_fault_if test kind span }
+{
+    if test {
+        Some(TokenFault { kind, span })
+    } else {
+        None
+    }
+}
+
+/// An element's word that names no class.
+fn unknown(head: Head, text: Option<Span>, class: Option<ClassOf>) -> Option<TokenFault>
+    ensures { result ≡ unknown_at head text class }
+{
+    match (class, head, text) {
+        (Some(_), _, _) => None,
+        (None, Head::Word(word), None) => wrong_if(true, WrongUse::UnknownName, word),
+        (None, Head::Word(word), Some(_)) => wrong_if(true, WrongUse::UnknownClass, word),
+        (None, Head::Declared(_, Class::Named(word)), _) => {
+            wrong_if(true, WrongUse::UnknownClass, word)
+        }
+        (None, Head::Declared(_, Class::Body(_)), _) => None,
+        (None, Head::Compound(_), _) => None,
+    }
+}
+
+/// `input` or `output` declared in a body.
+fn port_declared(text: &[u8], in_body: bool, head: Head) -> Option<TokenFault>
+    ensures { result ≡ port_at text.now in_body head }
+{
+    match head {
+        Head::Declared(name, _) => wrong_if(
+            in_body && is_port_name(name.of(text)),
+            WrongUse::DeclaredTwice,
+            name,
+        ),
+        _ => None,
+    }
+}
+
+/// An element whose name an earlier one has. That of an unknown class used as an element is not known.
+fn named_twice(taken: bool, head: Head, class: Option<ClassOf>, first: Span) -> Option<TokenFault>
+    ensures { result ≡ twice_at taken head class first }
+{
+    match (head, class) {
+        (Head::Declared(_, _), _) => wrong_if(taken, WrongUse::DeclaredTwice, first),
+        (_, Some(_)) => wrong_if(taken, WrongUse::DeclaredTwice, first),
+        (_, None) => None,
+    }
+}
+
+/// The first token of an element.
+pub fn first_token(bodies: &[Body], head: Head) -> Span
+    requires { AreShort bodies.now }
+    ensures { result ≡ first_in bodies.now head }
+{
+    match head {
+        Head::Word(word) => word,
+        Head::Declared(name, _) => name,
+        Head::Compound(place) => match bodies.get(place) {
+            Some(body) => Span {
+                start: body.span.start,
+                end: body.span.start + 1,
+            },
+            None => Span { start: 0, end: 0 },
+        },
+    }
+}
+
+/// What is wrong with the name, the class or the declaration of an element after those of these names.
+fn in_local(
+    text: &[u8],
+    bodies: &[Body],
+    in_body: bool,
+    names: &Names,
+    local: &Local,
+) -> Option<TokenFault>
+    requires { AreShort bodies.now }
+    ensures { result ≡ local_at text.now bodies.now in_body (has_name local.now.name.items names.now) local.now }
+{
+    let taken = names.has(local.name.as_slice());
+    let first = first_token(bodies, local.head);
+    let unknown = unknown(local.head, local.text, local.class);
+    let twice = named_twice(taken, local.head, local.class, first);
+    let port = port_declared(text, in_body, local.head);
+    first_of(first_of(unknown, twice), port)
+}
+
+/// The first wrong name, class or declaration of a scope's elements.
+pub fn in_locals(
+    alloc: Global,
+    text: &[u8],
+    bodies: &[Body],
+    in_body: bool,
+    locals: &[Local],
+) -> Result<Option<TokenFault>, AllocError>
+    requires { AreShort bodies.now }
+    ensures { IfOk result (IsLeast (IsWrongLocal text.now bodies.now in_body locals.now (length locals.now))) }
+{
+    let mut first = None;
+    let mut names = Names::new(alloc);
+    for local in locals {
+        first = first_of(first, in_local(text, bodies, in_body, &names, local));
+        names.add(alloc, local.name.as_slice())?;
+    }
+    Ok(first)
+}
+
+/// The first parameter of a body whose name an earlier one has.
+pub fn in_formals(
+    alloc: Global,
+    text: &[u8],
+    formals: &[Span],
+) -> Result<Option<TokenFault>, AllocError>
+    ensures { IfOk result (IsLeast (IsWrongFormal text.now formals.now (length formals.now))) }
+{
+    let mut first = None;
+    let mut names = Names::new(alloc);
+    for formal in formals {
+        let taken = names.has(formal.of(text));
+        first = first_of(first, wrong_if(taken, WrongUse::DeclaredTwice, *formal));
+        names.add(alloc, formal.of(text))?;
+    }
+    Ok(first)
+}

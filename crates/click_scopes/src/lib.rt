@@ -1,0 +1,25 @@
+//! What the scopes of a configuration declare and join, or the first wrong use of a name, class, parameter or port.
+#![tactic(auto)]
+
+mod analysis;
+mod classes;
+mod compound_arguments;
+mod compound_faults;
+mod fault;
+mod first_fault;
+mod name_faults;
+mod names;
+mod ports;
+mod scope_elements;
+mod scopes;
+mod written_connections;
+
+pub use analysis::{ScopeFault, Tables, analyze};
+pub use classes::{ClassEntry, ClassOf};
+pub use compound_arguments::string_inside;
+pub use fault::WrongUse;
+pub use first_fault::{TokenFault, first_token};
+pub use names::Names;
+pub use scope_elements::Local;
+pub use scopes::{Scope, Scopes, WrittenElement};
+pub use written_connections::{End, Owner, WrittenConnection};

@@ -1,0 +1,57 @@
+//! Names in their order, each once.
+
+ghost use Rattle.std.specs.Prelude.{◌≡◌, [], ◌∷◌, ◌++◌, OnOk, OnErr, position, if◌then◌else◌};
+ghost use Rattle.std.specs.Str.{bytes_eq};
+ghost use Rattle.click_scopes.specs.Elements.{has_name};
+
+use indexmap::IndexSet;
+use std::alloc::{AllocError, Global};
+use std::marker::Model;
+
+/// Names in order, each once, by which a name's place is found.
+#[derive(Drop)]
+pub struct Names {
+    set: IndexSet<Vec<u8>>,
+}
+
+impl Model for Names {
+    ghost use Rattle.std.specs.Prelude.{ℕ, List, map};
+
+    ghost Value = { List (List ℕ) };
+
+    ghost view = { λ n. map (λ v. v.items) n.set.keys };
+}
+
+impl Names {
+    /// No names.
+    pub fn new(alloc: Global) -> Names
+        ensures { result ≡ [] }
+    {
+        Names {
+            set: IndexSet::new(alloc),
+        }
+    }
+
+    /// The name is among these.
+    pub fn has(&self, name: &[u8]) -> bool
+        ensures { result ≡ has_name name.now self.now }
+    {
+        self.set.contains(name)
+    }
+
+    /// Where the name stands.
+    pub fn place(&self, name: &[u8]) -> Option<usize>
+        ensures { result ≡ position (bytes_eq name.now) self.now }
+    {
+        self.set.get_index_of(name)
+    }
+
+    /// Adds the name at the end, if it is not there. An error leaves the names as they were.
+    pub fn add(&mut self, alloc: Global, name: &[u8]) -> Result<(), AllocError>
+        ensures added { OnOk result (self.new ≡ (if has_name name.now self.old then self.old else self.old ++ name.now ∷ [])) }
+        ensures err { OnErr result (self.new ≡ self.old) }
+    {
+        self.set.insert(Vec::from_slice(alloc, name)?)?;
+        Ok(())
+    }
+}

@@ -1,0 +1,143 @@
+//! The ports of bodies.
+
+ghost use Rattle.std.specs.Prelude.{◌≡◌, ◌≤◌, ◌↔◌, ℕ, List, [], ◌∷◌, ◌++◌, length, slice_get, IsTrue, IfOk, OnOk};
+ghost use Rattle.click_scopes.specs.kept.WrittenConnections.{AreAllJoints};
+ghost use Rattle.click_scopes.specs.kept.Nesting.{IsNested};
+ghost use Rattle.click_scopes.specs.kept.CompoundFaults.{inputs_kept, outputs_kept, ports_or, list_or_empty, HasGap, IsUsed, IsPorts, ArePorts};
+
+use crate::written_connections::{Owner, WrittenConnection};
+use click_text::sequence::Sequence;
+use click_text::syntax::Config;
+use std::alloc::{AllocError, Global};
+
+/// How many ports a body has, and that one below the highest is not in use.
+#[derive(Clone, Copy)]
+pub struct Ports {
+    pub inputs: usize,
+    pub outputs: usize,
+    pub gap: bool,
+}
+
+/// The ports of one side of a body that are in use: how many there are by the highest, and which.
+#[derive(Drop)]
+struct PortsInUse {
+    count: usize,
+    ports: [bool; 256],
+    ghost few: { count ≤ 256 },
+}
+
+impl PortsInUse {
+    /// No port is in use.
+    fn none() -> PortsInUse
+        ensures { IsUsed [] result.count result.ports }
+    {
+        let ports = [false; 256];
+        PortsInUse { count: 0, ports }
+    }
+
+    /// A further port is in use.
+    fn add(&mut self, port: u8)
+        ensures { (ports : List ℕ) → IsUsed ports self.old.count self.old.ports → IsUsed (ports ++ port ∷ []) self.new.count self.new.ports }
+    {
+        let place = port as usize;
+        self.ports[place] = true;
+        if self.count <= place {
+            self.count = place + 1;
+        }
+    }
+
+    /// One below the highest is not in use.
+    fn has_gap(&self) -> bool
+        ensures { (ports : List ℕ) → IsUsed ports self.now.count self.now.ports → IsTrue result ↔ HasGap ports }
+    {
+        for place in 0..self.count {
+            if !self.ports[place] {
+                return true;
+            }
+        }
+        false
+    }
+}
+
+/// The inputs of a body that its connections name.
+fn inputs_used(joints: &[WrittenConnection]) -> PortsInUse
+    ensures { IsUsed (inputs_kept joints.now) result.count result.ports }
+{
+    let mut used = PortsInUse::none();
+    for joint in joints {
+        if let Owner::Input = joint.from.owner {
+            used.add(joint.out_port);
+        }
+    }
+    used
+}
+
+/// The outputs of a body that its connections name.
+fn outputs_used(joints: &[WrittenConnection]) -> PortsInUse
+    ensures { IsUsed (outputs_kept joints.now) result.count result.ports }
+{
+    let mut used = PortsInUse::none();
+    for joint in joints {
+        if let Owner::Output = joint.to.owner {
+            used.add(joint.in_port);
+        }
+    }
+    used
+}
+
+/// The ports of a body with these connections.
+fn ports_by(joints: &[WrittenConnection]) -> Ports
+    ensures { IsPorts (inputs_kept joints.now) (outputs_kept joints.now) result }
+{
+    let inputs = inputs_used(joints);
+    let outputs = outputs_used(joints);
+    Ports {
+        inputs: inputs.count,
+        outputs: outputs.count,
+        gap: inputs.has_gap() || outputs.has_gap(),
+    }
+}
+
+/// The connections of the scope at a place.
+pub(crate) fn joints_at(
+    joints: &[Sequence<WrittenConnection>],
+    place: usize,
+) -> &[WrittenConnection]
+    ensures { result.now ≡ list_or_empty (slice_get joints.now place) }
+{
+    match joints.get(place) {
+        Some(row) => row.as_slice(),
+        None => &[],
+    }
+}
+
+/// The ports of each body.
+pub(crate) fn all_ports(
+    alloc: Global,
+    config: &Config,
+    joints: &[Sequence<WrittenConnection>],
+) -> Result<Vec<Ports>, AllocError>
+    requires nested { IsNested config.now }
+    requires joined { AreAllJoints config.now joints.now }
+    ensures { IfOk result (λ ports. ArePorts config.now ports.items) }
+{
+    let mut ports = Vec::new(alloc);
+    for place in 0..config.bodies.len() {
+        ports.push(ports_by(joints_at(joints, place)))?;
+    }
+    Ok(ports)
+}
+
+/// The ports of a body.
+pub(crate) fn ports_at(ports: &[Ports], body: usize) -> Ports
+    ensures { result ≡ ports_or (slice_get ports.now body) }
+{
+    match ports.get(body) {
+        Some(found) => *found,
+        None => Ports {
+            inputs: 0,
+            outputs: 0,
+            gap: false,
+        },
+    }
+}

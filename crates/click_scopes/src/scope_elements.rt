@@ -1,0 +1,238 @@
+//! The elements of a scope and their names.
+
+ghost use Rattle.std.specs.Prelude.{◌≡◌, ◌<◌, ℕ, List, [], ◌∷◌, ◌++◌, map, IfOk, OnOk};
+ghost use Rattle.click_scopes.specs.Elements as spec;
+ghost use Rattle.click_scopes.specs.Elements.{Placed, has_name, locals_from};
+ghost use Rattle.click_scopes.specs.kept.Nesting.{IsNested};
+ghost use Rattle.click_scopes.specs.kept.Scoped.{AreScopes};
+ghost use Rattle.click_scopes.specs.kept.ScopeElements.{AreLocalsOf, AreStringsOf, AreAllLocals, AreAllStrings, strings_of, strings_made};
+ghost use Rattle.click_scopes.specs.kept.Tables.{IsWrittenElement, AreWritten, elements_of, names_declared, numbers_from, role_kept, local_of};
+
+use crate::classes::{ClassEntry, ClassOf, class_at};
+use crate::names::Names;
+use crate::scopes::{Scopes, WrittenElement};
+use click_text::syntax::{Class, Config, Element, Head, Span};
+use itoa::Buffer;
+use std::alloc::{AllocError, Global};
+
+/// What an element as written stands for.
+#[derive(Clone, Copy, Debug, PartialEq, Eq)]
+pub enum Role {
+    /// One of a body's own ports.
+    Pseudo,
+    /// An element that is declared in the scope.
+    Refers,
+    /// An element of its own.
+    Makes,
+}
+
+/// An element of a scope.
+#[derive(Drop)]
+pub struct Local {
+    pub name: Vec<u8>,
+    pub class: Option<ClassOf>,
+    pub text: Option<Span>,
+    pub head: Head,
+}
+
+/// The word is the name of a body's own ports.
+pub fn is_port_name(word: &[u8]) -> bool
+    ensures { result ≡ spec.is_port_name word.now }
+{
+    word == b"input".as_slice() || word == b"output".as_slice()
+}
+
+/// The names that are declared in a scope.
+fn declared_of(alloc: Global, text: &[u8], written: &[WrittenElement]) -> Result<Names, AllocError>
+    ensures { IfOk result (λ names. (name : List ℕ) → has_name name names ≡ has_name name (names_declared text.now (elements_of written.now))) }
+{
+    let mut names = Names::new(alloc);
+    for one in written {
+        if let Head::Declared(name, _) = one.element.head {
+            names.add(alloc, name.of(text))?;
+        }
+    }
+    Ok(names)
+}
+
+/// What a bare word stands for.
+fn word_role(in_body: bool, declared: &Names, word: &[u8]) -> Role
+    ensures { role_kept result ≡ spec.word_role in_body declared.now word.now }
+{
+    if in_body && is_port_name(word) {
+        return Role::Pseudo;
+    }
+    if declared.has(word) {
+        Role::Refers
+    } else {
+        Role::Makes
+    }
+}
+
+/// What an element as written stands for.
+pub(crate) fn role_of(text: &[u8], in_body: bool, declared: &Names, element: Element) -> Role
+    ensures { role_kept result ≡ spec.role text.now in_body declared.now element }
+{
+    match (element.head, element.text) {
+        (Head::Word(word), None) => word_role(in_body, declared, word.of(text)),
+        _ => Role::Makes,
+    }
+}
+
+/// The class, `@`, and the number of an element before which so many stand.
+fn numbered(alloc: Global, class: &[u8], before: usize) -> Result<Vec<u8>, AllocError>
+    requires { before < usize.MAX }
+    ensures { IfOk result (λ v. v.items ≡ spec.name_with_number class.now before) }
+{
+    let mut buffer = Buffer::new();
+    let mut name = Vec::from_slice(alloc, class)?;
+    name.extend_from_slice(b"@")?;
+    name.extend_from_slice(buffer.format(before + 1).as_bytes())?;
+    Ok(name)
+}
+
+/// The name of an element that one makes, before which so many stand.
+fn made_name(alloc: Global, text: &[u8], before: usize, head: Head) -> Result<Vec<u8>, AllocError>
+    requires { before < usize.MAX }
+    ensures { IfOk result (λ v. v.items ≡ spec.made_name text.now before head) }
+{
+    match head {
+        Head::Word(word) => numbered(alloc, word.of(text), before),
+        Head::Declared(name, _) => Vec::from_slice(alloc, name.of(text)),
+        Head::Compound(_) => numbered(alloc, b"Compound".as_slice(), before),
+    }
+}
+
+/// The class of an element that makes one.
+fn head_class(head: Head) -> Class
+    ensures { result ≡ spec.head_class head }
+{
+    match head {
+        Head::Word(word) => Class::Named(word),
+        Head::Declared(_, class) => class,
+        Head::Compound(body) => Class::Body(body),
+    }
+}
+
+/// The element that is made here, before which so many stand.
+fn made(
+    alloc: Global,
+    text: &[u8],
+    entries: &[ClassEntry],
+    before: usize,
+    one: WrittenElement,
+) -> Result<Local, AllocError>
+    requires { before < usize.MAX }
+    ensures local { IfOk result (λ l. (p : Placed) → IsWrittenElement text.now entries.now one p → local_of text.now l ≡ spec.local text.now before p) }
+    ensures string { IfOk result (λ l. l.text ≡ one.element.text) }
+{
+    Ok(Local {
+        name: made_name(alloc, text, before, one.element.head)?,
+        class: class_at(text, entries, one.top, head_class(one.element.head)),
+        text: one.element.text,
+        head: one.element.head,
+    })
+}
+
+/// Adds an element at the end.
+fn push(locals: &mut Vec<Local>, local: Local) -> Result<(), AllocError>
+    ensures { OnOk result (locals.new.items ≡ locals.old.items ++ local ∷ []) }
+{
+    locals.push(local)?;
+    Ok(())
+}
+
+/// The elements of a scope.
+fn locals_of(
+    alloc: Global,
+    text: &[u8],
+    entries: &[ClassEntry],
+    in_body: bool,
+    declared: &Names,
+    written: &[WrittenElement],
+) -> Result<Vec<Local>, AllocError>
+    ensures locals { IfOk result (λ ls. (ps : List Placed) → AreWritten text.now entries.now written.now ps → map (local_of text.now) ls.items ≡ locals_from text.now in_body declared.now 0 ps) }
+    ensures strings { IfOk result (λ ls. strings_of ls.items ≡ strings_made text.now in_body declared.now (elements_of written.now)) }
+{
+    let mut locals = Vec::new(alloc);
+    for one in written {
+        if let Role::Makes = role_of(text, in_body, declared, one.element) {
+            let local = made(alloc, text, entries, locals.len(), *one)?;
+            push(&mut locals, local)?;
+        }
+    }
+    Ok(locals)
+}
+
+/// For each element as written, the number of elements before it.
+pub(crate) fn numbers_of(
+    alloc: Global,
+    text: &[u8],
+    in_body: bool,
+    declared: &Names,
+    written: &[WrittenElement],
+) -> Result<Vec<usize>, AllocError>
+    ensures { IfOk result (λ ns. ns.items ≡ numbers_from text.now in_body declared.now 0 (elements_of written.now)) }
+{
+    let mut numbers = Vec::new(alloc);
+    let mut number = 0;
+    for one in written {
+        numbers.push(number)?;
+        if let Role::Makes = role_of(text, in_body, declared, one.element) {
+            number += 1;
+        }
+    }
+    Ok(numbers)
+}
+
+/// The elements of a scope, whichever names it declares.
+fn locals_in(
+    alloc: Global,
+    text: &[u8],
+    entries: &[ClassEntry],
+    in_body: bool,
+    written: &[WrittenElement],
+) -> Result<Vec<Local>, AllocError>
+    ensures locals { IfOk result (λ ls. AreLocalsOf text.now entries.now in_body written.now ls.items) }
+    ensures strings { IfOk result (λ ls. AreStringsOf text.now in_body written.now ls.items) }
+{
+    let declared = declared_of(alloc, text, written)?;
+    let locals = locals_of(alloc, text, entries, in_body, &declared, written)?;
+    Ok(locals)
+}
+
+/// Adds the elements of a scope at the end.
+fn push_locals(all: &mut Vec<Vec<Local>>, locals: Vec<Local>) -> Result<(), AllocError>
+    ensures { OnOk result (all.new.items ≡ all.old.items ++ locals ∷ []) }
+{
+    all.push(locals)?;
+    Ok(())
+}
+
+/// The elements of each scope of a configuration.
+pub fn all_locals(
+    alloc: Global,
+    config: &Config,
+    scopes: &Scopes,
+) -> Result<Vec<Vec<Local>>, AllocError>
+    requires nested { IsNested config.now }
+    requires scoped { AreScopes config.now scopes.now.entries.items scopes.now.scopes.items }
+    ensures locals { IfOk result (λ all. AreAllLocals config.now all.items) }
+    ensures strings { IfOk result (λ all. AreAllStrings config.now all.items) }
+{
+    let text = config.text.as_slice();
+    let count = config.bodies.len();
+    let entries = scopes.entries.as_slice();
+    let mut all = Vec::new(alloc);
+    for (place, scope) in scopes.scopes.as_slice().iter().enumerate() {
+        let locals = locals_in(
+            alloc,
+            text,
+            entries,
+            place < count,
+            scope.written.as_slice(),
+        )?;
+        push_locals(&mut all, locals)?;
+    }
+    Ok(all)
+}

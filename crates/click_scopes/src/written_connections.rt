@@ -1,0 +1,309 @@
+//! The connections of each scope as they are written.
+
+ghost use Rattle.std.specs.Prelude.{◌≡◌, ℕ, List, [], ◌∷◌, ◌++◌, map, length, position, IfOk, OnOk, OnErr, if◌then◌else◌};
+ghost use Rattle.std.specs.Str.{bytes_eq};
+ghost use Rattle.click_text.specs.declared.syntax.Statement.{Statement as Stated};
+ghost use Rattle.click_text.specs.declared.syntax.Config.{Config as Configured};
+ghost use Rattle.click_scopes.specs.Elements as spec;
+ghost use Rattle.click_scopes.specs.Elements.{Placed, Local, placed, has_name};
+ghost use Rattle.click_scopes.specs.Faults.{ScopeNames as NamesSaid, written_end, joints_from};
+ghost use Rattle.click_scopes.specs.kept.Nesting.{IsNested};
+ghost use Rattle.click_scopes.specs.kept.Scoped.{AreScopes, ports_in};
+ghost use Rattle.click_scopes.specs.kept.WrittenConnections.{IsOwner, IsEndKept, AreJoints, AreAllJoints};
+ghost use Rattle.click_scopes.specs.kept.ConnectionEnds.{at, names_among, locals_in, placed_elements, AreDeclared, AreNamesKnown, IsHere, AreEndsKept, AreJointsOf, joint_by};
+ghost use Rattle.click_scopes.specs.kept.Tables.{elements_of, names_declared};
+ghost use Rattle.click_scopes.specs.kept.FirstFault.{AreShort};
+
+use crate::first_fault::first_token;
+use crate::names::Names;
+use crate::scope_elements::{Role, numbers_of, role_of};
+use crate::scopes::{Scopes, WrittenElement};
+use click_text::sequence::Sequence;
+use click_text::syntax::{Config, Element, Head, Span};
+use std::alloc::{AllocError, Global};
+
+/// Whose port an end of a connection is.
+#[derive(Clone, Copy, Debug, PartialEq, Eq, Hash)]
+pub enum Owner {
+    /// The body's own inputs, as a source.
+    Input,
+    /// The body's own outputs, as a target.
+    Output,
+    /// The element at that place among the scope's elements.
+    Element(usize),
+}
+
+/// An end of a connection: whose port it is, and the first token there.
+#[derive(Clone, Copy)]
+pub struct End {
+    pub owner: Owner,
+    pub first: Span,
+}
+
+/// A connection as it is written.
+#[derive(Clone, Copy)]
+pub struct WrittenConnection {
+    pub from: End,
+    pub out_port: u8,
+    pub to: End,
+    pub in_port: u8,
+}
+
+/// The names that a scope declares, each once, and the place of the first element as written of each.
+#[derive(Drop)]
+struct Declared {
+    names: Names,
+    firsts: Vec<usize>,
+}
+
+impl Declared {
+    /// Adds the name of the element as written at a place, if it is new. An error leaves the names as they were.
+    fn add(&mut self, alloc: Global, name: &[u8], place: usize) -> Result<(), AllocError>
+        ensures names { OnOk result (self.new.names ≡ (if has_name name.now self.old.names then self.old.names else self.old.names ++ name.now ∷ [])) }
+        ensures firsts { OnOk result (self.new.firsts.items ≡ (if has_name name.now self.old.names then self.old.firsts.items else self.old.firsts.items ++ place ∷ [])) }
+        ensures err { OnErr result (self.new.names ≡ self.old.names) }
+        ensures err_firsts { OnErr result (self.new.firsts.items ≡ self.old.firsts.items) }
+    {
+        if !self.names.has(name) {
+            self.firsts.push(place)?;
+            if let Err(error) = self.names.add(alloc, name) {
+                let _place = self.firsts.pop();
+                return Err(error);
+            }
+        }
+        Ok(())
+    }
+
+    /// The place of the first element as written of that name.
+    fn first(&self, name: &[u8]) -> Option<usize>
+        ensures { result ≡ at self.now.firsts.items (position (bytes_eq name.now) self.now.names) }
+    {
+        match self.names.place(name) {
+            None => None,
+            Some(place) => self.firsts.get(place).copied(),
+        }
+    }
+}
+
+/// The names that a scope declares.
+fn declared_in(
+    alloc: Global,
+    text: &[u8],
+    written: &[WrittenElement],
+) -> Result<Declared, AllocError>
+    ensures first { IfOk result (λ d. AreDeclared text.now (elements_of written.now) d.names d.firsts.items) }
+    ensures has { IfOk result (λ d. (name : List ℕ) → has_name name d.names ≡ has_name name (names_declared text.now (elements_of written.now))) }
+{
+    let mut declared = Declared {
+        names: Names::new(alloc),
+        firsts: Vec::new(alloc),
+    };
+    for (place, one) in written.iter().enumerate() {
+        if let Head::Declared(name, _) = one.element.head {
+            declared.add(alloc, name.of(text), place)?;
+        }
+    }
+    Ok(declared)
+}
+
+/// The element that a scope declares under a name.
+fn named(declared: &Declared, numbers: &[usize], name: &[u8]) -> Option<usize>
+    ensures { result ≡ at numbers.now (at declared.now.firsts.items (position (bytes_eq name.now) declared.now.names)) }
+{
+    match declared.first(name) {
+        None => None,
+        Some(first) => numbers.get(first).copied(),
+    }
+}
+
+/// The word or the name that an element begins with.
+fn word_of(text: &[u8], head: Head) -> &[u8]
+    ensures { result.now ≡ spec.word_of text.now head }
+{
+    match head {
+        Head::Word(word) => word.of(text),
+        Head::Declared(name, _) => name.of(text),
+        Head::Compound(_) => &[],
+    }
+}
+
+/// Whose port an element as written is, before which so many elements stand.
+fn owner_of(
+    config: &Config,
+    in_body: bool,
+    declared: &Declared,
+    numbers: &[usize],
+    number: usize,
+    element: Element,
+) -> Owner
+    ensures { (ps : List Placed) (p : Placed) → AreNamesKnown config.now.text in_body declared.now.names declared.now.firsts.items numbers.now ps → IsHere numbers.now number element ps p →
+        IsOwner (locals_in config.now.text in_body ps) result (written_end config.now (names_among config.now.text in_body ps) number p) }
+{
+    let text = config.text.as_slice();
+    let word = word_of(text, element.head);
+    match role_of(text, in_body, &declared.names, element) {
+        Role::Pseudo => {
+            if word == b"input".as_slice() {
+                Owner::Input
+            } else {
+                Owner::Output
+            }
+        }
+        Role::Refers => match named(declared, numbers, word) {
+            Some(place) => Owner::Element(place),
+            None => Owner::Element(number),
+        },
+        Role::Makes => Owner::Element(number),
+    }
+}
+
+/// The end of a connection at an element as written.
+fn end_at(
+    config: &Config,
+    in_body: bool,
+    declared: &Declared,
+    numbers: &[usize],
+    number: usize,
+    element: Element,
+) -> End
+    requires { AreShort config.now.bodies }
+    ensures { (ps : List Placed) (p : Placed) → AreNamesKnown config.now.text in_body declared.now.names declared.now.firsts.items numbers.now ps → IsHere numbers.now number element ps p →
+        IsEndKept (locals_in config.now.text in_body ps) result (written_end config.now (names_among config.now.text in_body ps) number p) }
+{
+    End {
+        owner: owner_of(config, in_body, declared, numbers, number, element),
+        first: first_token(config.bodies.as_slice(), element.head),
+    }
+}
+
+/// The ends at each element of a scope as written, where so many elements stand before each.
+fn ends_at(
+    alloc: Global,
+    config: &Config,
+    in_body: bool,
+    declared: &Declared,
+    numbers: &[usize],
+    written: &[WrittenElement],
+) -> Result<Vec<End>, AllocError>
+    requires short { AreShort config.now.bodies }
+    requires as_many { length numbers.now ≡ length written.now }
+    ensures as_many { IfOk result (λ ends. length ends.items ≡ length written.now) }
+    ensures ends { IfOk result (λ ends. (ps : List Placed) → AreNamesKnown config.now.text in_body declared.now.names declared.now.firsts.items numbers.now ps → placed_elements ps ≡ elements_of written.now →
+        AreEndsKept (locals_in config.now.text in_body ps) config.now (names_among config.now.text in_body ps) 0 ends.items ps) }
+{
+    let mut ends = Vec::new(alloc);
+    for (place, one) in written.iter().enumerate() {
+        let number = numbers[place];
+        ends.push(end_at(config, in_body, declared, numbers, number, one.element))?;
+    }
+    Ok(ends)
+}
+
+/// The ends at each element of a scope as written.
+fn ends_of(
+    alloc: Global,
+    config: &Config,
+    in_body: bool,
+    written: &[WrittenElement],
+) -> Result<Vec<End>, AllocError>
+    requires { AreShort config.now.bodies }
+    ensures as_many { IfOk result (λ ends. length ends.items ≡ length written.now) }
+    ensures ends { IfOk result (λ ends. (ps : List Placed) → placed_elements ps ≡ elements_of written.now →
+        AreEndsKept (locals_in config.now.text in_body ps) config.now (names_among config.now.text in_body ps) 0 ends.items ps) }
+{
+    let text = config.text.as_slice();
+    let declared = declared_in(alloc, text, written)?;
+    let numbers = numbers_of(alloc, text, in_body, &declared.names, written)?;
+    let ends = ends_at(
+        alloc,
+        config,
+        in_body,
+        &declared,
+        numbers.as_slice(),
+        written,
+    )?;
+    Ok(ends)
+}
+
+/// The connection from the end before to this one, where ports join them.
+fn joint_of(from: Option<End>, ports: Option<(u8, u8)>, to: End) -> Option<WrittenConnection>
+    ensures { result ≡ joint_by from ports to }
+{
+    match (from, ports) {
+        (Some(from), Some((out_port, in_port))) => Some(WrittenConnection {
+            from,
+            out_port,
+            to,
+            in_port,
+        }),
+        _ => None,
+    }
+}
+
+/// The connections that ports join among these ends.
+fn joints_between(
+    alloc: Global,
+    ends: &[End],
+    written: &[WrittenElement],
+) -> Result<Sequence<WrittenConnection>, AllocError>
+    requires { length ends.now ≡ length written.now }
+    ensures { IfOk result (λ joints. (c : Configured) (names : NamesSaid) (ls : List Local) (visible statements : List Stated) → AreEndsKept ls c names 0 ends.now (placed visible statements) →
+        map (λ w. w.ports) written.now ≡ ports_in statements → AreJoints ls joints (joints_from c names visible 0 statements)) }
+{
+    let mut joints = Sequence::new(alloc);
+    let mut before = None;
+    for (place, one) in written.iter().enumerate() {
+        let end = ends[place];
+        if let Some(joint) = joint_of(before, one.ports, end) {
+            joints.push(joint)?;
+        }
+        before = Some(end);
+    }
+    Ok(joints)
+}
+
+/// The connections of a scope.
+fn joints_in(
+    alloc: Global,
+    config: &Config,
+    in_body: bool,
+    written: &[WrittenElement],
+) -> Result<Sequence<WrittenConnection>, AllocError>
+    requires { AreShort config.now.bodies }
+    ensures { IfOk result (λ joints. AreJointsOf config.now in_body written.now joints) }
+{
+    let ends = ends_of(alloc, config, in_body, written)?;
+    let joints = joints_between(alloc, ends.as_slice(), written)?;
+    Ok(joints)
+}
+
+/// Adds the connections of a scope at the end.
+fn push_joints(
+    all: &mut Vec<Sequence<WrittenConnection>>,
+    joints: Sequence<WrittenConnection>,
+) -> Result<(), AllocError>
+    ensures { OnOk result (all.new.items ≡ all.old.items ++ joints ∷ []) }
+{
+    all.push(joints)?;
+    Ok(())
+}
+
+/// The connections of each scope of a configuration, in the order of the text.
+pub fn all_joints(
+    alloc: Global,
+    config: &Config,
+    scopes: &Scopes,
+) -> Result<Vec<Sequence<WrittenConnection>>, AllocError>
+    requires nested { IsNested config.now }
+    requires short { AreShort config.now.bodies }
+    requires scoped { AreScopes config.now scopes.now.entries.items scopes.now.scopes.items }
+    ensures { IfOk result (λ all. AreAllJoints config.now all.items) }
+{
+    let count = config.bodies.len();
+    let mut all = Vec::new(alloc);
+    for (place, scope) in scopes.scopes.as_slice().iter().enumerate() {
+        let joints = joints_in(alloc, config, place < count, scope.written.as_slice())?;
+        push_joints(&mut all, joints)?;
+    }
+    Ok(all)
+}

@@ -1,0 +1,166 @@
+//! Where the installs are kept, each for as long as the board lasts.
+
+ghost use Rattle.std.specs.Prelude.{◌≡◌, ◌∷◌, IfOk, IfSome};
+ghost use Rattle.boxcar.specs.Table.{Shows};
+ghost use Rattle.click_views.specs.Showing.{numbers};
+
+use crate::log::SeenLog;
+use crate::mark::{Mark, Told};
+use boxcar::slot::{OnceSlot, SlotRule, Written};
+use boxcar::tag::{Names, Tag};
+use boxcar::{Keeps, Pushed};
+use std::alloc::{AllocError, Global};
+use std::marker::Model;
+use std::sync::Wait;
+
+/// An install has no rule.
+pub struct AnyInstall;
+
+impl<I> SlotRule<I> for AnyInstall {
+    ghost use Rattle.std.specs.Prelude.{⊤};
+
+    ghost holds = { λ _ _. ⊤ };
+}
+
+/// What is told in a cell is of the cell's install and of the board's book.
+pub struct OfCell;
+
+impl<I> SlotRule<Told<I>> for OfCell {
+    ghost use Rattle.std.specs.Prelude.{◌≡◌, ◌∷◌};
+    ghost use Rattle.click_views.specs.Showing.{numbers};
+
+    ghost holds = { λ tag told. tag ≡ told.slot ∷ numbers told.book };
+}
+
+/// An install, and what is told of it once it stands in the log.
+#[derive(Drop)]
+pub struct Cell<I> {
+    install: OnceSlot<I, AnyInstall>,
+    told: OnceSlot<Told<I>, OfCell>,
+}
+
+/// The cells are of the book that the board's tag names.
+pub struct OfBook;
+
+impl<I> Keeps<Cell<I>> for OfBook {
+    ghost use Rattle.std.specs.Prelude.{◌≡◌, ◌∷◌};
+
+    ghost holds = { λ tag _ cell. cell.told.tag ≡ cell.install.id ∷ tag };
+}
+
+struct ByBook;
+
+impl<I> Names<SeenLog<I>> for ByBook {
+    ghost use Rattle.click_views.specs.Showing.{numbers};
+
+    ghost numbers = { λ seen. numbers seen.book };
+}
+
+#[derive(Drop)]
+struct CellName<'a, I> {
+    slot: &'a OnceSlot<I, AnyInstall>,
+    seen: &'a SeenLog<I>,
+}
+
+struct ByCell;
+
+impl<'a, I> Names<CellName<'a, I>> for ByCell {
+    ghost use Rattle.std.specs.Prelude.{◌∷◌};
+    ghost use Rattle.click_views.specs.Showing.{numbers};
+
+    ghost numbers = { λ name. name.slot.now.id ∷ numbers name.seen.now.book };
+}
+
+/// The installs of one desk.
+#[derive(Drop)]
+pub struct Board<I> {
+    cells: boxcar::Vec<Cell<I>, Global, OfBook>,
+}
+
+impl<I> Model for Board<I> {
+    ghost use Rattle.boxcar.specs.Table.{Shelves, shelves_coded};
+
+    ghost Value = { Shelves };
+
+    ghost coded = { shelves_coded };
+
+    ghost view = { λ b. b.cells };
+}
+
+impl<I: Drop> Board<I> {
+    /// An empty board, for the installs of this log.
+    pub fn new(alloc: Global, seen: &SeenLog<I>) -> Result<Board<I>, AllocError>
+        ensures { IfOk result (λ b. b.tag ≡ numbers seen.now.book) }
+    {
+        Ok(Board {
+            cells: boxcar::Vec::with_rule(alloc, Tag::of::<SeenLog<I>, ByBook>(seen))?,
+        })
+    }
+
+    /// Keeps an install, of which nothing is told yet.
+    pub fn keep<R: Wait>(
+        &self,
+        rt: &R,
+        seen: &SeenLog<I>,
+        install: I,
+    ) -> Result<(Pushed<Cell<I>, Global, OfBook>, Written<I>), AllocError>
+        requires { self.now.tag ≡ numbers seen.now.book }
+        ensures shown { IfOk result (λ r. Shows self.now r.0) }
+        ensures kept { IfOk result (λ r. (r.1.of ≡ r.0.value.install.id) × (r.1.value ≡ install)) }
+    {
+        let slot: OnceSlot<I, AnyInstall> = OnceSlot::new(&Tag::empty());
+        let Ok(written) = slot.set_written(install) else {
+            return Err(AllocError);
+        };
+        let told = OnceSlot::new(&Tag::of::<CellName<'_, I>, ByCell>(&CellName {
+            slot: &slot,
+            seen,
+        }));
+        match self.cells.push_shown(
+            rt,
+            Cell {
+                install: slot,
+                told,
+            },
+        ) {
+            Ok(cell) => Ok((cell, written)),
+            Err(_) => Err(AllocError),
+        }
+    }
+
+    /// Tells of a cell's install. It takes no memory, and waits for nobody.
+    pub fn tell(&self, mark: &Mark<I>)
+        requires shown { Shows self.now mark.now.cell }
+        requires book { self.now.tag ≡ numbers mark.now.told.book }
+    {
+        let index = mark.cell.index();
+        if let Some(cell) = self.cells.get_seen(index, &mark.cell) {
+            drop(cell.told.set_written(mark.told.again()));
+        }
+    }
+}
+
+impl<I> Board<I> {
+    /// The install of this cell, if it was told of.
+    pub fn told_at(&self, index: usize) -> Option<Mark<I>>
+        ensures shown { IfSome result (λ m. Shows self.now m.cell) }
+        ensures book { IfSome result (λ m. self.now.tag ≡ numbers m.told.book) }
+    {
+        let cell = self.cells.witness(index)?;
+        let told = self.cells.get_seen(index, &cell)?.told.get()?.again();
+        Some(Mark { told, cell })
+    }
+
+    /// The install of a cell.
+    pub fn install<'a>(
+        &'a self,
+        cell: &Pushed<Cell<I>, Global, OfBook>,
+        written: &Written<I>,
+    ) -> &'a I
+        requires shown { Shows self.now cell.now }
+        requires kept { written.now.of ≡ cell.now.value.install.id }
+        ensures { result.now ≡ written.now.value }
+    {
+        self.cells.value(cell).install.value(written)
+    }
+}
