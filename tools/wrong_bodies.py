@@ -239,10 +239,12 @@ def refused_by_itself(said):
     """The functions that are refused for what they do themselves, those that are refused for a lost name alone, each with the reason, and all that were checked."""
     errors, lost = {}, {}
     for found in re.finditer(r"^\./proofs/(\S+)/\w+\.antt:\d+:\d+: error: (.*)$", said, re.M):
-        # Functions that call one another in a cycle have their proofs in one folder, and the name of a goal there begins with that of its function.
-        in_cycle = re.match(r"(.*/)?\+\w+ `(\w+)-", f"{found[1]} {found[2]}")
-        place = f"{in_cycle[1] or ''}{in_cycle[2]}" if in_cycle else found[1]
-        (lost if STALE.search(found[2]) else errors).setdefault(place, found[2])
+        # Functions that call one another in a cycle have their proofs in one folder, and the name of a goal there begins with that of its function. One that calls itself alone has
+        # a folder of its own name.
+        in_cycle = re.match(r"(.*/)?\+(\w+) `(\w+)-", f"{found[1]} {found[2]}")
+        places = [f"{in_cycle[1] or ''}{name}" for name in in_cycle.groups()[1:]] if in_cycle else [found[1]]
+        for place in places:
+            (lost if STALE.search(found[2]) else errors).setdefault(place, found[2])
     refused, stale, checked = {}, {}, set()
     for path, verdict in re.findall(r"^fn ([\w:+]+): (.*)$", said, re.M):
         place = "/".join(path.split("::")[1:])
@@ -250,7 +252,8 @@ def refused_by_itself(said):
         path = re.sub(r"\bfn::(\w+)::.*", r"\1", path)
         checked.add(path)
         open_goal = re.search(r"`search` did not prove .*|expected .*", verdict.partition("; it calls ")[0])
-        of_others = "/+" in verdict and path.split("::")[-1] not in re.findall(r"`(\w+)-[^`]*`", verdict)
+        name = path.split("::")[-1]
+        of_others = "/+" in verdict and f"/+{name}/" not in verdict and name not in re.findall(r"`(\w+)-[^`]*`", verdict)
         if open_goal and not of_others:
             refused[path] = open_goal[0]
         elif verdict.startswith("not proved") and place in errors:
