@@ -179,6 +179,7 @@ fn bell_for<'a, R: Wait>(
     views: usize,
 ) -> Result<Option<Bell<&'a R>>, AllocError>
     requires { views ≤ 16 }
+    ensures { IfOk result (λ b. is_some b ≡ nat_lt 0 views) }
 {
     if views == 0 {
         Ok(None)

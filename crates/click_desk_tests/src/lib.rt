@@ -18,4 +18,8 @@ mod seats;
 #[cfg(test)]
 mod sessions;
 #[cfg(test)]
+mod views;
+#[cfg(test)]
+mod watching;
+#[cfg(test)]
 mod workers;

@@ -315,7 +315,7 @@ fn closes_with<T: Drop, R: Wait>(rt: &R, desk: Desk<T, &R>, case: Case, seats: V
 }
 
 /// The last of these seats, and the others, with room for it.
-fn last_of<T: Drop, B: Wait + Drop>(
+pub(crate) fn last_of<T: Drop, B: Wait + Drop>(
     desk: &Desk<T, B>,
     mut seats: Vec<Seat<T>>,
 ) -> Option<(Seat<T>, Vec<Seat<T>>)>

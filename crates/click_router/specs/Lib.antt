@@ -1,4 +1,5 @@
 pub mod FaultText
+pub mod Foretelling
 pub mod Globals
 pub mod InOrder
 pub mod One

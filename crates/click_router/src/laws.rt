@@ -14,7 +14,9 @@ ghost use Rattle.click_router.specs.declared.call.Refusal.TheVariants as refusal
 ghost use Rattle.click_router.specs.declared.call.Reply.{Reply};
 ghost use Rattle.click_router.specs.declared.call.Reply.TheVariants as reply;
 ghost use Rattle.click_router.specs.InOrder.{IsInOrder};
-ghost use Rattle.click_router.specs.One.{Answers, swap_text, read, before, place_of, is_dot, with_element};
+ghost use Rattle.click_router.specs.declared.check.Direction.TheVariants as direction;
+ghost use Rattle.click_router.specs.Foretelling.{Foretells};
+ghost use Rattle.click_router.specs.One.{Answers, check, listing_of, swap_text, read, before, place_of, is_dot, with_element};
 ghost use Rattle.click_router.specs.State.{RouterState};
 ghost use Rattle.click_router.specs.Swap.{taken};
 ghost use Rattle.click_router.specs.declared.fault.ConfigFault.{ConfigFault};
@@ -40,6 +42,12 @@ pub fn reads_change_nothing()
     ensures read { (s t : RouterState) (name text : List ℕ) (r : Reply) → Answers s (call.Read name text) t r → t ≡ s }
     ensures check { (s t : RouterState) (name : List ℕ) (r : Reply) → Answers s (call.CheckRead name) t r → t ≡ s }
     ensures check_write { (s t : RouterState) (name : List ℕ) (r : Reply) → Answers s (call.CheckWrite name) t r → t ≡ s }
+{}
+
+/// A check says beforehand what a call comes to: where it says yes, the call is not refused for want of a handler; else it is refused for just what the check says.
+pub fn checks_foretell_calls()
+    ensures read { (s t : RouterState) (name text : List ℕ) (r : Reply) → Answers s (call.Read name text) t r → Foretells (check (listing_of s) direction.Read name) r }
+    ensures write { (s t : RouterState) (name text : List ℕ) (r : Reply) → Answers s (call.Write name text) t r → Foretells (check (listing_of s) direction.Write name) r }
 {}
 
 /// What a handler of one element answers does not depend on what stands in the place of another.

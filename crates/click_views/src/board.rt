@@ -145,6 +145,7 @@ impl<I> Board<I> {
     pub fn told_at(&self, index: usize) -> Option<Mark<I>>
         ensures shown { IfSome result (λ m. Shows self.now m.cell) }
         ensures book { IfSome result (λ m. self.now.tag ≡ numbers m.told.book) }
+        ensures place { IfSome result (λ m. m.cell.index ≡ index) }
     {
         let cell = self.cells.witness(index)?;
         let told = self.cells.get_seen(index, &cell)?.told.get()?.again();

@@ -5,8 +5,9 @@ ghost use Rattle.std.specs.List.{All};
 ghost use Rattle.click_router.specs.Polls.{is_poll};
 
 use crate::peers::{Keeper, Script};
+use crate::seats::last_of;
 use click_control::Ended;
-use click_desk::{Desk, Seat, View};
+use click_desk::{Desk, OpenFault, Seat, View};
 use click_handlers::{Table, TakesTable, with_table};
 use click_router::{Call, Check, Handlers, Reply};
 use click_text::sequence::Sequence;
@@ -164,17 +165,75 @@ fn shows<T: Handlers, R: Wait>(
     opened & done & heard & told & kept & refused & same
 }
 
-/// Whether the view shows what it should, and meets the book once the desk is closed.
-fn one_view<T: Handlers + Drop, R: Wait>(rt: &R, alloc: Global, table: T) -> Option<bool> {
-    let opened = Desk::open_with_views(rt, alloc, table, COUNTED, 10, 1, Vec::new(alloc), 1);
-    let (desk, mut seats, mut views) = opened.ok()?;
-    let mut seat = seats.pop()?;
-    let mut view = views.pop()?;
+/// The last of these views, and the others.
+pub(crate) fn last_view_of<T: Drop, B: Wait + Drop>(
+    desk: &Desk<T, B>,
+    mut views: Vec<View>,
+) -> Option<(View, Vec<View>)>
+    requires { All (λ v. v.board ≡ desk.now.terms.origin) views.items }
+    ensures { IfSome result (λ r. (r.0.board ≡ desk.now.terms.origin) × All (λ v. v.board ≡ desk.now.terms.origin) r.1.items) }
+{
+    let view = views.pop()?;
+    Some((view, views))
+}
+
+/// The number of entries of the book, which the view meets, once the desk is closed with this seat and these others.
+pub(crate) fn meets<T: Drop, R: Wait>(
+    rt: &R,
+    desk: Desk<T, &R>,
+    mut others: Vec<Seat<T>>,
+    seat: Seat<T>,
+    view: &View,
+) -> Option<usize>
+    requires seats { (seat.desk ≡ desk) × All (λ s. s.desk ≡ desk) others.items }
+    requires board { view.now.board ≡ desk.terms.origin }
+{
+    others.push(seat).ok()?;
+    match desk.close(rt, others) {
+        Ok(book) => {
+            book.meet(view);
+            Some(book.entries.len())
+        }
+        Err(_refused) => None,
+    }
+}
+
+/// Whether the last of so many views shows what it should, and meets the book once the desk is closed.
+fn one_of<T: Handlers + Drop, R: Wait>(
+    rt: &R,
+    alloc: Global,
+    desk: Desk<T, &R>,
+    seats: Vec<Seat<T>>,
+    views: Vec<View>,
+) -> Option<bool>
+    requires seats { All (λ s. s.desk ≡ desk) seats.items }
+    requires views { All (λ v. v.board ≡ desk.terms.origin) views.items }
+{
+    let (mut seat, seats) = last_of(&desk, seats)?;
+    let (mut view, others) = last_view_of(&desk, views)?;
     let good = shows(rt, alloc, &desk, &mut seat, &mut view);
-    seats.push_reserved(seat);
-    let book = desk.close(rt, seats).ok()?;
-    book.meet(&view);
-    Some(good & (book.entries.len() == 2))
+    let entries = meets(rt, desk, seats, seat, &view)?;
+    Some(good & (entries == 2) & (others.len() == 15))
+}
+
+/// Whether there are 16 views, but not 17, and what the last of them shows.
+fn sixteen<T: Handlers + Drop, R: Wait>(rt: &R, alloc: Global, table: T) -> Option<bool> {
+    let table = refused_17(rt, alloc, table)?;
+    match Desk::open_with_views(rt, alloc, table, COUNTED, 10, 1, Vec::new(alloc), 16) {
+        Ok((desk, seats, views)) => one_of(rt, alloc, desk, seats, views),
+        Err(_refused) => None,
+    }
+}
+
+/// The table, handed back since there are no more than 16 views.
+fn refused_17<T: Handlers + Drop, R: Wait>(rt: &R, alloc: Global, table: T) -> Option<T> {
+    match Desk::open_with_views(rt, alloc, table, COUNTED, 10, 1, Vec::new(alloc), 17) {
+        Err(refused) => match refused.fault {
+            OpenFault::ViewCount => Some(refused.table),
+            _ => None,
+        },
+        Ok(_opened) => None,
+    }
 }
 
 #[derive(Drop)]
@@ -186,7 +245,7 @@ impl TakesTable for Views {
     type Out = Option<bool>;
 
     fn take<R: Threads + Wait + Sync>(self, rt: &R, table: Table) -> Option<bool> {
-        one_view(rt, self.alloc, table)
+        sixteen(rt, self.alloc, table)
     }
 }
 

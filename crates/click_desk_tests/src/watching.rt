@@ -1,9 +1,11 @@
 //! A view in a thread of its own, beside a seat that swaps all the while.
 
-ghost use Rattle.std.specs.Prelude.{◌≡◌, ◌∷◌, [], IfSome};
+ghost use Rattle.std.specs.Prelude.{◌≡◌};
+ghost use Rattle.std.specs.List.{All};
 ghost use Rattle.std.specs.Thread.{IsSync};
 
-use crate::views::swaps;
+use crate::seats::last_of;
+use crate::views::{last_view_of, meets, swaps};
 use click_desk::{Desk, Seat, View};
 use click_handlers::{Table, TakesTable, with_table};
 use click_router::{Check, Handlers};
@@ -144,22 +146,36 @@ fn beside<T: Handlers + Send + Drop, R: Threads + Wait + Sync>(
 }
 
 /// Whether two views show what they should, and meet the book once the desk is closed.
+fn two_of<T: Handlers + Send + Drop, R: Threads + Wait + Sync>(
+    rt: &R,
+    alloc: Global,
+    desk: Desk<T, &R>,
+    seats: Vec<Seat<T>>,
+    views: Vec<View>,
+) -> Option<bool>
+    requires seats { All (λ s. s.desk ≡ desk) seats.items }
+    requires views { All (λ v. v.board ≡ desk.terms.origin) views.items }
+{
+    let (seat, seats) = last_of(&desk, seats)?;
+    let (told, views) = last_view_of(&desk, views)?;
+    let (looks, _none) = last_view_of(&desk, views)?;
+    let ((seat, _told, swapped), (looks, seen)) = beside(rt, alloc, &desk, seat, told, looks);
+    let entries = meets(rt, desk, seats, seat, &looks)?;
+    Some(swapped & seen & (entries == SWAPS))
+}
+
+/// The same of a desk that is opened for it.
 fn two_views<T: Handlers + Send + Drop, R: Threads + Wait + Sync>(
     rt: &R,
     alloc: Global,
     table: T,
 ) -> Option<bool> {
     let text = text_of(alloc, 0).ok()?;
-    let inlets = Vec::new(alloc);
-    let opened = Desk::open_with_views(rt, alloc, table, text.as_bytes(), SWAPS, 1, inlets, 2);
-    let (desk, mut seats, mut views) = opened.ok()?;
-    let (seat, told, looks) = (seats.pop()?, views.pop()?, views.pop()?);
-    let ((seat, told, swapped), (looks, seen)) = beside(rt, alloc, &desk, seat, told, looks);
-    seats.push_reserved(seat);
-    let book = desk.close(rt, seats).ok()?;
-    book.meet(&told);
-    book.meet(&looks);
-    Some(swapped & seen & (book.entries.len() == SWAPS))
+    let none = Vec::new(alloc);
+    match Desk::open_with_views(rt, alloc, table, text.as_bytes(), SWAPS, 1, none, 2) {
+        Ok((desk, seats, views)) => two_of(rt, alloc, desk, seats, views),
+        Err(_refused) => None,
+    }
 }
 
 #[derive(Drop)]

@@ -1,0 +1,102 @@
+-- A check says beforehand whether a call meets a handler.
+use Rattle.std.proofs.Common.{◌≡◌, ℕ, List, codes, Bool, true, false, ◌||◌, if◌then◌else◌, Option, None, Some, Result, Ok, Err, option_map, refl, sym, ap, subst, inl, inr}
+use Rattle.std.proofs.lemmas.Bool.{cases_Bool}
+use Rattle.std.proofs.lemmas.Slice.Eq.{bytes_eq-Decides}
+use Rattle.std.specs.List.{list_any}
+use Rattle.std.specs.Option.{is_some}
+use Rattle.std.specs.Str.{bytes_eq}
+use Rattle.click_classes.specs.State.{class}
+use Rattle.click_classes.specs.declared.class.Class.{Class}
+use Rattle.click_engine.specs.Plant.{Plant}
+use Rattle.click_engine.specs.declared.world.Element.{Element}
+use Rattle.click_handlers.specs.Names.{has_read, has_write}
+use Rattle.click_handlers.specs.Reads.{read_value}
+use Rattle.click_handlers.specs.Writes.{write_value}
+use Rattle.click_handlers.specs.declared.fault.HandlerFault.{HandlerFault}
+use Rattle.click_router.proofs.Listings.{class_found}
+use Rattle.click_router.specs.Foretelling.{Foretells}
+use Rattle.click_router.specs.Globals.{global_value, is_global}
+use Rattle.click_router.specs.One.{Answers, before, after, is_dot, found, read_reply, read_found, read_global, read, refusal_of, class_named, listing_of, told, check_element, check, is_hotconfig, written, write_found, write}
+use Rattle.click_router.specs.State.{RouterState}
+use Rattle.click_router.specs.Swap.{Swaps, installed, refused}
+use Rattle.click_router.specs.declared.call.Call.TheVariants as call
+use Rattle.click_router.specs.declared.call.Reply.{Reply}
+use Rattle.click_router.specs.declared.call.Reply.TheVariants as reply
+use Rattle.click_router.specs.declared.check.Direction.TheVariants as direction
+
+-- where there is no handler for that way
+lacking : (other : Bool) → Foretells (told false other) (reply.Refused (refusal_of other))
+lacking true = refl
+lacking false = refl
+
+read_by : (has other : Bool) (value : Result (List ℕ) HandlerFault) → Foretells (told has other) (if has then read_reply value else reply.Refused (refusal_of other))
+read_by true other (Ok value) = refl
+read_by true other (Err f) = refl
+read_by false other value = lacking other
+
+read_one : (f : Option (ℕ × Element)) (handler text : List ℕ)
+    → Foretells (check_element (option_map (λ (it : ℕ × Element). class it.1.state) f) direction.Read handler) (read_found f handler text)
+read_one None handler text = refl
+read_one (Some it) handler text = read_by (has_read (class it.1.state) handler) (has_write (class it.1.state) handler) (read_value handler it.1 text)
+
+write_by : (has other : Bool) (v : Plant) (at : ℕ) (made : Result Element HandlerFault)
+    → Foretells (told has other) (if has then written v at made else (v, reply.Refused (refusal_of other))).1
+write_by true other v at (Ok e) = refl
+write_by true other v at (Err f) = refl
+write_by false other v at made = lacking other
+
+write_one : (v : Plant) (f : Option (ℕ × Element)) (handler text : List ℕ)
+    → Foretells (check_element (option_map (λ (it : ℕ × Element). class it.1.state) f) direction.Write handler) (write_found v f handler text).1
+write_one v None handler text = refl
+write_one v (Some it) handler text = write_by (has_write (class it.1.state) handler) (has_read (class it.1.state) handler) v it.0 (write_value handler it.1 text)
+
+-- the router's own handlers are those that answer
+one_of : (a b c d e f : Bool) (s t u v w x : List ℕ)
+    → (a || b || c || d || e || f) ≡ is_some (if a then Some s else if b then Some t else if c then Some u else if d then Some v else if e then Some w else if f then Some x else None)
+one_of true b c d e f s t u v w x = refl
+one_of false true c d e f s t u v w x = refl
+one_of false false true d e f s t u v w x = refl
+one_of false false false true e f s t u v w x = refl
+one_of false false false false true f s t u v w x = refl
+one_of false false false false false true s t u v w x = refl
+one_of false false false false false false s t u v w x = refl
+
+own : (s : RouterState) (name : List ℕ) → is_global name ≡ is_some (global_value s name)
+unfolding global_value
+own s name = one_of _ _ _ _ _ _ _ _ _ _ _ _
+
+read_own : (name : List ℕ) (value : Option (List ℕ)) → Foretells (told (is_some value) (is_hotconfig name)) (read_global name value)
+read_own name (Some value) = refl
+read_own name None = lacking (is_hotconfig name)
+
+read_any : (s : RouterState) (name text : List ℕ) → Foretells (check (listing_of s) direction.Read name) (read s name text)
+read_any s name text = go (list_any is_dot name) where
+  go : (dotted : Bool) → Foretells (if dotted then check_element (class_named (listing_of s) (before name)) direction.Read (after name) else told (is_global name) (is_hotconfig name)) (if dotted then read_found (found s (before name)) (after name) text else read_global name (global_value s name))
+  go true = subst (λ (c : Option Class). Foretells (check_element c direction.Read (after name)) (read_found (found s (before name)) (after name) text)) (sym (class_found s (before name))) (read_one (found s (before name)) (after name) text)
+  go false = subst (λ (b : Bool). Foretells (told b (is_hotconfig name)) (read_global name (global_value s name))) (sym (own s name)) (read_own name (global_value s name))
+
+pub foretells_reads : (s t : RouterState) (name text : List ℕ) (r : Reply) → Answers s (call.Read name text) t r → Foretells (check (listing_of s) direction.Read name) r
+foretells_reads s t name text r h = subst (λ (q : Reply). Foretells (check (listing_of s) direction.Read name) q) (sym h.1) (read_any s name text)
+
+-- `hotconfig` has no dot
+is_yes : (s : RouterState) (name : List ℕ) (r : Reply) → is_hotconfig name ≡ true → Foretells (told true (is_global (codes "hotconfig"))) r → Foretells (check (listing_of s) direction.Write name) r
+is_yes s name r hot yes = subst (λ (n : List ℕ). Foretells (check (listing_of s) direction.Write n) r) (sym ((bytes_eq-Decides name (codes "hotconfig")).0 hot)) yes
+
+swapped : (s : RouterState) (text : List ℕ) (t : RouterState) (r : Reply) → Swaps s text t r → Foretells (told true (is_global (codes "hotconfig"))) r
+swapped s text _ _ (installed new o) = refl
+swapped s text _ _ (refused f h) = refl
+
+write_any : (s : RouterState) (name text : List ℕ) → is_hotconfig name ≡ false → Foretells (check (listing_of s) direction.Write name) (write s name text).1
+write_any s name text cold = go (list_any is_dot name) where
+  go : (dotted : Bool) → Foretells (if dotted then check_element (class_named (listing_of s) (before name)) direction.Write (after name) else told (is_hotconfig name) (is_global name))
+      (if dotted then (record s { plant = (write_found s.plant (found s (before name)) (after name) text).0 }, (write_found s.plant (found s (before name)) (after name) text).1) else (s, reply.Refused (refusal_of (is_some (global_value s name))))).1
+  go true = subst (λ (c : Option Class). Foretells (check_element c direction.Write (after name)) (write_found s.plant (found s (before name)) (after name) text).1) (sym (class_found s (before name)))
+      (write_one s.plant (found s (before name)) (after name) text)
+  go false = subst (λ (b : Bool). Foretells (told b (is_global name)) (reply.Refused (refusal_of (is_some (global_value s name))))) (sym cold)
+      (subst (λ (b : Bool). Foretells (told false (is_global name)) (reply.Refused (refusal_of b))) (own s name) (lacking (is_global name)))
+
+pub foretells_writes : (s t : RouterState) (name text : List ℕ) (r : Reply) → Answers s (call.Write name text) t r → Foretells (check (listing_of s) direction.Write name) r
+foretells_writes s t name text r h = elim (cases_Bool (is_hotconfig name)) [
+  | inl hot ↦ is_yes s name r hot (swapped s text t r (rw hot at h))
+  | inr cold ↦ subst (λ (q : Reply). Foretells (check (listing_of s) direction.Write name) q) (ap (λ (d : RouterState × Reply). d.1) (rw cold at h)) (write_any s name text cold)
+]
