@@ -1,5 +1,5 @@
 -- A check says beforehand whether a call meets a handler.
-use Rattle.std.proofs.Common.{◌≡◌, ℕ, List, codes, Bool, true, false, ◌||◌, if◌then◌else◌, Option, None, Some, Result, Ok, Err, option_map, refl, sym, ap, subst, inl, inr}
+use Rattle.std.proofs.Common.{◌≡◌, ℕ, List, codes, decimal, Bool, true, false, ◌||◌, if◌then◌else◌, Option, None, Some, Result, Ok, Err, option_map, refl, sym, ap, subst, inl, inr}
 use Rattle.std.proofs.lemmas.Bool.{cases_Bool}
 use Rattle.std.proofs.lemmas.Slice.Eq.{bytes_eq-Decides}
 use Rattle.std.specs.List.{list_any}
@@ -9,14 +9,15 @@ use Rattle.click_classes.specs.State.{class}
 use Rattle.click_classes.specs.declared.class.Class.{Class}
 use Rattle.click_engine.specs.Plant.{Plant}
 use Rattle.click_engine.specs.declared.world.Element.{Element}
+use Rattle.click_expand.specs.FlatText.{flat_text_of}
 use Rattle.click_handlers.specs.Names.{has_read, has_write}
 use Rattle.click_handlers.specs.Reads.{read_value}
 use Rattle.click_handlers.specs.Writes.{write_value}
 use Rattle.click_handlers.specs.declared.fault.HandlerFault.{HandlerFault}
 use Rattle.click_router.proofs.Listings.{class_found}
 use Rattle.click_router.specs.Foretelling.{Foretells}
-use Rattle.click_router.specs.Globals.{global_value, is_global}
-use Rattle.click_router.specs.One.{Answers, before, after, is_dot, found, read_reply, read_found, read_global, read, refusal_of, class_named, listing_of, told, check_element, check, is_hotconfig, written, write_found, write}
+use Rattle.click_router.specs.Globals.{global_value, is_global, element_list, class_list}
+use Rattle.click_router.specs.One.{Answers, before, after, is_dot, found, read_reply, read_found, read_global, read, refusal_of, class_named, listing_of, told, check_element, check, is_hotconfig, with_plant, written, write_found, write}
 use Rattle.click_router.specs.State.{RouterState}
 use Rattle.click_router.specs.Swap.{Swaps, installed, refused}
 use Rattle.click_router.specs.declared.call.Call.TheVariants as call
@@ -40,7 +41,7 @@ read_one None handler text = refl
 read_one (Some it) handler text = read_by (has_read (class it.1.state) handler) (has_write (class it.1.state) handler) (read_value handler it.1 text)
 
 write_by : (has other : Bool) (v : Plant) (at : ℕ) (made : Result Element HandlerFault)
-    → Foretells (told has other) (if has then written v at made else (v, reply.Refused (refusal_of other))).1
+    → Foretells (told has other) (if◌then◌else◌ {A = Plant × Reply} has (written v at made) (v, reply.Refused (refusal_of other))).1
 write_by true other v at (Ok e) = refl
 write_by true other v at (Err f) = refl
 write_by false other v at made = lacking other
@@ -63,7 +64,8 @@ one_of false false false false false false s t u v w x = refl
 
 own : (s : RouterState) (name : List ℕ) → is_global name ≡ is_some (global_value s name)
 unfolding global_value
-own s name = one_of _ _ _ _ _ _ _ _ _ _ _ _
+own s name = one_of (bytes_eq name (codes "version")) (bytes_eq name (codes "list")) (bytes_eq name (codes "config")) (bytes_eq name (codes "flatconfig"))
+    (bytes_eq name (codes "classes")) (bytes_eq name (codes "overruns")) (codes "1") (element_list s.flat.elements) s.text (flat_text_of s.flat) class_list (decimal s.plant.overruns)
 
 read_own : (name : List ℕ) (value : Option (List ℕ)) → Foretells (told (is_some value) (is_hotconfig name)) (read_global name value)
 read_own name (Some value) = refl
@@ -80,7 +82,7 @@ foretells_reads s t name text r h = subst (λ (q : Reply). Foretells (check (lis
 
 -- `hotconfig` has no dot
 is_yes : (s : RouterState) (name : List ℕ) (r : Reply) → is_hotconfig name ≡ true → Foretells (told true (is_global (codes "hotconfig"))) r → Foretells (check (listing_of s) direction.Write name) r
-is_yes s name r hot yes = subst (λ (n : List ℕ). Foretells (check (listing_of s) direction.Write n) r) (sym ((bytes_eq-Decides name (codes "hotconfig")).0 hot)) yes
+is_yes s name r hot met = subst (λ (n : List ℕ). Foretells (check (listing_of s) direction.Write n) r) (sym ((bytes_eq-Decides name (codes "hotconfig")).0 hot)) met
 
 swapped : (s : RouterState) (text : List ℕ) (t : RouterState) (r : Reply) → Swaps s text t r → Foretells (told true (is_global (codes "hotconfig"))) r
 swapped s text _ _ (installed new o) = refl
@@ -89,7 +91,7 @@ swapped s text _ _ (refused f h) = refl
 write_any : (s : RouterState) (name text : List ℕ) → is_hotconfig name ≡ false → Foretells (check (listing_of s) direction.Write name) (write s name text).1
 write_any s name text cold = go (list_any is_dot name) where
   go : (dotted : Bool) → Foretells (if dotted then check_element (class_named (listing_of s) (before name)) direction.Write (after name) else told (is_hotconfig name) (is_global name))
-      (if dotted then (record s { plant = (write_found s.plant (found s (before name)) (after name) text).0 }, (write_found s.plant (found s (before name)) (after name) text).1) else (s, reply.Refused (refusal_of (is_some (global_value s name))))).1
+      (if◌then◌else◌ {A = RouterState × Reply} dotted (with_plant s (write_found s.plant (found s (before name)) (after name) text)) (s, reply.Refused (refusal_of (is_some (global_value s name))))).1
   go true = subst (λ (c : Option Class). Foretells (check_element c direction.Write (after name)) (write_found s.plant (found s (before name)) (after name) text).1) (sym (class_found s (before name)))
       (write_one s.plant (found s (before name)) (after name) text)
   go false = subst (λ (b : Bool). Foretells (told b (is_global name)) (reply.Refused (refusal_of (is_some (global_value s name))))) (sym cold)
