@@ -1,6 +1,5 @@
 -- A check says beforehand whether a call meets a handler.
-use Rattle.std.proofs.Common.{◌≡◌, ℕ, List, codes, decimal, Bool, true, false, ◌||◌, if◌then◌else◌, Option, None, Some, Result, Ok, Err, option_map, refl, sym, ap, subst, inl, inr}
-use Rattle.std.proofs.lemmas.Bool.{cases_Bool}
+use Rattle.std.proofs.Common.{◌≡◌, ℕ, List, codes, decimal, Bool, true, false, ◌||◌, if◌then◌else◌, Option, None, Some, Result, Ok, Err, option_map, refl, sym, ap, subst}
 use Rattle.std.proofs.lemmas.Slice.Eq.{bytes_eq-Decides}
 use Rattle.std.specs.List.{list_any}
 use Rattle.std.specs.Option.{is_some}
@@ -97,8 +96,14 @@ write_any s name text cold = go (list_any is_dot name) where
   go false = subst (λ (b : Bool). Foretells (told b (is_global name)) (reply.Refused (refusal_of (is_some (global_value s name))))) (sym cold)
       (subst (λ (b : Bool). Foretells (told false (is_global name)) (reply.Refused (refusal_of b))) (own s name) (lacking (is_global name)))
 
+WriteBy : Bool → RouterState → List ℕ → List ℕ → RouterState → Reply → Type 0
+WriteBy b s name text t r = elim b [ true ↦ Swaps s text t r | false ↦ write s name text ≡ (t, r) ]
+
+by_name : (b : Bool) (s t : RouterState) (name text : List ℕ) (r : Reply) → is_hotconfig name ≡ b → WriteBy b s name text t r → Foretells (check (listing_of s) direction.Write name) r
+unfolding WriteBy
+by_name true s t name text r hot h = is_yes s name r hot (swapped s text t r h)
+by_name false s t name text r cold h = subst (λ (q : Reply). Foretells (check (listing_of s) direction.Write name) q) (ap (λ (d : RouterState × Reply). d.1) h) (write_any s name text cold)
+
 pub foretells_writes : (s t : RouterState) (name text : List ℕ) (r : Reply) → Answers s (call.Write name text) t r → Foretells (check (listing_of s) direction.Write name) r
-foretells_writes s t name text r h = elim (cases_Bool (is_hotconfig name)) [
-  | inl hot ↦ is_yes s name r hot (swapped s text t r (rw hot at h))
-  | inr cold ↦ subst (λ (q : Reply). Foretells (check (listing_of s) direction.Write name) q) (ap (λ (d : RouterState × Reply). d.1) (rw cold at h)) (write_any s name text cold)
-]
+unfolding WriteBy
+foretells_writes s t name text r h = by_name (is_hotconfig name) s t name text r refl h
