@@ -245,6 +245,8 @@ def refused_by_itself(said):
         places = [f"{in_cycle[1] or ''}{name}" for name in in_cycle.groups()[1:]] if in_cycle else [found[1]]
         for place in places:
             (lost if STALE.search(found[2]) else errors).setdefault(place, found[2])
+    # A lemma beside the functions' proofs speaks of definitions alone, so it fails where an edit changes one; what stands on it is then told as not admitted.
+    lemmas = [text for text in re.findall(r"^\./proofs/\w+\.antt:\d+:\d+: error: (.*)$", said, re.M) if not STALE.search(text)]
     refused, stale, checked = {}, {}, set()
     for path, verdict in re.findall(r"^fn ([\w:+]+): (.*)$", said, re.M):
         place = "/".join(path.split("::")[1:])
@@ -258,6 +260,8 @@ def refused_by_itself(said):
             refused[path] = open_goal[0]
         elif verdict.startswith("not proved") and place in errors:
             refused[path] = errors[place]
+        elif verdict.startswith("not proved") and place in lost and lemmas and "was not admitted" in lost[place]:
+            refused[path] = lemmas[0]
         elif verdict.startswith("not proved") and place in lost:
             stale[path] = lost[place]
     return refused, stale, checked
