@@ -246,7 +246,7 @@ def refused_by_itself(said):
         for place in places:
             (lost if STALE.search(found[2]) else errors).setdefault(place, found[2])
     # A lemma beside the functions' proofs speaks of definitions alone, so it fails where an edit changes one; what stands on it is then told as not admitted.
-    lemmas = [text for text in re.findall(r"^\./proofs/\w+\.antt:\d+:\d+: error: (.*)$", said, re.M) if not STALE.search(text)]
+    lemmas = [text for text in re.findall(r"^\./proofs/(?:\S+/)?(?!Answers\.|Invariants\.)\w+\.antt:\d+:\d+: error: (.*)$", said, re.M) if not STALE.search(text)]
     refused, stale, checked = {}, {}, set()
     for path, verdict in re.findall(r"^fn ([\w:+]+): (.*)$", said, re.M):
         place = "/".join(path.split("::")[1:])
