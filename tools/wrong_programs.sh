@@ -242,8 +242,8 @@ wrong_bench F 'another text after a refused swap' 'sed -i "/^out of memory/ { n;
 wrong_bench F 'an inlet that is not handed back' 'sed -i "/^handed back/d" "$out"'
 wrong_bench F 'a refused call in the list' 'if grep -q "^entry" "$out"; then sed -i "/^out of memory/a listed transmit b: sent [1]" "$out"; fi'
 wrong_bench F 'an entry of a refused call' 'if grep -q "^out of memory" "$out" && grep -q "^entry" "$out"; then echo "entry of seat 0: read c.count: value 0" >> "$out"; fi'
-# The poll is the second call at the desk.
-wrong_bench F 'a packet that a refused poll drew' 'if [ "$(sed -n 3p "$out")" = "out of memory" ]; then sed -i "s/poll a \[1\] \[2\]/poll a [2] [3]/; s/^left.*/left/" "$out"; fi'
+# The poll is the second call at the desk, behind the four lines of the first.
+wrong_bench F 'a packet that a refused poll drew' 'if [ "$(sed -n 5p "$out")" = "out of memory" ]; then sed -i "s/poll a \[1\] \[2\]/poll a [2] [3]/; s/^left.*/left/" "$out"; fi'
 wrong_bench F 'a packet that a refused settle lost' 'if grep -q "^settle:" "$out"; then sed -i "s/^left.*/left/" "$out"; fi'
 wrong_bench A 'a limit that is greater' 'sed -i "s/TooLarge/prepared/" "$out"'
 wrong_bench A 'a limit that is less' 'sed -i "s/prepared/TooLarge/" "$out"'
