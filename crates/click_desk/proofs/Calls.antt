@@ -1,9 +1,10 @@
 -- What a seat knows after a take, an entering and a give.
-use Rattle.std.proofs.Common.{◌≡◌, ◌↔◌, ℕ, List, [], ◌∷◌, ◌++◌, length, ◌<◌, ◌≤◌, Result, Ok, Err, IfOk, IfErr, OnErr, sym, refl, ap, ◌∙◌, subst, arith, append-nil, length-append}
+use Rattle.std.proofs.Common.{◌≡◌, ◌↔◌, ℕ, List, [], ◌∷◌, ◌++◌, length, ◌<◌, ◌≤◌, Result, Ok, Err, Some, IfOk, IfErr, OnErr, sym, refl, ap, ◌∙◌, subst, arith, append-nil, length-append}
 use Rattle.atomic_table.specs.Seated.{TableId}
 use Rattle.click_router.specs.declared.call.Call.{Call}
 use Rattle.click_router.specs.declared.call.Reply.{Reply}
 use Rattle.click_desk.specs.Booking.{Booking}
+use Rattle.click_desk.specs.Bounds.{IsWithin, IsFull}
 use Rattle.click_desk.specs.declared.booked.DeskFault.{DeskFault}
 use Rattle.click_desk.specs.declared.booked.DeskFault.TheVariants.{HistoryFull}
 use Rattle.click_desk.specs.declared.entry.Entry.{Entry}
@@ -16,21 +17,22 @@ use Rattle.click_packet.specs.Packet.{Packet}
 use Rattle.click_desk.specs.History.{entry, entries, Legal}
 use Rattle.click_desk.specs.Views.{seated, taken, given, Finds, Takes, Gives, MayGive}
 use Rattle.click_desk.specs.Sittings.{Sitting, IsSeat, Calls as HasCalled, IsRefused}
+use Rattle.click_desk.proofs.Bounded.{full_is, is_full}
 use Rattle.click_desk.proofs.Histories.{entries_mine, entries_other, all_below}
 
 -- what an entering of a call says of the booked router and of the seat's list
 pub record Enters (b b2 : Booking) (n : ℕ) (calls calls2 : List (Call × Reply)) (call : Call) (result : Result Reply DeskFault) : Type 0 where
   pub terms : b2.terms ≡ b.terms
   pub legal : Legal b2.terms.opening b2.entries b2.state
-  pub ok : IfOk result (λ reply. (b2.entries ≡ b.entries ++ entry n call reply ∷ []) × (calls2 ≡ calls ++ (call, reply) ∷ []) × (length b2.entries ≤ b2.terms.room))
+  pub ok : IfOk result (λ reply. (b2.entries ≡ b.entries ++ entry n call reply ∷ []) × (calls2 ≡ calls ++ (call, reply) ∷ []) × IsWithin b2.terms.room (length b2.entries))
   pub err : OnErr result ((b2 ≡ b) × (calls2 ≡ calls))
-  pub full : (result ≡ Err HistoryFull) ↔ (b.terms.room ≤ length b.entries)
+  pub full : (result ≡ Err HistoryFull) ↔ IsFull b.terms.room (length b.entries)
 
 -- no history is longer than the room
 within_at : (t : Charter) (n : ℕ) (calls : List (Call × Reply)) (seen : List Entry) (b b2 : Booking) (calls2 : List (Call × Reply)) (call : Call) (result : Result Reply DeskFault)
-    → Finds (seated t n calls seen) b → Enters b b2 n calls calls2 call result → length b2.entries ≤ b2.terms.room
+    → Finds (seated t n calls seen) b → Enters b b2 n calls calls2 call result → IsWithin b2.terms.room (length b2.entries)
 within_at t n calls seen b b2 calls2 call (Ok reply) finds enters = enters.ok.2
-within_at t n calls seen b b2 calls2 call (Err fault) finds enters = subst (λ (x : Booking). length x.entries ≤ x.terms.room) (sym enters.err.0) finds.2
+within_at t n calls seen b b2 calls2 call (Err fault) finds enters = subst (λ (x : Booking). IsWithin x.terms.room (length x.entries)) (sym enters.err.0) finds.2
 
 -- no entry is of a seat that is not made
 numbered_at : (t : Charter) (n : ℕ) (calls : List (Call × Reply)) (seen : List Entry) (b b2 : Booking) (calls2 : List (Call × Reply)) (call : Call) (result : Result Reply DeskFault)
@@ -66,7 +68,7 @@ may_give_at t n calls seen b b2 calls2 call (Err fault) made finds enters =
       makes = refl;
       number = made;
       terms = enters.terms ∙ finds.0;
-      within = subst (λ (x : Booking). length x.entries ≤ x.terms.room) (sym is) finds.2;
+      within = subst (λ (x : Booking). IsWithin x.terms.room (length x.entries)) (sym is) finds.2;
       longer = ([], ap (λ (x : Booking). x.entries) is ∙ sym (append-nil b.entries));
       one = let more = ap (λ (x : Booking). length x.entries) is in omega arith;
       others = λ m apart. ap (λ (x : Booking). entries x.entries m) is;
@@ -144,15 +146,11 @@ refuses table table2 n calls v v1 v2 b b2 calls2 call (Err fault) is made takes 
       calls = enters.err.1;
       full = (
         (λ e.
-            let room = enters.full.0 (ap (λ f. Err f) e) in
-            let within = takes.1.2 in
-            let len = ap length (seen ∙ same) in
-            let rooms = ap (λ (t : Charter). t.room) terms in
-            omega arith),
+            let full = enters.full.0 (ap (λ f. Err f) e) in
+            ap (λ (t : Charter). t.room) terms ∙ (full_is b.terms.room (length b.entries) takes.1.2 full ∙ ap (λ (l : List Entry). Some (length l)) (sym (seen ∙ same)))),
         (λ many.
-            let len = ap length (seen ∙ same) in
-            let rooms = ap (λ (t : Charter). t.room) terms in
-            ap (fault_or fault) (enters.full.1 (omega arith))),
+            let full = ap (λ (t : Charter). t.room) (sym terms) ∙ (many ∙ ap (λ (l : List Entry). Some (length l)) (seen ∙ same)) in
+            ap (fault_or fault) (enters.full.1 (is_full b.terms.room (length b.entries) full))),
       );
       sound = (sound table2 n calls v v1 v2 b b2 calls2 call (Err fault) is made takes enters gives).1;
     }
@@ -161,9 +159,9 @@ refuses table table2 n calls v v1 v2 b b2 calls2 call (Err fault) is made takes 
 pub record EntersPoll (b b2 : Booking) (n : ℕ) (calls calls2 : List (Call × Reply)) (device : List ℕ) (limit : ℕ) (result : Result Reply DeskFault) : Type 0 where
   pub terms : b2.terms ≡ b.terms
   pub legal : Legal b2.terms.opening b2.entries b2.state
-  pub ok : IfOk result (λ reply. (taken : List Packet) × MayTake b2.terms.feeds device limit taken reply × (b2.entries ≡ b.entries ++ entry n (poll device taken) reply ∷ []) × (calls2 ≡ calls ++ (poll device taken, reply) ∷ []) × (length b2.entries ≤ b2.terms.room))
+  pub ok : IfOk result (λ reply. (taken : List Packet) × MayTake b2.terms.feeds device limit taken reply × (b2.entries ≡ b.entries ++ entry n (poll device taken) reply ∷ []) × (calls2 ≡ calls ++ (poll device taken, reply) ∷ []) × IsWithin b2.terms.room (length b2.entries))
   pub err : OnErr result ((b2 ≡ b) × (calls2 ≡ calls))
-  pub full : (result ≡ Err HistoryFull) ↔ (b.terms.room ≤ length b.entries)
+  pub full : (result ≡ Err HistoryFull) ↔ IsFull b.terms.room (length b.entries)
 
 -- it is the entering of some call, which is a poll where the poll was entered
 abbrev pub SomeCall : Booking → Booking → ℕ → List (Call × Reply) → List (Call × Reply) → List ℕ → ℕ → Result Reply DeskFault → Type 0

@@ -1,4 +1,5 @@
 pub mod Histories
+pub mod Bounded
 pub mod Polled
 pub mod Moves
 pub mod Calls

@@ -6,12 +6,14 @@ use lib.ListN.{get_elem?}
 use Rattle.crossbeam_queue.specs.Fifo.{Pushes, Pops, Forks, Merges, Learns}
 use Rattle.crossbeam_queue.proofs.Lists.{at_set, at_longer, set_else}
 use Rattle.click_desk.specs.Booking.{Booking}
+use Rattle.click_desk.specs.Bounds.{IsWithin}
 use Rattle.click_desk.specs.declared.entry.Entry.{Entry}
 use Rattle.click_desk.specs.declared.charter.Charter.{Charter}
 use Rattle.click_desk.specs.declared.view.View.{View}
 use Rattle.click_desk.specs.History.{entries, StartsWith}
 use Rattle.click_desk.specs.Views.{first, nobody, agent, holding, taken, given, Takes, Gives, MayGive, one_more, next_seat, met, parted, Audits}
 use Rattle.click_desk.specs.Rule.{Fits, IsHeld, Place, AtEachPass, Kept, OnePlace}
+use Rattle.click_desk.proofs.Bounded.{within_none}
 use Rattle.click_desk.proofs.Histories.{starts_here, starts_empty, starts_along}
 
 -- lists of views
@@ -127,7 +129,7 @@ takes pass v opened x items views rule at =
         (
           p.1 ∙ sym (f.knows opened),
           subst (λ (h : List Entry). StartsWith h v.seen) (sym p.2) f.seen,
-          subst (λ (y : List Entry × Charter). length y.0 ≤ y.1.room) (λ i. (sym p.2 i, sym p.1 i)) k.within,
+          subst (λ (y : List Entry × Charter). IsWithin y.1.room (length y.0)) (λ i. (sym p.2 i, sym p.1 i)) k.within,
           (λ t. ap (λ h. entries h v.number) p.2 ∙ (f.acts t).1),
           (λ n le. ap (λ h. entries h n) p.2 ∙ k.numbered n (subst (λ (t : Charter). t.seats ≤ n) (f.knows opened) le)),
         ),
@@ -170,7 +172,7 @@ gives n pass v x m items views room rule at =
         owner = k.owner;
         holder = k.holder;
         place = inr (x, ap (λ l. l ++ x ∷ []) h.1, xt, refl);
-        within = subst (λ (t : Charter). length x.entries ≤ t.room) xt m.within;
+        within = subst (λ (t : Charter). IsWithin t.room (length x.entries)) xt m.within;
         numbered = λ i le. let small = m.number in same i (omega arith) ∙ k.numbered i le;
         fits = all_set F views pass w mine others;
       }),
@@ -200,7 +202,7 @@ opens n pass v x is empty items views room (inl h) at =
         owner = λ _. 0;
         holder = 0;
         place = inr (x, ap (λ l. l ++ x ∷ []) h.0, refl, refl);
-        within = let none = ap length empty in omega arith;
+        within = subst (λ (l : List Entry). IsWithin x.terms.room (length l)) (sym empty) (within_none x.terms.room);
         numbered = λ i le. ap (λ l. entries l i) empty;
         fits = subst (λ (l : List View). AtEachPass F l) (sym now) alone;
       }),

@@ -1,8 +1,9 @@
 -- What a closed desk's book says.
-use Rattle.std.specs.Prelude.{◌≡◌, ℕ, ◌<◌, ◌≤◌, ◌==◌, List, count_by, length, map, slice_index_or}
+use Rattle.std.specs.Prelude.{◌≡◌, ℕ, ◌<◌, ◌==◌, List, count_by, is_some, length, map, slice_index_or}
 use Rattle.std.specs.List.{All}
 use Rattle.click_desk.specs.declared.entry.Entry.{Entry}
 use Rattle.click_desk.specs.Booklet.{Booklet}
+use Rattle.click_desk.specs.Bounds.{IsWithin}
 use Rattle.click_desk.specs.History.{Legal, entries, StartsWith, installs, EachLawful}
 use Rattle.click_rings.specs.Feeds.{name_of}
 use Rattle.click_desk.specs.Polls.{IsPolled}
@@ -20,9 +21,10 @@ IsEntered history s = (entries history s.number ≡ s.calls) × StartsWith histo
 pub record Closes (desk : DeskName) (seats : List Sitting) (book : Booklet) : Type 0 where
   pub seats_are : book.seats ≡ seats
   pub opening : book.opening ≡ desk.terms.opening
+  pub kept : book.keeps ≡ is_some desk.terms.room
   pub replayed : Legal book.opening book.entries book.router
   pub lawful : EachLawful (installs book.opening book.entries)
-  pub within : length book.entries ≤ desk.terms.room
+  pub within : IsWithin desk.terms.room (length book.entries)
   pub entered : All (IsEntered book.entries) seats
   pub numbered : All (λ e. count_by (λ s. s.number == e.seat) seats ≡ 1) book.entries
   pub feeds : (s : Sitting) → (slice_index_or seats 0 s).feeds ≡ map name_of book.taps

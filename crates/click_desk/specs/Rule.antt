@@ -4,6 +4,7 @@ use Rattle.std.specs.Prelude.{◌≡◌, ℕ, ◌≤◌, ◌⊎◌, true, List, 
 use mathlib.Core.Option.{some}
 use lib.ListN.{get_elem?}
 use Rattle.click_desk.specs.Booking.{Booking}
+use Rattle.click_desk.specs.Bounds.{IsWithin}
 use Rattle.click_desk.specs.declared.entry.Entry.{Entry}
 use Rattle.click_desk.specs.declared.charter.Charter.{Charter}
 use Rattle.click_desk.specs.declared.view.View.{View}
@@ -40,7 +41,7 @@ pub record Kept (items : List Booking) (views : List View) : Type 0 where
   pub owner : ℕ → ℕ
   pub holder : ℕ
   pub place : Place items views history terms holder
-  pub within : length history ≤ terms.room
+  pub within : IsWithin terms.room (length history)
   pub numbered : (n : ℕ) → terms.seats ≤ n → entries history n ≡ []
   pub fits : AtEachPass (Fits items history terms owner holder) views
 

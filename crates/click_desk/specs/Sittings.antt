@@ -1,5 +1,5 @@
 -- Desks and seats as contracts see them.
-use Rattle.std.specs.Prelude.{◌≡◌, ◌↔◌, ℕ, zero, suc, ◌<◌, ◌≤◌, List, [], ◌∷◌, ◌++◌, length}
+use Rattle.std.specs.Prelude.{◌≡◌, ◌↔◌, ℕ, zero, suc, ◌<◌, List, [], ◌∷◌, ◌++◌, length, Some}
 use Rattle.std.specs.List.{All}
 use Rattle.atomic_table.specs.Seated.{TableId}
 use Rattle.click_rings.specs.Feeds.{FeedName}
@@ -9,6 +9,7 @@ use Rattle.click_desk.specs.declared.entry.Entry.{Entry}
 use Rattle.click_desk.specs.declared.terms.Terms.{Terms}
 use Rattle.click_desk.specs.declared.booked.DeskFault.{DeskFault}
 use Rattle.click_desk.specs.declared.booked.DeskFault.TheVariants.{HistoryFull}
+use Rattle.click_desk.specs.Bounds.{IsWithin}
 use Rattle.click_desk.specs.History.{entry, IsLegal, entries, StartsWith}
 
 -- which desk it is: its queue, and what it was opened with. No other desk has this name
@@ -29,7 +30,7 @@ pub record IsSeat (s : Sitting) : Type 0 where
   pub legal : IsLegal s.desk.terms.opening s.seen
   pub own : entries s.seen s.number ≡ s.calls
   pub made : s.number < s.desk.terms.seats
-  pub within : length s.seen ≤ s.desk.terms.room
+  pub within : IsWithin s.desk.terms.room (length s.seen)
   pub numbered : All (λ e. e.seat < s.desk.terms.seats) s.seen
 
 -- the seat has seen a longer history, which ends with this call and this reply, one more of its own
@@ -43,7 +44,7 @@ pub record Calls (old new : Sitting) (call : Call) (reply : Reply) : Type 0 wher
 pub record IsRefused (old new : Sitting) (fault : DeskFault) : Type 0 where
   pub seen : StartsWith new.seen old.seen
   pub calls : new.calls ≡ old.calls
-  pub full : (fault ≡ HistoryFull) ↔ (length new.seen ≡ new.desk.terms.room)
+  pub full : (fault ≡ HistoryFull) ↔ (new.desk.terms.room ≡ Some (length new.seen))
   pub sound : IsSeat new
 
 -- a seat that has made no call

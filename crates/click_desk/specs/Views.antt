@@ -1,15 +1,16 @@
 -- What a pass knows, and how each step changes it.
-use Rattle.std.specs.Prelude.{◌≡◌, ◌≢◌, ℕ, ◌+◌, ◌<◌, ◌≤◌, true, false, List, [], length}
+use Rattle.std.specs.Prelude.{◌≡◌, ◌≢◌, ℕ, ◌+◌, ◌<◌, ◌≤◌, true, false, List, [], length, None}
 use Rattle.click_router.specs.declared.call.Call.{Call}
 use Rattle.click_router.specs.declared.call.Reply.{Reply}
 use Rattle.click_desk.specs.Booking.{Booking}
+use Rattle.click_desk.specs.Bounds.{IsWithin}
 use Rattle.click_desk.specs.declared.entry.Entry.{Entry}
 use Rattle.click_desk.specs.declared.charter.Charter.{Charter}
 use Rattle.click_desk.specs.declared.view.View.{View}
 use Rattle.click_desk.specs.History.{entries, StartsWith}
 
 abbrev pub no_terms : Charter
-no_terms = record { opening = []; room = 0; seats = 0; origin = record { tag = []; buckets = [] }; feeds = [] }
+no_terms = record { opening = []; room = None; seats = 0; origin = record { tag = []; buckets = [] }; feeds = [] }
 
 -- the first pass holds the empty history before the terms are known, and is to make every seat
 abbrev pub first : View
@@ -46,7 +47,7 @@ given v x = record v { opened = true; terms = x.terms; holds = false; mine = ent
 -- what a take finds: the history begins with all that was seen, has of this seat what it knows as its own, and has room
 abbrev pub Finds : View → Booking → Type 0
 Finds v x =
-    (x.terms ≡ v.terms) × StartsWith x.entries v.seen × (length x.entries ≤ x.terms.room)
+    (x.terms ≡ v.terms) × StartsWith x.entries v.seen × IsWithin x.terms.room (length x.entries)
     × (v.acts ≡ true → entries x.entries v.number ≡ v.mine)
     × ((n : ℕ) → v.terms.seats ≤ n → entries x.entries n ≡ [])
 
@@ -64,7 +65,7 @@ pub record MayGive (v : View) (x : Booking) : Type 0 where
   pub makes : v.makes ≡ false
   pub number : v.number < v.terms.seats
   pub terms : x.terms ≡ v.terms
-  pub within : length x.entries ≤ x.terms.room
+  pub within : IsWithin x.terms.room (length x.entries)
   pub longer : StartsWith x.entries v.seen
   pub one : length x.entries ≤ length v.seen + 1
   pub others : (n : ℕ) → n ≢ v.number → entries x.entries n ≡ entries v.seen n

@@ -14,17 +14,18 @@ use click_packet::StoredPacket;
 use click_rings::{FeedEnd, Tap, place_of};
 use click_router::{Install, Router};
 use click_text::sequence::Sequence;
+use click_trail::Trail;
 use click_views::Closed;
 use std::alloc::Global;
 use std::marker::Model;
 use thiserror::Error;
 
 /// A closed desk: the text that it was opened with, all calls with their replies, the router that they lead to, the seats that made them, and the feeds that are
-/// not settled.
+/// not settled. Of a live desk the calls are not kept: there is one list of them, and `entries` lends none.
 #[derive(Drop)]
 pub struct Book<T> {
     pub opening: Sequence<u8>,
-    pub entries: Vec<Entry>,
+    pub entries: Trail<Entry>,
     pub router: Router<T>,
     pub seats: Vec<Seat<T>>,
     pub(crate) taps: Vec<Tap>,
@@ -40,7 +41,7 @@ impl<T> Model for Book<T> {
 
     ghost Value = { Booklet };
 
-    ghost view = { λ b. record { opening = b.opening; entries = b.entries.items; router = b.router; seats = b.seats.items; taps = b.taps.items; board = b.published.board } };
+    ghost view = { λ b. record { opening = b.opening; keeps = b.entries.keeps; entries = b.entries.items; router = b.router; seats = b.seats.items; taps = b.taps.items; board = b.published.board } };
 
     ghost invariant = { λ b. IsPolled b.entries.items b.taps.items × (are_apart (map name_of b.taps.items) ≡ true) × (b.published.list ≡ installs b.opening b.entries.items) };
 }

@@ -1,11 +1,12 @@
 //! The router with its history, as one value.
 
-ghost use Rattle.std.specs.Prelude.{◌≡◌, ◌≤◌, ◌++◌, ◌∷◌, ◌↔◌, [], length, map, false, IfOk, IfErr, OnOk, OnErr, Ok, Err, MatchResult, true, is_some, vec_len, vec_capacity};
+ghost use Rattle.std.specs.Prelude.{◌≡◌, ◌++◌, ◌∷◌, ◌↔◌, [], length, map, false, IfOk, IfErr, OnErr, Ok, Err, IsTrue, MatchResult, true, is_some};
 ghost use Rattle.std.specs.List.{All};
 ghost use Rattle.click_rings.specs.Feeds.{name_of, are_apart};
 ghost use Rattle.click_router.specs.One.{is_transmit, sends_packet, holds_memory};
 ghost use Rattle.click_router.specs.Polls.{is_poll};
 ghost use Rattle.click_router.specs.Opened.{IsOpened};
+ghost use Rattle.click_desk.specs.Bounds.{IsWithin, IsFull};
 ghost use Rattle.click_desk.specs.Charters.{charter_of};
 ghost use Rattle.click_router.specs.One.{Answers};
 ghost use Rattle.click_router.specs.Swap.{Swaps};
@@ -20,6 +21,7 @@ use click_rings::Tap;
 use click_router::{
     Call, FaultKind, Handlers, Install, Kept, Recorded, Router, StepFault, prepare,
 };
+use click_trail::Trail;
 use click_views::{Closed, Publisher};
 use std::alloc::{AllocError, Global};
 use std::marker::Model;
@@ -36,11 +38,11 @@ pub enum DeskFault {
     HistoryFull,
 }
 
-/// What a desk was opened with, its history, and its feeds.
+/// What a desk was opened with, its history, which is kept where it has a bound, and its feeds.
 #[derive(Drop)]
 pub(crate) struct Ledger {
     pub(crate) terms: Terms,
-    pub(crate) entries: Vec<Entry>,
+    pub(crate) entries: Trail<Entry>,
     pub(crate) taps: Vec<Tap>,
     pub(crate) published: Publisher<Install>,
 }
@@ -54,7 +56,7 @@ pub struct Booked<T> {
 }
 
 impl<T> Model for Booked<T> {
-    ghost use Rattle.std.specs.Prelude.{◌≡◌, map, true};
+    ghost use Rattle.std.specs.Prelude.{◌≡◌, map, true, is_some};
     ghost use Rattle.click_rings.specs.Feeds.{name_of, are_apart};
     ghost use Rattle.click_desk.specs.Booking.{Booking};
     ghost use Rattle.click_desk.specs.Charters.{charter_of};
@@ -67,7 +69,8 @@ impl<T> Model for Booked<T> {
 
     ghost invariant = { λ b. Legal b.ledger.value.terms.opening b.ledger.value.entries.items b.router × IsPolled b.ledger.value.entries.items b.ledger.value.taps.items
         × (are_apart (map name_of b.ledger.value.taps.items) ≡ true)
-        × (b.ledger.value.published ≡ record { board = b.ledger.value.terms.origin; list = installs b.ledger.value.terms.opening b.ledger.value.entries.items }) };
+        × (b.ledger.value.published ≡ record { board = b.ledger.value.terms.origin; list = installs b.ledger.value.terms.opening b.ledger.value.entries.items })
+        × (b.ledger.value.entries.keeps ≡ is_some b.ledger.value.terms.room) };
 }
 
 impl<T> Booked<T> {
@@ -75,6 +78,7 @@ impl<T> Booked<T> {
     pub fn new(ledger: Box<Ledger>, router: Router<T>) -> Booked<T>
         requires opened { IsOpened ledger.value.terms.opening router }
         requires empty { ledger.value.entries.items ≡ [] }
+        requires keeps { ledger.value.entries.keeps ≡ is_some ledger.value.terms.room }
         requires apart { are_apart (map name_of ledger.value.taps.items) ≡ true }
         requires fresh { All (λ t. t.drawn ≡ []) ledger.value.taps.items }
         requires published { ledger.value.published ≡ record { board = ledger.value.terms.origin; list = ledger.value.terms.opening ∷ [] } }
@@ -84,9 +88,10 @@ impl<T> Booked<T> {
     }
 
     /// Its parts.
-    pub fn into_parts(self) -> (Terms, Vec<Entry>, Router<T>, Vec<Tap>, Closed<Install>)
+    pub fn into_parts(self) -> (Terms, Trail<Entry>, Router<T>, Vec<Tap>, Closed<Install>)
         ensures terms { self.terms ≡ charter_of result.0 (map name_of result.3.items) }
         ensures parts { (result.1.items ≡ self.entries) × (result.2 ≡ self.state) × (result.3.items ≡ self.taps) }
+        ensures kept { result.1.keeps ≡ is_some self.terms.room }
         ensures legal { Legal self.terms.opening self.entries self.state }
         ensures polled { IsPolled self.entries self.taps }
         ensures apart { are_apart (map name_of self.taps) ≡ true }
@@ -108,6 +113,16 @@ impl<T> Booked<T> {
     {
         self.ledger.published.notice()
     }
+
+    /// Whether the history has as many entries as it may have. One that is not kept may have as many as there are.
+    pub(crate) fn is_full(&self) -> bool
+        ensures { IsTrue result ↔ IsFull self.now.terms.room (length self.now.entries) }
+    {
+        match self.ledger.terms.room {
+            Some(room) => self.ledger.entries.as_slice().len() >= room,
+            None => false,
+        }
+    }
 }
 
 /// Room for a packet in the reply, in the history and in a seat's list.
@@ -118,6 +133,16 @@ pub(crate) struct Rooms {
 }
 
 /// Room for the packet that the call may send.
+fn room_for(alloc: Global, call: &Call) -> Result<Option<PacketRoom>, AllocError>
+    ensures { IfOk result (λ room. is_transmit call.now ≡ true → is_some room ≡ true) }
+{
+    match call {
+        Call::Transmit { .. } => Ok(Some(PacketRoom::new(alloc)?)),
+        _ => Ok(None),
+    }
+}
+
+/// The same in the reply, in the history and in a seat's list.
 fn rooms_for(alloc: Global, call: &Call) -> Result<Rooms, AllocError>
     ensures { IfOk result (λ rooms. is_transmit call.now ≡ true → (is_some rooms.told ≡ true) × (is_some rooms.entered ≡ true) × (is_some rooms.listed ≡ true)) }
 {
@@ -207,6 +232,34 @@ fn answer<T: Handlers, R: Wait>(
     }
 }
 
+/// Enters a call with its reply where neither is kept. It takes no memory.
+#[inline(always)]
+pub(crate) fn note(
+    entries: &mut Trail<Entry>,
+    calls: &mut Trail<(Call, Recorded)>,
+    number: usize,
+    call: Call,
+    reply: Recorded,
+) -> Recorded
+    requires { (entries.old.keeps ≡ false) × (calls.old.keeps ≡ false) }
+    ensures keeps { (entries.new.keeps ≡ entries.old.keeps) × (calls.new.keeps ≡ calls.old.keeps) }
+    ensures entries { entries.new.items ≡ entries.old.items ++ entry number call reply ∷ [] }
+    ensures calls { calls.new.items ≡ calls.old.items ++ (call, reply) ∷ [] }
+    ensures reply { result ≡ reply }
+{
+    let made = Entry {
+        seat: number,
+        call,
+        reply,
+    };
+    entries.note(&made);
+    let Entry { call, reply, .. } = made;
+    let pair = (call, reply);
+    calls.note(&pair);
+    let (_, reply) = pair;
+    reply
+}
+
 impl<T: Handlers> Booked<T> {
     /// One call of the seat with this number, which is no poll, entered in the history and in the seat's list. All memory is taken before the router changes.
     pub fn enter<R: Wait>(
@@ -214,17 +267,22 @@ impl<T: Handlers> Booked<T> {
         rt: &R,
         alloc: Global,
         number: usize,
-        calls: &mut Vec<(Call, Recorded)>,
+        calls: &mut Trail<(Call, Recorded)>,
         call: Call,
     ) -> Result<Recorded, DeskFault>
-        requires { is_poll call ≡ false }
+        requires call { is_poll call ≡ false }
+        requires keeps { calls.old.keeps ≡ is_some self.old.terms.room }
         ensures terms { self.new.terms ≡ self.old.terms }
         ensures legal { Legal self.new.terms.opening self.new.entries self.new.state }
         ensures polled { IsPolled self.new.entries self.new.taps }
-        ensures ok { IfOk result (λ reply. (self.new.entries ≡ self.old.entries ++ entry number call reply ∷ []) × (calls.new.items ≡ calls.old.items ++ (call, reply) ∷ []) × (length self.new.entries ≤ self.new.terms.room)) }
+        ensures ok { IfOk result (λ reply. (self.new.entries ≡ self.old.entries ++ entry number call reply ∷ []) × (calls.new.items ≡ calls.old.items ++ (call, reply) ∷ []) × IsWithin self.new.terms.room (length self.new.entries)) }
         ensures err { OnErr result ((self.new ≡ self.old) × (calls.new.items ≡ calls.old.items)) }
-        ensures full { (result ≡ Err DeskFault.HistoryFull) ↔ (self.old.terms.room ≤ length self.old.entries) }
+        ensures keeps { calls.new.keeps ≡ calls.old.keeps }
+        ensures full { (result ≡ Err DeskFault.HistoryFull) ↔ IsFull self.old.terms.room (length self.old.entries) }
     {
+        if self.is_full() {
+            return Err(DeskFault::HistoryFull);
+        }
         // What drivers call all the time needs none of the places that other calls need, and each of these costs what it holds, used or not.
         match call {
             Call::Round => self.enter_round(number, calls),
@@ -232,59 +290,87 @@ impl<T: Handlers> Booked<T> {
         }
     }
 
-    /// A Round as `enter` makes it. It takes no memory but for its places in both lists.
+    /// A Round as `enter` makes it. It takes no memory but for its places in both lists, where they are kept.
     fn enter_round(
         &mut self,
         number: usize,
-        calls: &mut Vec<(Call, Recorded)>,
+        calls: &mut Trail<(Call, Recorded)>,
     ) -> Result<Recorded, DeskFault>
+        requires { calls.old.keeps ≡ is_some self.old.terms.room }
         ensures terms { self.new.terms ≡ self.old.terms }
         ensures legal { Legal self.new.terms.opening self.new.entries self.new.state }
         ensures polled { IsPolled self.new.entries self.new.taps }
-        ensures ok { IfOk result (λ reply. (self.new.entries ≡ self.old.entries ++ entry number Call.Round reply ∷ []) × (calls.new.items ≡ calls.old.items ++ (Call.Round, reply) ∷ []) × (length self.new.entries ≤ self.new.terms.room)) }
+        ensures ok { IfOk result (λ reply. (self.new.entries ≡ self.old.entries ++ entry number Call.Round reply ∷ []) × (calls.new.items ≡ calls.old.items ++ (Call.Round, reply) ∷ [])) }
         ensures err { OnErr result ((self.new ≡ self.old) × (calls.new.items ≡ calls.old.items)) }
-        ensures full { (result ≡ Err DeskFault.HistoryFull) ↔ (self.old.terms.room ≤ length self.old.entries) }
+        ensures keeps { calls.new.keeps ≡ calls.old.keeps }
+        ensures fault { IfErr result (λ fault. fault ≡ DeskFault.NoMemory) }
     {
         let ledger = &mut *self.ledger;
-        if ledger.entries.len() >= ledger.terms.room {
-            return Err(DeskFault::HistoryFull);
+        if !ledger.entries.keeps() {
+            let reply = Recorded::worked(self.router.round());
+            return Ok(note(&mut ledger.entries, calls, number, Call::Round, reply));
         }
-        if ledger.entries.reserve(1).is_err() || calls.reserve(1).is_err() {
+        if ledger.entries.reserve().is_err() || calls.reserve().is_err() {
             return Err(DeskFault::NoMemory);
         }
         let worked = self.router.round();
-        ledger.entries.push_reserved(Entry {
+        ledger.entries.add(Entry {
             seat: number,
             call: Call::Round,
             reply: Recorded::worked(worked),
         });
-        calls.push_reserved((Call::Round, Recorded::worked(worked)));
+        calls.add((Call::Round, Recorded::worked(worked)));
         Ok(Recorded::worked(worked))
     }
 
     /// A call as `enter` makes it, which may send a packet and may take memory.
-    #[inline(never)]
     fn enter_any<R: Wait>(
         &mut self,
         rt: &R,
         alloc: Global,
         number: usize,
-        calls: &mut Vec<(Call, Recorded)>,
+        calls: &mut Trail<(Call, Recorded)>,
         call: Call,
     ) -> Result<Recorded, DeskFault>
-        requires { is_poll call ≡ false }
+        requires call { is_poll call ≡ false }
+        requires keeps { calls.old.keeps ≡ is_some self.old.terms.room }
         ensures terms { self.new.terms ≡ self.old.terms }
         ensures legal { Legal self.new.terms.opening self.new.entries self.new.state }
         ensures polled { IsPolled self.new.entries self.new.taps }
-        ensures ok { IfOk result (λ reply. (self.new.entries ≡ self.old.entries ++ entry number call reply ∷ []) × (calls.new.items ≡ calls.old.items ++ (call, reply) ∷ []) × (length self.new.entries ≤ self.new.terms.room)) }
+        ensures ok { IfOk result (λ reply. (self.new.entries ≡ self.old.entries ++ entry number call reply ∷ []) × (calls.new.items ≡ calls.old.items ++ (call, reply) ∷ [])) }
         ensures err { OnErr result ((self.new ≡ self.old) × (calls.new.items ≡ calls.old.items)) }
-        ensures full { (result ≡ Err DeskFault.HistoryFull) ↔ (self.old.terms.room ≤ length self.old.entries) }
+        ensures keeps { calls.new.keeps ≡ calls.old.keeps }
+        ensures fault { IfErr result (λ fault. fault ≡ DeskFault.NoMemory) }
+    {
+        if self.ledger.terms.room.is_some() {
+            self.enter_kept(rt, alloc, number, calls, call)
+        } else {
+            self.enter_noted(rt, alloc, number, calls, call)
+        }
+    }
+
+    /// A call, with copies of it and of its reply in both lists.
+    #[inline(never)]
+    fn enter_kept<R: Wait>(
+        &mut self,
+        rt: &R,
+        alloc: Global,
+        number: usize,
+        calls: &mut Trail<(Call, Recorded)>,
+        call: Call,
+    ) -> Result<Recorded, DeskFault>
+        requires call { is_poll call ≡ false }
+        requires keeps { (is_some self.old.terms.room ≡ true) × (calls.old.keeps ≡ true) }
+        ensures terms { self.new.terms ≡ self.old.terms }
+        ensures legal { Legal self.new.terms.opening self.new.entries self.new.state }
+        ensures polled { IsPolled self.new.entries self.new.taps }
+        ensures ok { IfOk result (λ reply. (self.new.entries ≡ self.old.entries ++ entry number call reply ∷ []) × (calls.new.items ≡ calls.old.items ++ (call, reply) ∷ [])) }
+        ensures err { OnErr result ((self.new ≡ self.old) × (calls.new.items ≡ calls.old.items)) }
+        ensures keeps { calls.new.keeps ≡ calls.old.keeps }
+        ensures fault { IfErr result (λ fault. fault ≡ DeskFault.NoMemory) }
     {
         let ledger = &mut *self.ledger;
-        if ledger.entries.len() >= ledger.terms.room {
-            return Err(DeskFault::HistoryFull);
-        }
-        if ledger.entries.reserve(1).is_err() || calls.reserve(1).is_err() {
+        if ledger.entries.reserve().is_err() || calls.reserve().is_err() {
             return Err(DeskFault::NoMemory);
         }
         let Ok(listed) = call.copy(alloc) else {
@@ -312,12 +398,43 @@ impl<T: Handlers> Booked<T> {
         let Ok((entered, told)) = recorded_twice(alloc, &reply, entered, beside) else {
             return Err(DeskFault::NoMemory);
         };
-        ledger.entries.push_reserved(Entry {
+        ledger.entries.add(Entry {
             seat: number,
             call,
             reply: entered,
         });
-        calls.push_reserved((listed, told));
+        calls.add((listed, told));
         Ok(reply)
+    }
+
+    /// A call of which nothing is kept. It takes no memory but what its step takes and its reply holds.
+    #[inline(never)]
+    fn enter_noted<R: Wait>(
+        &mut self,
+        rt: &R,
+        alloc: Global,
+        number: usize,
+        calls: &mut Trail<(Call, Recorded)>,
+        call: Call,
+    ) -> Result<Recorded, DeskFault>
+        requires call { is_poll call ≡ false }
+        requires notes { (is_some self.old.terms.room ≡ false) × (calls.old.keeps ≡ false) }
+        ensures terms { self.new.terms ≡ self.old.terms }
+        ensures legal { Legal self.new.terms.opening self.new.entries self.new.state }
+        ensures polled { IsPolled self.new.entries self.new.taps }
+        ensures ok { IfOk result (λ reply. (self.new.entries ≡ self.old.entries ++ entry number call reply ∷ []) × (calls.new.items ≡ calls.old.items ++ (call, reply) ∷ [])) }
+        ensures err { OnErr result ((self.new ≡ self.old) × (calls.new.items ≡ calls.old.items)) }
+        ensures keeps { calls.new.keeps ≡ calls.old.keeps }
+        ensures fault { IfErr result (λ fault. fault ≡ DeskFault.NoMemory) }
+    {
+        let ledger = &mut *self.ledger;
+        let Ok(room) = room_for(alloc, &call) else {
+            return Err(DeskFault::NoMemory);
+        };
+        let published = &mut ledger.published;
+        let Ok(reply) = answer(rt, alloc, &mut self.router, published, &call, room) else {
+            return Err(DeskFault::NoMemory);
+        };
+        Ok(note(&mut ledger.entries, calls, number, call, reply))
     }
 }

@@ -9,7 +9,7 @@ use std::collections::LinkedList;
 /// What a desk was opened with, and which feeds it has. No value of it is made.
 pub struct Charter {
     pub opening: Sequence<u8>,
-    pub room: usize,
+    pub room: Option<usize>,
     pub seats: usize,
     pub origin: Origin<Install>,
     pub feeds: LinkedList<Inlet>,

@@ -4,6 +4,7 @@ ghost use Rattle.std.specs.Prelude.{◌≡◌, ◌==◌, ◌↔◌, ◌<◌, ◌
 ghost use Rattle.std.specs.List.{All};
 ghost use Rattle.crossbeam_queue.specs.Passes.{view, IsPassOf};
 ghost use Rattle.click_desk.specs.Views.{agent as agent_of, holding};
+ghost use Rattle.click_desk.specs.Bounds.{IsWithin};
 ghost use Rattle.click_desk.specs.History.{entries};
 ghost use Rattle.click_desk.specs.Charters.{charter_of, terms_of};
 ghost use Rattle.click_desk.specs.Sittings.{Sitting};
@@ -100,7 +101,7 @@ fn take_last<T, R: Wait>(rt: &R, queue: &Queue<T>, seats: &mut [Seat<T>]) -> Boo
     ensures feeds { (s : Sitting) → (slice_index_or seats.old 0 s).feeds ≡ result.terms.feeds }
     ensures entered { All (IsEntered result.entries) seats.old }
     ensures numbered { (n : ℕ) → result.terms.seats ≤ n → entries result.entries n ≡ [] }
-    ensures within { length result.entries ≤ result.terms.room }
+    ensures within { IsWithin result.terms.room (length result.entries) }
 {
     let mut agent = agent(queue, &mut seats[0]);
     let booked = take(rt, queue, &mut agent);

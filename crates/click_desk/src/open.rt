@@ -1,6 +1,6 @@
 //! The opening of a desk.
 
-ghost use Rattle.std.specs.Prelude.{◌≡◌, ◌≤◌, ◌<◌, ◌∷◌, [], ℕ, List, length, map, true, false, nat_lt, is_some, IfOk, OnOk, IfErr, IfSome, IfNone, vec_capacity};
+ghost use Rattle.std.specs.Prelude.{◌≡◌, ◌≤◌, ◌<◌, ◌∷◌, [], ℕ, List, length, map, true, false, is_some, Some, None, IfOk, OnOk, IfErr, IfSome, IfNone, vec_capacity, nat_lt};
 ghost use Rattle.std.specs.List.{All};
 ghost use Rattle.crossbeam_queue.specs.Passes.{view, IsPassOf, ruled_capacity};
 ghost use Rattle.click_router.specs.Opened.{IsOpened, IsFirstFault};
@@ -19,6 +19,7 @@ use crate::terms::Terms;
 use crate::watch::{Notice, View};
 use click_rings::{Inlet, Tap, are_apart};
 use click_router::{ConfigFault, FaultKind, Install, Prepared, Router, prepare};
+use click_trail::Trail;
 use click_views::{Bell, Publisher};
 use std::alloc::{AllocError, Global};
 use std::sync::Wait;
@@ -65,7 +66,7 @@ pub struct OpenRefused<T> {
 /// How many of each a desk is to have.
 #[derive(Clone, Copy)]
 struct Sizes {
-    room: usize,
+    room: Option<usize>,
     seats: usize,
     inlets: usize,
     views: usize,
@@ -81,18 +82,19 @@ struct Parts<T> {
     views: Vec<View>,
 }
 
-/// A ledger without an entry, with room for so many feeds.
+/// A ledger without an entry, with room for so many feeds. It keeps its entries where there is a bound of them.
 fn empty_ledger(
     alloc: Global,
     terms: Terms,
     inlets: usize,
     published: Publisher<Install>,
 ) -> Result<Box<Ledger>, AllocError>
-    ensures { IfOk result (λ l. (l.value.terms ≡ terms) × (l.value.published ≡ published) × (l.value.entries.items ≡ []) × (l.value.taps.items ≡ []) × (inlets ≤ vec_capacity l.value.taps)) }
+    ensures { IfOk result (λ l. (l.value.terms ≡ terms) × (l.value.published ≡ published) × (l.value.entries.items ≡ []) × (l.value.entries.keeps ≡ is_some terms.room) × (l.value.taps.items ≡ []) × (inlets ≤ vec_capacity l.value.taps)) }
 {
+    let keeps = terms.room.is_some();
     let ledger = Ledger {
         terms,
-        entries: Vec::new(alloc),
+        entries: Trail::new(alloc, keeps),
         taps: Vec::with_capacity(alloc, inlets)?,
         published,
     };
@@ -110,13 +112,15 @@ fn make_parts<T, R: Wait>(
     requires { IsOpened text.now prepared.now }
     ensures terms { IfOk result (λ p. (p.ledger.value.terms ≡ record { opening = text.now; room = sizes.room; seats = sizes.seats; origin = p.ledger.value.published.board }) × (p.beside ≡ p.ledger.value.terms)) }
     ensures published { IfOk result (λ p. p.ledger.value.published ≡ record { board = p.ledger.value.published.board; list = text.now ∷ [] }) }
-    ensures empty { IfOk result (λ p. p.ledger.value.entries.items ≡ []) }
+    ensures empty { IfOk result (λ p. (p.ledger.value.entries.items ≡ []) × (p.ledger.value.entries.keeps ≡ is_some sizes.room)) }
     ensures queue { IfOk result (λ p. (ruled_capacity p.queue ≡ 1) × IsPassOf p.queue p.maker × (view p.maker ≡ first)) }
     ensures given { IfOk result (λ p. (p.given.items ≡ []) × (sizes.seats ≤ vec_capacity p.given)) }
     ensures views { IfOk result (λ p. (p.views.items ≡ []) × (sizes.views ≤ vec_capacity p.views)) }
     ensures taps { IfOk result (λ p. (p.ledger.value.taps.items ≡ []) × (sizes.inlets ≤ vec_capacity p.ledger.value.taps)) }
 {
-    let published = Publisher::open(rt, alloc, Install::of_prepared(alloc, text, prepared)?)?;
+    let install = Install::of_prepared(alloc, text, prepared)?;
+    // Where there are no views nothing that is published is kept.
+    let published = Publisher::open(rt, alloc, install, sizes.views > 0)?;
     let inside = Terms::of(alloc, text, sizes.room, sizes.seats, published.origin())?;
     let beside = Terms::of(alloc, text, sizes.room, sizes.seats, published.origin())?;
     let ledger = empty_ledger(alloc, inside, sizes.inlets, published)?;
@@ -149,6 +153,7 @@ fn make_seats<T>(
     alloc: Global,
     queue: &Queue<T>,
     mut maker: DeskPass<T>,
+    keeps: bool,
     count: usize,
     given: &mut Vec<Seat<T>>,
     told: &Notice,
@@ -156,6 +161,7 @@ fn make_seats<T>(
     requires queue { IsPassOf queue.now maker }
     requires maker { view maker ≡ maker_of (view maker).terms 0 [] }
     requires legal { IsLegal (view maker).terms.opening [] }
+    requires keeps { keeps ≡ is_some (view maker).terms.room }
     requires count { (view maker).terms.seats ≡ count }
     requires given { (given.old.items ≡ []) × (count ≤ vec_capacity given.old) }
     requires told { told.now ≡ record { board = (view maker).terms.origin; list = (view maker).terms.opening ∷ [] } }
@@ -166,7 +172,7 @@ fn make_seats<T>(
         given.push_reserved(Seat {
             pass,
             number,
-            calls: Vec::new(alloc),
+            calls: Trail::new(alloc, keeps),
             notice: told.again(),
         });
     }
@@ -285,7 +291,7 @@ impl<'a, T: Drop, R: Wait> Desk<T, &'a R> {
         seats: usize,
         inlets: Vec<Inlet>,
     ) -> Result<(Desk<T, &'a R>, Vec<Seat<T>>), OpenRefused<T>>
-        ensures desk { IfOk result (λ r. (r.0.terms.opening ≡ text.now) × (r.0.terms.room ≡ room) × (r.0.terms.seats ≡ seats)) }
+        ensures desk { IfOk result (λ r. (r.0.terms.opening ≡ text.now) × (r.0.terms.room ≡ Some room) × (r.0.terms.seats ≡ seats)) }
         ensures seats { IfOk result (λ r. (r.1.items ≡ seats_below r.0 inlets.items seats) × All (λ s. s.desk ≡ r.0) r.1.items) }
         ensures fed { IfOk result (λ r. All (λ s. s.feeds ≡ inlets.items) r.1.items) }
         ensures good { IfOk result (λ r. AreFit seats inlets.items × IsLegal text.now []) }
@@ -306,6 +312,51 @@ impl<'a, T: Drop, R: Wait> Desk<T, &'a R> {
         table: T,
         text: &[u8],
         room: usize,
+        seats: usize,
+        inlets: Vec<Inlet>,
+        views: usize,
+    ) -> Result<(Desk<T, &'a R>, Vec<Seat<T>>, Vec<View>), OpenRefused<T>>
+        ensures desk { IfOk result (λ r. (r.0.terms.opening ≡ text.now) × (r.0.terms.room ≡ Some room) × (r.0.terms.seats ≡ seats)) }
+        ensures seats { IfOk result (λ r. (r.1.items ≡ seats_below r.0 inlets.items seats) × All (λ s. s.desk ≡ r.0) r.1.items) }
+        ensures fed { IfOk result (λ r. All (λ s. s.feeds ≡ inlets.items) r.1.items) }
+        ensures views { IfOk result (λ r. (length r.2.items ≡ views) × All (λ v. v ≡ record { board = r.0.terms.origin; list = text.now ∷ [] }) r.2.items) }
+        ensures good { IfOk result (λ r. AreFit seats inlets.items × (views ≤ 16) × IsLegal text.now []) }
+        ensures handed { IfErr result (λ r. (r.table ≡ table) × (r.inlets ≡ inlets)) }
+        ensures fault { IfErr result (λ r. IsViewFault seats inlets.items views text.now r.fault) }
+    {
+        Desk::open_of(rt, alloc, table, text, Some(room), seats, inlets, views)
+    }
+
+    /// Opens a live desk, which keeps no book: its history has no bound, and no call and no poll takes memory that stays. There is one history as of a desk with a
+    /// book, and all that is promised of it holds, but it is not kept, so that no seat lends its calls and the book of the close lends no entries. It is refused as
+    /// `open_with_views` is.
+    pub fn open_live(
+        rt: &'a R,
+        alloc: Global,
+        table: T,
+        text: &[u8],
+        seats: usize,
+        inlets: Vec<Inlet>,
+        views: usize,
+    ) -> Result<(Desk<T, &'a R>, Vec<Seat<T>>, Vec<View>), OpenRefused<T>>
+        ensures desk { IfOk result (λ r. (r.0.terms.opening ≡ text.now) × (r.0.terms.room ≡ None) × (r.0.terms.seats ≡ seats)) }
+        ensures seats { IfOk result (λ r. (r.1.items ≡ seats_below r.0 inlets.items seats) × All (λ s. s.desk ≡ r.0) r.1.items) }
+        ensures fed { IfOk result (λ r. All (λ s. s.feeds ≡ inlets.items) r.1.items) }
+        ensures views { IfOk result (λ r. (length r.2.items ≡ views) × All (λ v. v ≡ record { board = r.0.terms.origin; list = text.now ∷ [] }) r.2.items) }
+        ensures good { IfOk result (λ r. AreFit seats inlets.items × (views ≤ 16) × IsLegal text.now []) }
+        ensures handed { IfErr result (λ r. (r.table ≡ table) × (r.inlets ≡ inlets)) }
+        ensures fault { IfErr result (λ r. IsViewFault seats inlets.items views text.now r.fault) }
+    {
+        Desk::open_of(rt, alloc, table, text, None, seats, inlets, views)
+    }
+
+    /// Opens a desk, for a history of at most `room` entries that is kept, or for one without a bound that is not.
+    fn open_of(
+        rt: &'a R,
+        alloc: Global,
+        table: T,
+        text: &[u8],
+        room: Option<usize>,
         seats: usize,
         inlets: Vec<Inlet>,
         views: usize,
@@ -352,7 +403,15 @@ impl<'a, T: Drop, R: Wait> Desk<T, &'a R> {
         let router = Router::open(table, prepared);
         open_all(inlets, &mut ledger.taps);
         give(rt, &queue, &mut maker, Booked::new(ledger, router));
-        make_seats(alloc, &queue, maker, seats, &mut given, &told);
+        make_seats(
+            alloc,
+            &queue,
+            maker,
+            room.is_some(),
+            seats,
+            &mut given,
+            &told,
+        );
         let desk = Desk {
             alloc,
             queue,

@@ -1,18 +1,22 @@
 //! Polls: packets that are drawn from a feed enter the router.
 
-ghost use Rattle.std.specs.Prelude.{◌≡◌, ◌≤◌, ◌++◌, ◌∷◌, ◌↔◌, [], length, map, true, false, IfOk, OnErr, Err, List, vec_len, vec_capacity};
+ghost use Rattle.std.specs.Prelude.{◌≡◌, ◌≤◌, ◌++◌, ◌∷◌, ◌↔◌, [], length, map, true, false, is_some, IfOk, IfErr, OnErr, Err, List, vec_len, vec_capacity};
 ghost use Rattle.click_packet.specs.Packet.{Packet};
 ghost use Rattle.click_rings.specs.Feeds.{name_of, has_feed, are_apart, drew};
+ghost use Rattle.click_desk.specs.Bounds.{IsWithin, IsFull};
 ghost use Rattle.click_desk.specs.History.{entry, Legal};
+ghost use Rattle.click_router.specs.One.{Answers};
 ghost use Rattle.click_router.specs.Polls.{poll};
+ghost use Rattle.click_router.specs.State.{RouterState};
 ghost use Rattle.click_desk.specs.Polls.{IsPolled, MayTake};
 
-use crate::booked::{Booked, DeskFault, recorded_twice};
+use crate::booked::{Booked, DeskFault, note, recorded_twice};
 use crate::entry::Entry;
 use click_packet::{PacketRoom, StoredPacket};
 use click_rings::{Tap, draw_from, seen_in};
-use click_router::{Call, Handlers, Recorded};
+use click_router::{Call, Handlers, Recorded, Reply, Router};
 use click_text::sequence::Sequence;
+use click_trail::Trail;
 use std::alloc::{AllocError, Global};
 
 /// Rooms for this many packets.
@@ -26,26 +30,40 @@ fn packet_rooms(alloc: Global, count: usize) -> Result<Vec<PacketRoom>, AllocErr
     Ok(rooms)
 }
 
-/// All memory that a poll may need: the device's name and the packets twice, for the history and for the seat's list.
+/// All memory that a poll may need: the device's name and the packets.
+#[derive(Drop)]
 struct PollRoom {
-    entered_name: Sequence<u8>,
-    listed_name: Sequence<u8>,
+    name: Sequence<u8>,
     drawn: Vec<StoredPacket>,
-    listed: Vec<StoredPacket>,
-    rooms: Vec<PacketRoom>,
 }
 
 impl PollRoom {
     fn new(alloc: Global, device: &[u8], most: usize) -> Result<PollRoom, AllocError>
-        ensures names { IfOk result (λ r. (r.entered_name ≡ device.now) × (r.listed_name ≡ device.now)) }
-        ensures drawn { IfOk result (λ r. (r.drawn.items ≡ []) × (most ≤ vec_capacity r.drawn)) }
-        ensures listed { IfOk result (λ r. (r.listed.items ≡ []) × (most ≤ vec_capacity r.listed) × (vec_len r.rooms ≡ most)) }
+        ensures { IfOk result (λ r. (r.name ≡ device.now) × (r.drawn.items ≡ []) × (most ≤ vec_capacity r.drawn)) }
     {
         Ok(PollRoom {
-            entered_name: Sequence::of(Vec::from_slice(alloc, device)?),
-            listed_name: Sequence::of(Vec::from_slice(alloc, device)?),
+            name: Sequence::of(Vec::from_slice(alloc, device)?),
             drawn: Vec::with_capacity(alloc, most)?,
-            listed: Vec::with_capacity(alloc, most)?,
+        })
+    }
+}
+
+/// The same twice, for the history and for the seat's list.
+struct PollRooms {
+    entered: PollRoom,
+    listed: PollRoom,
+    rooms: Vec<PacketRoom>,
+}
+
+impl PollRooms {
+    fn new(alloc: Global, device: &[u8], most: usize) -> Result<PollRooms, AllocError>
+        ensures names { IfOk result (λ r. (r.entered.name ≡ device.now) × (r.listed.name ≡ device.now)) }
+        ensures drawn { IfOk result (λ r. (r.entered.drawn.items ≡ []) × (most ≤ vec_capacity r.entered.drawn)) }
+        ensures listed { IfOk result (λ r. (r.listed.drawn.items ≡ []) × (most ≤ vec_capacity r.listed.drawn) × (vec_len r.rooms ≡ most)) }
+    {
+        Ok(PollRooms {
+            entered: PollRoom::new(alloc, device, most)?,
+            listed: PollRoom::new(alloc, device, most)?,
             rooms: packet_rooms(alloc, most)?,
         })
     }
@@ -70,12 +88,12 @@ fn copy_all(
 }
 
 /// How many packets a poll is to draw: as many as are seen to be there, up to `most`, and none where the configuration has no such source.
-fn seen_where(found: bool, taps: &mut Vec<Tap>, device: &[u8], most: usize) -> usize
+fn seen_for<T>(router: &Router<T>, taps: &mut Vec<Tap>, device: &[u8], most: usize) -> usize
     ensures taps { taps.new.items ≡ taps.old.items }
     ensures most { result ≤ most }
-    ensures nothing { found ≡ false → result ≡ 0 }
+    ensures nothing { (packets : List Packet) (next : RouterState) (reply : Reply) → Answers router.now (poll device.now packets) next reply → reply ≡ Reply.NoDevice → result ≡ 0 }
 {
-    if found {
+    if router.has_source(device) {
         seen_in(taps.as_mut_slice(), device, most)
     } else {
         0
@@ -83,30 +101,53 @@ fn seen_where(found: bool, taps: &mut Vec<Tap>, device: &[u8], most: usize) -> u
 }
 
 impl PollRoom {
-    /// Draws up to `most` packets of the device. Gives the poll of what was drawn twice. It takes no memory.
-    fn draw(self, taps: &mut [Tap], device: &[u8], most: usize) -> (Call, Call)
+    /// Draws up to `most` packets of the device, and gives the poll of what was drawn. It takes no memory.
+    fn draw(self, taps: &mut [Tap], device: &[u8], most: usize) -> Call
         requires apart { are_apart (map name_of taps.old) ≡ true }
-        requires names { (self.entered_name ≡ device.now) × (self.listed_name ≡ device.now) }
-        requires drawn { (self.drawn.items ≡ []) × (most ≤ vec_capacity self.drawn) }
-        requires listed { (self.listed.items ≡ []) × (most ≤ vec_capacity self.listed) × (vec_len self.rooms ≡ most) }
-        ensures { (taken : List Packet) × (result.0 ≡ poll device.now taken) × (result.1 ≡ poll device.now taken) × (taps.new ≡ drew device.now taken taps.old)
+        requires room { (self.name ≡ device.now) × (self.drawn.items ≡ []) × (most ≤ vec_capacity self.drawn) }
+        ensures { (taken : List Packet) × (result ≡ poll device.now taken) × (taps.new ≡ drew device.now taken taps.old)
             × (length taken ≤ most) × (has_feed device.now (map name_of taps.old) ≡ false → taken ≡ []) }
     {
         let PollRoom {
-            entered_name,
-            listed_name,
-            mut drawn,
+            name,
+            drawn: mut taken,
+        } = self;
+        draw_from(taps, device, most, &mut taken);
+        Call::Poll {
+            device: name,
+            taken: Sequence::of(taken),
+        }
+    }
+}
+
+impl PollRooms {
+    /// Draws up to `most` packets of the device. Gives the poll of what was drawn twice. It takes no memory.
+    fn draw(self, taps: &mut [Tap], device: &[u8], most: usize) -> (Call, Call)
+        requires apart { are_apart (map name_of taps.old) ≡ true }
+        requires names { (self.entered.name ≡ device.now) × (self.listed.name ≡ device.now) }
+        requires drawn { (self.entered.drawn.items ≡ []) × (most ≤ vec_capacity self.entered.drawn) }
+        requires listed { (self.listed.drawn.items ≡ []) × (most ≤ vec_capacity self.listed.drawn) × (vec_len self.rooms ≡ most) }
+        ensures { (taken : List Packet) × (result.0 ≡ poll device.now taken) × (result.1 ≡ poll device.now taken) × (taps.new ≡ drew device.now taken taps.old)
+            × (length taken ≤ most) × (has_feed device.now (map name_of taps.old) ≡ false → taken ≡ []) }
+    {
+        let PollRooms {
+            entered,
             listed,
             rooms,
         } = self;
+        let PollRoom { name, mut drawn } = entered;
+        let PollRoom {
+            name: again,
+            drawn: copies,
+        } = listed;
         draw_from(taps, device, most, &mut drawn);
-        let copies = copy_all(drawn.as_slice(), rooms, listed);
+        let copies = copy_all(drawn.as_slice(), rooms, copies);
         let call = Call::Poll {
-            device: entered_name,
+            device: name,
             taken: Sequence::of(drawn),
         };
         let copy = Call::Poll {
-            device: listed_name,
+            device: again,
             taken: Sequence::of(copies),
         };
         (call, copy)
@@ -119,30 +160,56 @@ impl<T: Handlers> Booked<T> {
         &mut self,
         alloc: Global,
         number: usize,
-        calls: &mut Vec<(Call, Recorded)>,
+        calls: &mut Trail<(Call, Recorded)>,
         device: &[u8],
         most: usize,
     ) -> Result<Recorded, DeskFault>
+        requires keeps { calls.old.keeps ≡ is_some self.old.terms.room }
         ensures terms { self.new.terms ≡ self.old.terms }
         ensures legal { Legal self.new.terms.opening self.new.entries self.new.state }
         ensures polled { IsPolled self.new.entries self.new.taps }
-        ensures ok { IfOk result (λ reply. (taken : List Packet) × MayTake self.new.terms.feeds device.now most taken reply × (self.new.entries ≡ self.old.entries ++ entry number (poll device.now taken) reply ∷ []) × (calls.new.items ≡ calls.old.items ++ (poll device.now taken, reply) ∷ []) × (length self.new.entries ≤ self.new.terms.room)) }
+        ensures ok { IfOk result (λ reply. (taken : List Packet) × MayTake self.new.terms.feeds device.now most taken reply × (self.new.entries ≡ self.old.entries ++ entry number (poll device.now taken) reply ∷ []) × (calls.new.items ≡ calls.old.items ++ (poll device.now taken, reply) ∷ []) × IsWithin self.new.terms.room (length self.new.entries)) }
         ensures err { OnErr result ((self.new ≡ self.old) × (calls.new.items ≡ calls.old.items)) }
-        ensures full { (result ≡ Err DeskFault.HistoryFull) ↔ (self.old.terms.room ≤ length self.old.entries) }
+        ensures keeps { calls.new.keeps ≡ calls.old.keeps }
+        ensures full { (result ≡ Err DeskFault.HistoryFull) ↔ IsFull self.old.terms.room (length self.old.entries) }
     {
-        let ledger = &mut *self.ledger;
-        if ledger.entries.len() >= ledger.terms.room {
+        if self.is_full() {
             return Err(DeskFault::HistoryFull);
         }
-        if ledger.entries.reserve(1).is_err() || calls.reserve(1).is_err() {
+        if self.ledger.terms.room.is_some() {
+            self.enter_poll_kept(alloc, number, calls, device, most)
+        } else {
+            self.enter_poll_noted(alloc, number, calls, device, most)
+        }
+    }
+
+    /// A poll, with copies of it and of its reply in both lists.
+    fn enter_poll_kept(
+        &mut self,
+        alloc: Global,
+        number: usize,
+        calls: &mut Trail<(Call, Recorded)>,
+        device: &[u8],
+        most: usize,
+    ) -> Result<Recorded, DeskFault>
+        requires { (is_some self.old.terms.room ≡ true) × (calls.old.keeps ≡ true) }
+        ensures terms { self.new.terms ≡ self.old.terms }
+        ensures legal { Legal self.new.terms.opening self.new.entries self.new.state }
+        ensures polled { IsPolled self.new.entries self.new.taps }
+        ensures ok { IfOk result (λ reply. (taken : List Packet) × MayTake self.new.terms.feeds device.now most taken reply × (self.new.entries ≡ self.old.entries ++ entry number (poll device.now taken) reply ∷ []) × (calls.new.items ≡ calls.old.items ++ (poll device.now taken, reply) ∷ [])) }
+        ensures err { OnErr result ((self.new ≡ self.old) × (calls.new.items ≡ calls.old.items)) }
+        ensures keeps { calls.new.keeps ≡ calls.old.keeps }
+        ensures fault { IfErr result (λ fault. fault ≡ DeskFault.NoMemory) }
+    {
+        let ledger = &mut *self.ledger;
+        if ledger.entries.reserve().is_err() || calls.reserve().is_err() {
             return Err(DeskFault::NoMemory);
         }
-        let found = self.router.has_source(device);
-        let count = seen_where(found, &mut ledger.taps, device, most);
-        let Ok(room) = PollRoom::new(alloc, device, count) else {
+        let count = seen_for(&self.router, &mut ledger.taps, device, most);
+        let Ok(rooms) = PollRooms::new(alloc, device, count) else {
             return Err(DeskFault::NoMemory);
         };
-        let (call, listed) = room.draw(ledger.taps.as_mut_slice(), device, count);
+        let (call, listed) = rooms.draw(ledger.taps.as_mut_slice(), device, count);
         // From here on nothing fails: a poll and its reply take no memory.
         let Ok(reply) = self.router.record(alloc, &call, None) else {
             unreachable!()
@@ -150,12 +217,43 @@ impl<T: Handlers> Booked<T> {
         let Ok((entered, told)) = recorded_twice(alloc, &reply, None, None) else {
             unreachable!()
         };
-        ledger.entries.push_reserved(Entry {
+        ledger.entries.add(Entry {
             seat: number,
             call,
             reply: entered,
         });
-        calls.push_reserved((listed, told));
+        calls.add((listed, told));
         Ok(reply)
+    }
+
+    /// A poll of which nothing is kept: the packets that it drew are let go once they entered.
+    fn enter_poll_noted(
+        &mut self,
+        alloc: Global,
+        number: usize,
+        calls: &mut Trail<(Call, Recorded)>,
+        device: &[u8],
+        most: usize,
+    ) -> Result<Recorded, DeskFault>
+        requires notes { (is_some self.old.terms.room ≡ false) × (calls.old.keeps ≡ false) }
+        ensures terms { self.new.terms ≡ self.old.terms }
+        ensures legal { Legal self.new.terms.opening self.new.entries self.new.state }
+        ensures polled { IsPolled self.new.entries self.new.taps }
+        ensures ok { IfOk result (λ reply. (taken : List Packet) × MayTake self.new.terms.feeds device.now most taken reply × (self.new.entries ≡ self.old.entries ++ entry number (poll device.now taken) reply ∷ []) × (calls.new.items ≡ calls.old.items ++ (poll device.now taken, reply) ∷ [])) }
+        ensures err { OnErr result ((self.new ≡ self.old) × (calls.new.items ≡ calls.old.items)) }
+        ensures keeps { calls.new.keeps ≡ calls.old.keeps }
+        ensures fault { IfErr result (λ fault. fault ≡ DeskFault.NoMemory) }
+    {
+        let ledger = &mut *self.ledger;
+        let seen = seen_for(&self.router, &mut ledger.taps, device, most);
+        let Ok(room) = PollRoom::new(alloc, device, seen) else {
+            return Err(DeskFault::NoMemory);
+        };
+        let call = room.draw(ledger.taps.as_mut_slice(), device, seen);
+        // From here on nothing fails.
+        let Ok(reply) = self.router.record(alloc, &call, None) else {
+            unreachable!()
+        };
+        Ok(note(&mut ledger.entries, calls, number, call, reply))
     }
 }

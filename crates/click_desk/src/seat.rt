@@ -1,12 +1,13 @@
 //! A seat at a desk.
 
-ghost use Rattle.std.specs.Prelude.{◌≡◌};
+ghost use Rattle.std.specs.Prelude.{◌≡◌, [], true, false, is_some};
 ghost use Rattle.click_desk.specs.Sittings.{IsSeat};
 ghost use Rattle.click_desk.specs.History.{installs};
 
 use crate::rule::DeskPass;
 use crate::watch::Notice;
 use click_router::{Call, Recorded};
+use click_trail::Trail;
 use std::marker::Model;
 
 /// Who makes calls at a desk, from any thread.
@@ -14,7 +15,7 @@ use std::marker::Model;
 pub struct Seat<T> {
     pub(crate) pass: DeskPass<T>,
     pub(crate) number: usize,
-    pub(crate) calls: Vec<(Call, Recorded)>,
+    pub(crate) calls: Trail<(Call, Recorded)>,
     pub(crate) notice: Notice,
 }
 
@@ -23,7 +24,7 @@ impl<T> Model for Seat<T> {
 
     ghost Value = { Sitting };
 
-    ghost use Rattle.std.specs.Prelude.{◌≡◌, []};
+    ghost use Rattle.std.specs.Prelude.{◌≡◌, [], is_some};
     ghost use Rattle.crossbeam_queue.specs.Passes.{view as known};
     ghost use Rattle.click_desk.specs.Charters.{terms_of};
     ghost use Rattle.click_desk.specs.Views.{seated};
@@ -33,7 +34,8 @@ impl<T> Model for Seat<T> {
     ghost view = { λ s. record { desk = record { table = s.pass.table_id; terms = terms_of (known s.pass).terms }; feeds = (known s.pass).terms.feeds; number = s.number; calls = s.calls.items; seen = (known s.pass).seen } };
 
     ghost invariant = { λ s. (s.pass.me.1 ≡ []) × (known s.pass ≡ seated (known s.pass).terms s.number s.calls.items (known s.pass).seen) × IsSeat (record { desk = record { table = s.pass.table_id; terms = terms_of (known s.pass).terms }; feeds = (known s.pass).terms.feeds; number = s.number; calls = s.calls.items; seen = (known s.pass).seen })
-        × (s.notice ≡ record { board = (known s.pass).terms.origin; list = installs (known s.pass).terms.opening (known s.pass).seen }) };
+        × (s.notice ≡ record { board = (known s.pass).terms.origin; list = installs (known s.pass).terms.opening (known s.pass).seen })
+        × (s.calls.keeps ≡ is_some (known s.pass).terms.room) };
 }
 
 impl<T> Seat<T> {
@@ -54,9 +56,10 @@ impl<T> Seat<T> {
         &self.notice
     }
 
-    /// The calls that it made, each with its reply.
+    /// The calls that it made, each with its reply, where the desk keeps a book; else none.
     pub fn calls(&self) -> &[(Call, Recorded)]
-        ensures calls { result.now ≡ self.now.calls }
+        ensures calls { is_some self.now.desk.terms.room ≡ true → result.now ≡ self.now.calls }
+        ensures none { is_some self.now.desk.terms.room ≡ false → result.now ≡ [] }
         ensures sound { IsSeat self.now }
     {
         self.calls.as_slice()

@@ -11,7 +11,8 @@ use std::alloc::{AllocError, Global};
 #[derive(Drop)]
 pub struct Terms {
     pub opening: Sequence<u8>,
-    pub room: usize,
+    /// `None`: the history is not kept, and may have as many entries as there are.
+    pub room: Option<usize>,
     pub seats: usize,
     pub origin: Origin<Install>,
 }
@@ -21,7 +22,7 @@ impl Terms {
     pub fn of(
         alloc: Global,
         text: &[u8],
-        room: usize,
+        room: Option<usize>,
         seats: usize,
         origin: Origin<Install>,
     ) -> Result<Terms, AllocError>

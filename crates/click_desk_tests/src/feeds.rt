@@ -147,7 +147,7 @@ fn after(entry: &Entry, device: &[u8], next: u16) -> Option<u16> {
 /// How many packets the book polled of the device, if they are numbered from 0.
 fn polled<T>(book: &Book<T>, device: &[u8]) -> Option<u16> {
     let mut next = 0;
-    for entry in &book.entries {
+    for entry in book.entries.as_slice() {
         next = after(entry, device, next)?;
     }
     Some(next)

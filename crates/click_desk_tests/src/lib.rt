@@ -10,6 +10,8 @@ mod feeds;
 #[cfg(test)]
 mod gates;
 #[cfg(test)]
+mod live;
+#[cfg(test)]
 mod peers;
 #[cfg(test)]
 mod runs;

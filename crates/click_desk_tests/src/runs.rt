@@ -63,7 +63,7 @@ impl<'a> TakesTable for Asked<'a> {
             false,
             None,
         ) {
-            Ok(ran) => Ok((ran.ended, ran.book.entries.len())),
+            Ok(ran) => Ok((ran.ended, ran.book.entries.as_slice().len())),
             Err(fault) => Err(fault),
         };
         (came, writer.kept())

@@ -261,7 +261,7 @@ fn entries<T: Drop, R: Wait>(rt: &R, desk: Desk<T, &R>, seats: Vec<Seat<T>>) -> 
     requires { All (λ s. s.desk ≡ desk) seats.items }
 {
     match desk.close(rt, seats) {
-        Ok(book) => Some(book.entries.len()),
+        Ok(book) => Some(book.entries.as_slice().len()),
         Err(_refused) => None,
     }
 }
@@ -311,7 +311,7 @@ fn ran<R: Wait>(
         Ok(ran) => {
             let heard = is_heard(writer.kept().as_slice(), talk.replies);
             let right = heard & (ran.ended == Ok(talk.end));
-            Some((usize::from(right), ran.book.entries.len()))
+            Some((usize::from(right), ran.book.entries.as_slice().len()))
         }
         Err(_) => None,
     }

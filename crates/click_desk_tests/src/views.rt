@@ -192,7 +192,7 @@ pub(crate) fn meets<T: Drop, R: Wait>(
     match desk.close(rt, others) {
         Ok(book) => {
             book.meet(view);
-            Some(book.entries.len())
+            Some(book.entries.as_slice().len())
         }
         Err(_refused) => None,
     }

@@ -238,8 +238,14 @@ fn breaks_off<T: Handlers + Send + Drop, R: Threads + Wait + Sync>(
                 }
                 _ => false,
             };
-            let written = ran.book.entries.iter().filter(|e| is_the_write(e)).count();
-            ends & (written == 1) & (ran.book.entries.len() == 2)
+            let written = ran
+                .book
+                .entries
+                .as_slice()
+                .iter()
+                .filter(|e| is_the_write(e))
+                .count();
+            ends & (written == 1) & (ran.book.entries.as_slice().len() == 2)
         }
         Err(_) => false,
     }
@@ -421,7 +427,7 @@ fn all_enter<T: Handlers + Send + Drop, R: Threads + Wait + Sync>(
         rt, alloc, table, COUNTED, false, &door, MANY, 0, 0, &OpenGate, None,
     ) {
         Ok(ran) => {
-            let book = ran.book.entries.is_empty() & (ran.book.seats.len() == MANY);
+            let book = ran.book.entries.as_slice().is_empty() & (ran.book.seats.len() == MANY);
             Ok(all_well(&ran, MANY, 0) & door.all_once() & book)
         }
         Err(_) => Ok(false),

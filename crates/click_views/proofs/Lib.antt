@@ -1,3 +1,4 @@
 pub mod Prefixes
 pub mod Steps
 pub mod Beginnings
+pub mod Boards

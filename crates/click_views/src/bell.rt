@@ -46,11 +46,14 @@ impl<R: Wait + Drop> Bell<R> {
         })
     }
 
-    /// Tells the views of what the notice tells. Where memory runs out it does not ring, and they hear of it at the next ring. It may wait for a view that is
+    /// Tells the views of what the notice tells, if that is kept. Where memory runs out it does not ring, and they hear of it at the next ring. It may wait for a view that is
     /// just looking.
     pub fn ring<I, S: Wait>(&self, rt: &S, notice: &Notice<I>) {
+        let Some(mark) = &notice.mark else {
+            return;
+        };
         let mut writer = self.writer.lock(rt);
-        if writer.append(notice.mark.cell.index()).is_ok() {
+        if writer.append(mark.cell.index()).is_ok() {
             drop(writer.publish());
         }
     }

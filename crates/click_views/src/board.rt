@@ -1,8 +1,8 @@
-//! Where the installs are kept, each for as long as the board lasts.
+//! Where the installs are kept, each for as long as the board lasts, where they are kept.
 
 ghost use Rattle.std.specs.Prelude.{◌≡◌, ◌∷◌, IfOk, IfSome};
 ghost use Rattle.boxcar.specs.Table.{Shows};
-ghost use Rattle.click_views.specs.Showing.{numbers};
+ghost use Rattle.click_views.specs.Showing.{numbers, tag_of};
 
 use crate::log::SeenLog;
 use crate::mark::{Mark, Told};
@@ -56,6 +56,26 @@ impl<I> Names<SeenLog<I>> for ByBook {
     ghost numbers = { λ seen. numbers seen.book };
 }
 
+struct ByBookAlone;
+
+impl<I> Names<SeenLog<I>> for ByBookAlone {
+    ghost use Rattle.std.specs.Prelude.{false};
+    ghost use Rattle.click_views.specs.Showing.{tag_of};
+
+    ghost numbers = { λ seen. tag_of false seen.book };
+}
+
+/// The tag of a board that keeps the installs of this log, or none.
+fn tag_for<I>(seen: &SeenLog<I>, keeps: bool) -> Tag
+    ensures { result.numbers ≡ tag_of keeps seen.now.book }
+{
+    if keeps {
+        Tag::of::<SeenLog<I>, ByBook>(seen)
+    } else {
+        Tag::of::<SeenLog<I>, ByBookAlone>(seen)
+    }
+}
+
 #[derive(Drop)]
 struct CellName<'a, I> {
     slot: &'a OnceSlot<I, AnyInstall>,
@@ -88,12 +108,12 @@ impl<I> Model for Board<I> {
 }
 
 impl<I: Drop> Board<I> {
-    /// An empty board, for the installs of this log.
-    pub fn new(alloc: Global, seen: &SeenLog<I>) -> Result<Board<I>, AllocError>
-        ensures { IfOk result (λ b. b.tag ≡ numbers seen.now.book) }
+    /// An empty board, for the installs of this log or for none.
+    pub fn new(alloc: Global, seen: &SeenLog<I>, keeps: bool) -> Result<Board<I>, AllocError>
+        ensures { IfOk result (λ b. b.tag ≡ tag_of keeps seen.now.book) }
     {
         Ok(Board {
-            cells: boxcar::Vec::with_rule(alloc, Tag::of::<SeenLog<I>, ByBook>(seen))?,
+            cells: boxcar::Vec::with_rule(alloc, tag_for(seen, keeps))?,
         })
     }
 

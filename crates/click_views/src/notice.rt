@@ -1,27 +1,30 @@
 //! What the publishing end tells.
 
-use crate::mark::Mark;
+use crate::log::SeenLog;
+use crate::mark::{Mark, again};
 use crate::origin::Origin;
 use std::marker::Model;
 
 /// How far the installs of a desk go. It has no install in it, and making one takes no memory.
 #[derive(Drop)]
 pub struct Notice<I> {
-    pub(crate) mark: Mark<I>,
+    pub(crate) seen: SeenLog<I>,
+    /// Where the last of them is kept, if they are kept.
+    pub(crate) mark: Option<Mark<I>>,
     pub(crate) of: Origin<I>,
 }
 
 impl<I> Model for Notice<I> {
     ghost use Rattle.std.specs.Prelude.{◌≡◌};
-    ghost use Rattle.boxcar.specs.Table.{Shows};
     ghost use Rattle.click_views.specs.Log.{installs};
-    ghost use Rattle.click_views.specs.Showing.{Showing, numbers};
+    ghost use Rattle.click_views.specs.Placed.{IsPlaced};
+    ghost use Rattle.click_views.specs.Showing.{Showing};
 
     ghost Value = { Showing I };
 
-    ghost view = { λ n. record { board = n.of; list = installs n.mark.told.log } };
+    ghost view = { λ n. record { board = n.of; list = installs n.seen.log } };
 
-    ghost invariant = { λ n. Shows n.of n.mark.cell × (n.of.tag ≡ numbers n.mark.told.book) };
+    ghost invariant = { λ n. IsPlaced n.of n.mark (record { book = n.seen.book; log = n.seen.log }) };
 }
 
 impl<I> Notice<I> {
@@ -32,7 +35,8 @@ impl<I> Notice<I> {
         ensures { result ≡ self.now }
     {
         Notice {
-            mark: self.mark.again(),
+            seen: self.seen.again(),
+            mark: again(&self.mark),
             of: self.of.again(),
         }
     }

@@ -1,11 +1,14 @@
 //! The end that publishes.
 
-ghost use Rattle.std.specs.Prelude.{◌≡◌, ◌++◌, ◌∷◌, [], IfOk, MatchResult};
+ghost use Rattle.std.specs.Prelude.{◌≡◌, ◌++◌, ◌∷◌, [], Some, IfOk, MatchResult, length};
+ghost use Rattle.click_views.specs.Log.{EndsIn};
+ghost use Rattle.click_views.specs.Placed.{IsPlaced};
+ghost use Rattle.click_views.specs.Showing.{tag_of};
 
 use crate::board::Board;
 use crate::closed::Closed;
 use crate::log::LogEnd;
-use crate::mark::{Mark, Told};
+use crate::mark::{Mark, Told, again};
 use crate::notice::Notice;
 use crate::origin::Origin;
 use crate::view::View;
@@ -18,42 +21,67 @@ use std::sync::{Arc, Wait};
 pub struct Publisher<I: Drop> {
     board: Arc<Board<I>, Global>,
     end: LogEnd<I>,
-    mark: Mark<I>,
+    /// Where the last install is kept, if they are kept.
+    mark: Option<Mark<I>>,
     origin: Origin<I>,
 }
 
 impl<I: Drop> Model for Publisher<I> {
     ghost use Rattle.std.specs.Prelude.{◌≡◌};
     ghost use Rattle.std.specs.Arc.{arc_value};
-    ghost use Rattle.boxcar.specs.Table.{Shows};
     ghost use Rattle.click_views.specs.Log.{installs};
-    ghost use Rattle.click_views.specs.Showing.{Showing, numbers};
+    ghost use Rattle.click_views.specs.Placed.{IsPlaced};
+    ghost use Rattle.click_views.specs.Showing.{Showing};
 
     ghost Value = { Showing I };
 
     ghost view = { λ p. record { board = arc_value p.board; list = installs p.end.log } };
 
-    ghost invariant = { λ p. Shows (arc_value p.board) p.mark.cell × ((arc_value p.board).tag ≡ numbers p.end.book) × (p.mark.told.book ≡ p.end.book) × (p.mark.told.log ≡ p.end.log) × (p.origin ≡ arc_value p.board) };
+    ghost invariant = { λ p. IsPlaced (arc_value p.board) p.mark p.end × (p.origin ≡ arc_value p.board) };
+}
+
+/// Keeps the first install, if they are kept.
+fn first_mark<I: Drop, R: Wait>(
+    rt: &R,
+    board: &Board<I>,
+    end: &LogEnd<I>,
+    install: I,
+    keeps: bool,
+) -> Result<Option<Mark<I>>, AllocError>
+    requires board { board.now.tag ≡ tag_of keeps end.now.book }
+    requires first { (length end.now.log ≡ 1) × EndsIn end.now.log install }
+    ensures { IfOk result (λ mark. IsPlaced board.now mark end.now) }
+{
+    if !keeps {
+        return Ok(None);
+    }
+    let (cell, written) = board.keep(rt, end.seen(), install)?;
+    let mark = Mark {
+        told: Told::new(end.seen(), 1, written),
+        cell,
+    };
+    board.tell(&mark);
+    Ok(Some(mark))
 }
 
 impl<I: Drop> Publisher<I> {
-    /// Publishes the first install. `Err`: memory ran out.
-    pub fn open<R: Wait>(rt: &R, alloc: Global, install: I) -> Result<Publisher<I>, AllocError>
+    /// Publishes the first install. Where it `keeps` what it publishes there may be views; else nothing that is published stays in memory. `Err`: memory ran out.
+    pub fn open<R: Wait>(
+        rt: &R,
+        alloc: Global,
+        install: I,
+        keeps: bool,
+    ) -> Result<Publisher<I>, AllocError>
         ensures { IfOk result (λ p. p.list ≡ install ∷ []) }
     {
         let Some(end) = LogEnd::open(&install) else {
             return Err(AllocError);
         };
-        let board = Board::new(alloc, end.seen())?;
+        let board = Board::new(alloc, end.seen(), keeps)?;
         let Some(origin) = Origin::of(&board) else {
             return Err(AllocError);
         };
-        let (cell, written) = board.keep(rt, end.seen(), install)?;
-        let mark = Mark {
-            told: Told::new(end.seen(), 1, written),
-            cell,
-        };
-        board.tell(&mark);
+        let mark = first_mark(rt, &board, &end, install, keeps)?;
         let Ok(board) = Arc::new(alloc, board) else {
             return Err(AllocError);
         };
@@ -65,12 +93,16 @@ impl<I: Drop> Publisher<I> {
         })
     }
 
-    /// Publishes an install. All memory is taken first: where it runs out nothing is published.
+    /// Publishes an install. All memory is taken first: where it runs out nothing is published. Where installs are not kept it takes none, and lets the install go.
     pub fn publish<R: Wait>(&mut self, rt: &R, install: I) -> Result<(), AllocError>
         ensures board { self.new.board ≡ self.old.board }
         ensures list { MatchResult result (λ _. self.new.list ≡ self.old.list ++ install ∷ []) (λ _. self.new.list ≡ self.old.list) }
     {
-        let count = self.mark.told.number();
+        let Some(mark) = &self.mark else {
+            self.end.add(&install);
+            return Ok(());
+        };
+        let count = mark.told.number();
         if count == u64::MAX {
             return Err(AllocError);
         }
@@ -82,7 +114,7 @@ impl<I: Drop> Publisher<I> {
             cell,
         };
         self.board.tell(&mark);
-        self.mark = mark;
+        self.mark = Some(mark);
         Ok(())
     }
 
@@ -98,18 +130,23 @@ impl<I: Drop> Publisher<I> {
         ensures { result ≡ self.now }
     {
         Notice {
-            mark: self.mark.again(),
+            seen: self.end.seen().again(),
+            mark: again(&self.mark),
             of: self.origin.again(),
         }
     }
 
-    /// A view, which shows what was published so far. It hears no bell yet. It is refused only where the board has as many views as it can count.
+    /// A view, which shows what was published so far. It hears no bell yet. It is refused only where installs are not kept, and where the board has
+    /// as many views as it can count.
     pub fn view(&self) -> Result<View<I>, AllocError>
         ensures { IfOk result (λ v. v ≡ self.now) }
     {
+        let Some(mark) = &self.mark else {
+            return Err(AllocError);
+        };
         Ok(View {
             board: Arc::try_clone(&self.board)?,
-            mark: self.mark.again(),
+            mark: mark.again(),
             origin: self.origin.again(),
             reader: None,
         })

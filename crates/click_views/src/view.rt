@@ -74,7 +74,12 @@ impl<I: Drop> View<I> {
         ensures later { BeginsWith self.new.list self.old.list }
         ensures told { BeginsWith self.new.list notice.now.list }
     {
-        self.advance(&notice.mark);
+        let _number = self.mark.told.number();
+        match &notice.mark {
+            Some(mark) => self.advance(mark),
+            // What is told of a list that is not kept is of no list that has views.
+            None => unreachable!(),
+        }
     }
 
     /// From now on it hears the bell that the handle is of. What it shows stays.
@@ -102,7 +107,8 @@ impl<I: Drop> View<I> {
         ensures { result ≡ self.now }
     {
         Notice {
-            mark: self.mark.again(),
+            seen: self.mark.told.seen.again(),
+            mark: Some(self.mark.again()),
             of: self.origin.again(),
         }
     }

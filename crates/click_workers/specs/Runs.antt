@@ -27,7 +27,7 @@ use Rattle.click_workers.specs.declared.runs.RunFault.TheVariants as fault
 
 -- the desk was opened with this text and this many seats, and its history has room for 1,048,576 entries
 abbrev pub IsOpenedWith : List ℕ → ℕ → DeskName → Type 0
-IsOpenedWith text n desk = (desk.terms.opening ≡ text) × (desk.terms.room ≡ 1048576) × (desk.terms.seats ≡ n)
+IsOpenedWith text n desk = (desk.terms.opening ≡ text) × (desk.terms.room ≡ Some 1048576) × (desk.terms.seats ≡ n)
 
 -- The book is a history of one thread from this text, of so many seats: made one after another from what the text opens, its calls get just their replies and
 -- lead to its router, and every configuration that was installed is lawful. It has of each seat just the calls that the seat made, in their order and with

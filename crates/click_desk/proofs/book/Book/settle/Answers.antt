@@ -41,7 +41,7 @@ returns-in-Err-clause-refused g c =
     let x : Drawing = c.index_mut.result.now in
     let is_x : c.drain.new.self ≡ x = (λ i. record { device = (c.drain.ensures.name i).device; ring = (c.drain.ensures.name i).ring; drawn = c.in-Err.ensures.err i }) in
     let same : slice_set is k c.drain.new.self ≡ is = ap (λ y. slice_set is k y) is_x ∙ set_again is k x (at_index is k x at.0 c.index_mut.ensures.value) in
-    let booklet : List Drawing → Booklet = λ l. record { opening = c.self.inside.opening; entries = c.self.inside.entries.items; router = c.self.inside.router; seats = c.self.inside.seats.items; taps = l; board = c.self.inside.published.board } in
+    let booklet : List Drawing → Booklet = λ l. record { opening = c.self.inside.opening; keeps = c.self.inside.entries.keeps; entries = c.self.inside.entries.items; router = c.self.inside.router; seats = c.self.inside.seats.items; taps = l; board = c.self.inside.published.board } in
     (c.drain.ensures.end, ap booklet same ∙ c.self.view_is)
 
 pub returns-in-Err-clause-unknown : goal.returns-in-Err-clause-unknown
@@ -72,5 +72,5 @@ returns-clause-settled g c =
     let k = c.in-Some.place in
     let at : IsPlace device is k = subst (λ (l : List Drawing). IsPlace device l k) c.as_slice.ensures.value c.in-Some.ensures.some in
     let gone : c.remove-settled.new.self.items ≡ without device is = c.remove-settled.ensures.items ∙ without_at device is k c.drain.new.self at c.self.invariant.1 in
-    let booklet : List Drawing → Booklet = λ l. record { opening = c.self.inside.opening; entries = c.self.inside.entries.items; router = c.self.inside.router; seats = c.self.inside.seats.items; taps = l; board = c.self.inside.published.board } in
+    let booklet : List Drawing → Booklet = λ l. record { opening = c.self.inside.opening; keeps = c.self.inside.entries.keeps; entries = c.self.inside.entries.items; router = c.self.inside.router; seats = c.self.inside.seats.items; taps = l; board = c.self.inside.published.board } in
     ap booklet gone ∙ ap (λ (b : Booklet). record b { taps = without device b.taps }) c.self.view_is

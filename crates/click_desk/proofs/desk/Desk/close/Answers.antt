@@ -1,7 +1,8 @@
-use Rattle.std.proofs.Common.{◌≡◌, ◌<◌, ◌≤◌, ℕ, List, [], map, slice_index_or, true≢false, length, ap, ◌∙◌, sym, subst, refl}
+use Rattle.std.proofs.Common.{◌≡◌, ◌<◌, ◌≤◌, ℕ, List, [], map, slice_index_or, true≢false, length, is_some, ap, ◌∙◌, sym, subst, refl}
 use Rattle.std.specs.List.{All}
 use Rattle.std.proofs.lemmas.List.{with_items_is}
 use Rattle.click_router.specs.State.{RouterState}
+use Rattle.click_desk.specs.Bounds.{IsWithin}
 use Rattle.click_desk.specs.declared.entry.Entry.{Entry}
 use Rattle.click_desk.specs.declared.terms.Terms.{Terms}
 use Rattle.click_desk.specs.History.{Legal, entries, installs}
@@ -63,9 +64,10 @@ returns-clause-ok g c =
       record {
         seats_are = with_items_is c.args.seats c.take_last-booked.new.seats (ap length seats ∙ sym c.args.seats.ok.0) ∙ seats;
         opening = opening ∙ ap (λ (y : Terms). y.opening) terms;
+        kept = c.into_parts-terms.ensures.kept ∙ ap (λ (y : Terms). is_some y.room) terms;
         replayed = legal;
         lawful = each_lawful r.0.opening r.1.items r.2 legal;
-        within = subst (λ (y : List Entry × Terms). length y.0 ≤ y.1.room) (λ i. (sym p.0 i, terms i)) t.within;
+        within = subst (λ (y : List Entry × Terms). IsWithin y.1.room (length y.0)) (λ i. (sym p.0 i, terms i)) t.within;
         entered = subst (λ (y : List Entry × List Sitting). All (IsEntered y.0) y.1) (λ i. (sym p.0 i, now i)) entered;
         numbered = each_seated c.args.self.terms.seats c.args.seats.items r.1.items once none;
         feeds = λ s. fed s ∙ ap (λ (y : Charter). y.feeds) charter;

@@ -1,8 +1,12 @@
-use Rattle.std.proofs.Common.{inl, ap, sym, ◌∙◌}
+use Rattle.std.proofs.Common.{inl, ap, sym, is_some, ◌∙◌}
 use Rattle.click_desk.specs.History.{installs}
+use Rattle.click_desk.specs.declared.charter.Charter.{Charter}
 use Rattle.click_desk.specs.declared.view.View.{View}
 use Rattle.click_desk.proofs.Calls.{may_give, sound, answers, refuses}
 use Rattle.click_desk.proofs.desk.Desk.record.Goals as goal
+
+pub enter-result-requires-clause-keeps : goal.enter-result-requires-clause-keeps
+enter-result-requires-clause-keeps g c = c.seat.invariant.4 ∙ ap (λ (t : Charter). is_some t.room) (sym c.take-booked.ensures.taken.1.0)
 
 pub give-requires-clause-rule : goal.give-requires-clause-rule
 give-requires-clause-rule g c =
@@ -17,7 +21,7 @@ invariant_of-seat g c =
     (record { terms = e.terms; legal = e.legal; ok = e.ok; err = e.err; full = e.full }) c.give.ensures.given in
     let terms = sym (ap (λ (v : View). v.terms) c.give.ensures.given) in
     let seen = sym (ap (λ (v : View). v.seen) c.give.ensures.given) in
-    (c.give.ensures.queue.1, s.0, s.1, c.notice.ensures ∙ (λ i. record { board = (terms i).origin; list = installs (terms i).opening (seen i) }))
+    (c.give.ensures.queue.1, s.0, s.1, c.notice.ensures ∙ (λ i. record { board = (terms i).origin; list = installs (terms i).opening (seen i) }), e.keeps ∙ (c.seat.invariant.4 ∙ ap (λ (t : Charter). is_some t.room) (sym (ap (λ (v : View). v.terms) c.give.ensures.given ∙ (e.terms ∙ c.take-booked.ensures.taken.1.0)))))
 
 pub returns-clause-ok : goal.returns-clause-ok
 returns-clause-ok g c =

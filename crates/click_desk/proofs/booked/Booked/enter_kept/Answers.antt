@@ -1,4 +1,4 @@
-use Rattle.std.proofs.Common.{◌≡◌, ◌++◌, ◌∷◌, [], true, List, map, ◌∙◌, ap, subst, sym}
+use Rattle.std.proofs.Common.{◌≡◌, ◌++◌, ◌∷◌, [], true, is_some, List, map, ◌∙◌, ap, subst, sym}
 use Rattle.click_rings.specs.Feeds.{name_of, are_apart}
 use Rattle.click_router.specs.One.{Answers}
 use Rattle.click_desk.specs.declared.booked.Ledger.{Ledger}
@@ -8,7 +8,7 @@ use Rattle.click_desk.specs.Polls.{IsPolled}
 use Rattle.click_desk.proofs.Histories.{legal_more}
 use Rattle.click_desk.proofs.Published.{published_more}
 use Rattle.click_desk.proofs.Polled.{polled_same}
-use Rattle.click_desk.proofs.booked.Booked.enter_any.Goals as goal
+use Rattle.click_desk.proofs.booked.Booked.enter_kept.Goals as goal
 
 pub returns-clause-legal : goal.returns-clause-legal
 returns-clause-legal g c =
@@ -18,7 +18,7 @@ returns-clause-legal g c =
     let answer : Answers router c.args.call c.answer.new.router c.in-Ok-answer.reply = c.in-Ok-answer.ensures.answer in
     let is : Answers router c.args.call c.answer.new.router c.in-Ok-recorded_twice.entered =
     subst (λ r. Answers router c.args.call c.answer.new.router r) (sym c.in-Ok-recorded_twice.ensures.kept.0) answer in
-    let items : c.push_reserved.new.self.items ≡ ledger.entries.items ++ e ∷ [] = c.push_reserved.ensures.items ∙ ap (λ l. l ++ e ∷ []) c.reserve.ensures.items in
+    let items : c.add.new.self.items ≡ ledger.entries.items ++ e ∷ [] = c.add.ensures.items ∙ ap (λ l. l ++ e ∷ []) c.reserve.ensures.same.1 in
     let held : Legal ledger.terms.opening ledger.entries.items router =
     subst (λ (l : Ledger). Legal l.terms.opening l.entries.items router) (sym c.deref_mut-ledger.ensures.value) c.self.invariant.0 in
     subst (λ (l : List Entry). Legal ledger.terms.opening l c.answer.new.router) (sym items) (legal_more ledger.terms.opening ledger.entries.items router e c.answer.new.router held is)
@@ -27,20 +27,21 @@ pub returns-clause-polled : goal.returns-clause-polled
 returns-clause-polled g c =
     let ledger : Ledger = c.deref_mut-ledger.result.now in
     let e : Entry = entry c.args.number c.args.call c.in-Ok-recorded_twice.entered in
-    let items : c.push_reserved.new.self.items ≡ ledger.entries.items ++ e ∷ [] = c.push_reserved.ensures.items ∙ ap (λ l. l ++ e ∷ []) c.reserve.ensures.items in
+    let items : c.add.new.self.items ≡ ledger.entries.items ++ e ∷ [] = c.add.ensures.items ∙ ap (λ l. l ++ e ∷ []) c.reserve.ensures.same.1 in
     let drawn : IsPolled ledger.entries.items ledger.taps.items =
     subst (λ (l : Ledger). IsPolled l.entries.items l.taps.items) (sym c.deref_mut-ledger.ensures.value) c.self.invariant.1 in
-    subst (λ (l : List Entry). IsPolled l ledger.taps.items) (sym items) (polled_same ledger.entries.items e ledger.taps.items c.requires drawn)
+    subst (λ (l : List Entry). IsPolled l ledger.taps.items) (sym items) (polled_same ledger.entries.items e ledger.taps.items c.requires.call drawn)
 
 pub invariant_of-self-2 : goal.invariant_of-self-2
 invariant_of-self-2 g c =
     let ledger : Ledger = c.deref_mut-ledger.result.now in
     let e : Entry = entry c.args.number c.args.call c.in-Ok-recorded_twice.entered in
-    let items : c.push_reserved.new.self.items ≡ ledger.entries.items ++ e ∷ [] = c.push_reserved.ensures.items ∙ ap (λ l. l ++ e ∷ []) c.reserve.ensures.items in
+    let items : c.add.new.self.items ≡ ledger.entries.items ++ e ∷ [] = c.add.ensures.items ∙ ap (λ l. l ++ e ∷ []) c.reserve.ensures.same.1 in
     let held : ledger.published ≡ record { board = ledger.terms.origin; list = installs ledger.terms.opening ledger.entries.items } = subst (λ (l : Ledger). l.published ≡ record { board = l.terms.origin; list = installs l.terms.opening l.entries.items }) (sym c.deref_mut-ledger.ensures.value) c.self.invariant.3 in
     let list = c.in-Ok-answer.ensures.list ∙ ap (λ r. ledger.published.list ++ installed c.args.call r) (sym c.in-Ok-recorded_twice.ensures.kept.0) in (
       returns-clause-legal g c,
       returns-clause-polled g c,
       subst (λ (l : Ledger). are_apart (map name_of l.taps.items) ≡ true) (sym c.deref_mut-ledger.ensures.value) c.self.invariant.2,
-      published_more ledger.terms.origin ledger.terms.opening ledger.entries.items c.push_reserved.new.self.items e ledger.published c.answer.new.published held items c.answer.ensures.board list,
+      published_more ledger.terms.origin ledger.terms.opening ledger.entries.items c.add.new.self.items e ledger.published c.answer.new.published held items c.answer.ensures.board list,
+      c.add.ensures.keeps ∙ (c.reserve.ensures.same.0 ∙ subst (λ (l : Ledger). l.entries.keeps ≡ is_some l.terms.room) (sym c.deref_mut-ledger.ensures.value) c.self.invariant.4),
     )

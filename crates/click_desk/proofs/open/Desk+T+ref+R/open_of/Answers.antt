@@ -9,7 +9,7 @@ use Rattle.click_desk.specs.declared.view.View.{View}
 use Rattle.click_desk.specs.Openings.{IsViewFault}
 use Rattle.click_desk.specs.Sittings.{DeskName, Sitting, seats_below}
 use Rattle.click_desk.proofs.Books.{all_belong, all_fed}
-use Rattle.click_desk.proofs.open.Desk+T+ref+R.open_with_views.Goals as goal
+use Rattle.click_desk.proofs.open.Desk+T+ref+R.open_of.Goals as goal
 
 pub returns-clause-seats : goal.returns-clause-seats
 returns-clause-seats g c =
