@@ -25,14 +25,18 @@ use Rattle.click_workers.specs.Seats.{SeatServes}
 use Rattle.click_workers.specs.declared.runs.RunFault.{RunFault}
 use Rattle.click_workers.specs.declared.runs.RunFault.TheVariants as fault
 
--- the desk was opened with this text and this many seats, and its history has room for 1,048,576 entries
+-- the desk was opened with this text and this many seats, and its history has this room: as many entries as may be kept, or no bound and none kept
+abbrev pub IsOpenedFor : Option ℕ → List ℕ → ℕ → DeskName → Type 0
+IsOpenedFor room text n desk = (desk.terms.opening ≡ text) × (desk.terms.room ≡ room) × (desk.terms.seats ≡ n)
+
+-- the same, with a history that is kept and has room for 1,048,576 entries
 abbrev pub IsOpenedWith : List ℕ → ℕ → DeskName → Type 0
-IsOpenedWith text n desk = (desk.terms.opening ≡ text) × (desk.terms.room ≡ Some 1048576) × (desk.terms.seats ≡ n)
+IsOpenedWith text n desk = IsOpenedFor (Some 1048576) text n desk
 
 -- The book is a history of one thread from this text, of so many seats: made one after another from what the text opens, its calls get just their replies and
 -- lead to its router, and every configuration that was installed is lawful. It has of each seat just the calls that the seat made, in their order and with
--- the replies that it got, each number is that of one seat, and each entry is of one of them. It has no feeds. Every seat's desk was opened with this text, the room of a run and so many seats.
-pub record Headline (text : List ℕ) (n : ℕ) (book : Booklet) : Type 0 where
+-- the replies that it got, each number is that of one seat, and each entry is of one of them. It has no feeds. Every seat's desk was opened with this text, this room and so many seats.
+pub record HeadlineFor (room : Option ℕ) (text : List ℕ) (n : ℕ) (book : Booklet) : Type 0 where
   pub opening : book.opening ≡ text
   pub replayed : Legal book.opening book.entries book.router
   pub lawful : EachLawful (installs book.opening book.entries)
@@ -40,7 +44,11 @@ pub record Headline (text : List ℕ) (n : ℕ) (book : Booklet) : Type 0 where
   pub once : IsEachOnce n book.seats
   pub numbered : All (λ e. count_by (λ s. s.number == e.seat) book.seats ≡ 1) book.entries
   pub no_feeds : book.taps ≡ []
-  pub terms : All (λ s. IsOpenedWith text n s.desk) book.seats
+  pub terms : All (λ s. IsOpenedFor room text n s.desk) book.seats
+
+-- the same of a run whose history is kept
+abbrev pub Headline : List ℕ → ℕ → Booklet → Type 0
+Headline text n book = HeadlineFor (Some 1048576) text n book
 
 -- of the seats behind those of the sessions the book has Rounds alone
 abbrev pub DriversRound : ℕ → Booklet → Type 0

@@ -52,6 +52,27 @@ Attended lets_in input output gives told door gate readonly s e =
 abbrev pub Drove : {G : Type 0} → (G → ℕ → ℕ → Bool → Type 0) → (G → ℕ → ℕ → Type 0) → G → ℕ → Sitting → Bool → Type 0
 Drove gives told gate rounds s all = Drives gives told gate (suc s.number) rounds s all
 
+-- So many sessions of one place, one after another over one seat, with the end of the last: each goes on where the one before it left the seat.
+abbrev pub InTurn : (Sitting → Sitting → SessionEnd → Type 0) → ℕ → Sitting → Sitting → SessionEnd → Type 0
+InTurn attends zero old new last = ⊥
+InTurn attends (suc zero) old new last = attends old new last
+InTurn attends (suc (suc n)) old new last = (between : Sitting) × (before : SessionEnd) × InTurn attends (suc n) old between before × attends between new last
+
+-- A place has the number and the seat of a session, and this many sessions, each of which comes in under the place's number.
+abbrev pub AttendedInTurn : {D Rd Wr G : Type 0} → (D → ℕ → Option (Rd × Wr) → Type 0) → (Rd → Input) → (Wr → Output) → (G → ℕ → ℕ → Bool → Type 0) → (G → ℕ → ℕ → Type 0)
+    → D → G → Bool → ℕ → Sitting → SessionEnd → Type 0
+AttendedInTurn lets_in input output gives told door gate readonly turns s e =
+    InTurn (Attends lets_in input output gives told door gate readonly (suc s.number)) turns (new_seat s.desk [] s.number) s e
+
+-- A driver that is to make so many Rounds, or, where it goes on as long as anybody may be served, as many as it came to.
+abbrev pub DrivesFor : {G : Type 0} → (G → ℕ → ℕ → Bool → Type 0) → (G → ℕ → ℕ → Type 0) → G → ℕ → Option ℕ → Sitting → Bool → Type 0
+DrivesFor gives told gate who (Some rounds) s all = Drives gives told gate who rounds s all
+DrivesFor gives told gate who None s all = (rounds : ℕ) × Drives gives told gate who rounds s all
+
+-- by the number of its seat
+abbrev pub DroveFor : {G : Type 0} → (G → ℕ → ℕ → Bool → Type 0) → (G → ℕ → ℕ → Type 0) → G → Option ℕ → Sitting → Bool → Type 0
+DroveFor gives told gate rounds s all = DrivesFor gives told gate (suc s.number) rounds s all
+
 abbrev pub SideBySide : {X Y : Type 0} → (X → Y → Type 0) → List X → List Y → Type 0
 SideBySide R [] [] = Unit {0}
 SideBySide R (x ∷ xs) (y ∷ ys) = R x y × SideBySide R xs ys

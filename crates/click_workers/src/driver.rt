@@ -1,15 +1,30 @@
 //! A driver at a desk.
 
-ghost use Rattle.std.specs.Prelude.{◌≡◌, []};
+ghost use Rattle.std.specs.Prelude.{◌≡◌, ℕ, [], is_some};
 ghost use Rattle.click_workers.specs.Seats.{SameSeat};
-ghost use Rattle.click_workers.specs.Work.{Drives, TakesTurn};
+ghost use Rattle.click_workers.specs.Work.{Drives, DrivesFor, TakesTurn};
 
 use crate::gate::Gate;
+use crate::pause::Pause;
+use crate::places::Places;
 use click_desk::{Desk, Seat};
-use click_router::{Call, Handlers};
+use click_router::{Call, Handlers, Kept, Recorded, Reply};
 use std::sync::Wait;
 
-/// Makes one Round, where the gate gives the turn and the desk does not refuse it. Says whether it was made.
+/// How long a driver that finds no work sleeps at most, in microseconds.
+const LONGEST: u64 = 1_000;
+
+/// How many packets the tasks of a Round gave or pulled, by its reply.
+fn count_of(reply: &Recorded) -> u64
+    ensures { (count : ℕ) → reply.now ≡ Reply.Worked count → result ≡ count }
+{
+    match reply.kept() {
+        Kept::Worked(count) => *count,
+        _ => 0,
+    }
+}
+
+/// Makes one Round, where the gate gives the turn and the desk does not refuse it. Says how many packets its tasks gave or pulled, or that it was not made.
 fn take_turn<T: Handlers, G: Gate, R: Wait>(
     rt: &R,
     desk: &Desk<T, &R>,
@@ -17,25 +32,25 @@ fn take_turn<T: Handlers, G: Gate, R: Wait>(
     gate: &G,
     who: usize,
     nth: u64,
-) -> bool
+) -> Option<u64>
     requires { seat.old.desk ≡ desk.now }
     ensures same { SameSeat seat.old seat.new }
-    ensures turn { TakesTurn G.gives G.told gate.now who nth seat.old seat.new result }
+    ensures turn { TakesTurn G.gives G.told gate.now who nth seat.old seat.new (is_some result) }
 {
     if !gate.before(who, nth) {
-        return false;
+        return None;
     }
     match desk.record(rt, seat, Call::Round) {
-        Ok(_) => {
+        Ok(reply) => {
             gate.after(who, nth);
-            true
+            Some(count_of(&reply))
         }
-        Err(_) => false,
+        Err(_) => None,
     }
 }
 
 /// Makes this many Rounds, or stops at a closed gate or at the first fault. Says whether it made them all.
-pub(crate) fn drive<T: Handlers, G: Gate, R: Wait>(
+fn drive<T: Handlers, G: Gate, R: Wait>(
     rt: &R,
     desk: &Desk<T, &R>,
     mut seat: Seat<T>,
@@ -49,9 +64,60 @@ pub(crate) fn drive<T: Handlers, G: Gate, R: Wait>(
     ensures drives { Drives G.gives G.told gate.now who rounds result.1 result.0 }
 {
     for nth in 0..rounds {
-        if !take_turn(rt, desk, &mut seat, gate, who, nth + 1) {
-            return (false, seat);
+        match take_turn(rt, desk, &mut seat, gate, who, nth + 1) {
+            None => return (false, seat),
+            Some(_) => {}
         }
     }
     (true, seat)
+}
+
+/// Makes Rounds until every place has served its sessions, or stops at a closed gate or at the first fault. It sleeps after a Round without work, longer from one to
+/// the next. Says whether nothing stopped it.
+fn drive_on<T: Handlers, G: Gate, R: Wait>(
+    rt: &R,
+    desk: &Desk<T, &R>,
+    mut seat: Seat<T>,
+    gate: &G,
+    who: usize,
+    places: &Places,
+) -> (bool, Seat<T>)
+    requires desk { seat.desk ≡ desk.now }
+    requires fresh { seat.calls ≡ [] }
+    ensures same { SameSeat seat result.1 }
+    ensures drives { (rounds : ℕ) × Drives G.gives G.told gate.now who rounds result.1 result.0 }
+{
+    let mut pause = Pause::up_to(LONGEST);
+    for nth in 0..u64::MAX {
+        if places.have_ended() {
+            return (true, seat);
+        }
+        match take_turn(rt, desk, &mut seat, gate, who, nth + 1) {
+            None => return (false, seat),
+            Some(0) => pause.sleep(rt),
+            Some(_) => pause.begin_anew(),
+        }
+    }
+    (true, seat)
+}
+
+/// Makes this many Rounds, or goes on until every place has served its sessions.
+pub(crate) fn drive_for<T: Handlers, G: Gate, R: Wait>(
+    rt: &R,
+    desk: &Desk<T, &R>,
+    seat: Seat<T>,
+    gate: &G,
+    who: usize,
+    rounds: Option<u64>,
+    places: &Places,
+) -> (bool, Seat<T>)
+    requires desk { seat.desk ≡ desk.now }
+    requires fresh { seat.calls ≡ [] }
+    ensures same { SameSeat seat result.1 }
+    ensures drives { DrivesFor G.gives G.told gate.now who rounds result.1 result.0 }
+{
+    match rounds {
+        Some(rounds) => drive(rt, desk, seat, gate, who, rounds),
+        None => drive_on(rt, desk, seat, gate, who, places),
+    }
 }

@@ -1,26 +1,29 @@
 //! Whole runs.
 
-ghost use Rattle.std.specs.Prelude.{◌≡◌, ◌↔◌, ◌<◌, ◌≤◌, ◌+◌, ℕ, List, [], IfOk, IfErr, IfSome, OnErr, length, option_map, vec_len, vec_capacity};
+ghost use Rattle.std.specs.Prelude.{◌≡◌, ◌↔◌, ◌<◌, ◌≤◌, ◌+◌, ◌∷◌, ℕ, List, [], Option, None, IfOk, IfErr, IfSome, OnErr, length, option_map, vec_len, vec_capacity};
 ghost use Rattle.boxcar.specs.Table.{Shelves};
 ghost use Rattle.std.specs.List.{All};
+ghost use Rattle.click_desk.specs.Openings.{IsViewFault};
 ghost use Rattle.click_desk.specs.Sittings.{seats_below};
-ghost use Rattle.click_workers.specs.Work.{Attended, Drove, Ready, Worked};
-ghost use Rattle.click_workers.specs.Runs.{Headline, IsOpenedWith, DriversRound, RanOver, IsChecked, IsTrueFault, IsNoClose, IsViewAsked, IsLate, views_for};
+ghost use Rattle.click_workers.specs.Work.{Attended, AttendedInTurn, Drove, DroveFor, Ready, Worked};
+ghost use Rattle.click_workers.specs.Runs.{Headline, HeadlineFor, IsOpenedFor, IsOpenedWith, DriversRound, RanOver, IsChecked, IsTrueFault, IsNoClose, IsViewAsked, IsLate, views_for};
 
 use crate::checking::{Asked, close_and_check};
 use crate::door::Door;
+use crate::extent::Extent;
 use crate::gate::Gate;
+use crate::places::Places;
 use crate::session::{SessionEnd, serve_alone};
 use crate::work::{Work, work_all};
 use click_control::{Ended, ServeFault, Sink, Source};
-use click_desk::{Book, Desk, OpenFault, Seat, View};
+use click_desk::{Book, Desk, OpenFault, OpenRefused, Seat, View};
 use click_router::{Check, ConfigFault, Handlers};
 use std::alloc::Global;
 use std::sync::Wait;
 use std::thread::Threads;
 use thiserror::Error;
 
-/// How many entries a history may have.
+/// How many entries the history of a run that ends may have.
 const ROOM: usize = 1_048_576;
 
 /// Why there is no book.
@@ -106,17 +109,42 @@ fn views_asked(check: Option<&[u8]>) -> usize
     }
 }
 
+/// Opens a desk without inlets, for a history of at most `room` entries that is kept, or for one without a bound that is not.
+fn open_for<'a, T: Drop, R: Wait>(
+    rt: &'a R,
+    alloc: Global,
+    table: T,
+    text: &[u8],
+    room: Option<usize>,
+    seats: usize,
+    views: usize,
+) -> Result<(Desk<T, &'a R>, Vec<Seat<T>>, Vec<View>), OpenRefused<T>>
+    ensures desk { IfOk result (λ r. IsOpenedFor room text.now seats r.0) }
+    ensures seats { IfOk result (λ r. (r.1.items ≡ seats_below r.0 [] seats) × All (λ s. s.desk ≡ r.0) r.1.items) }
+    ensures views { IfOk result (λ r. (length r.2.items ≡ views) × All (λ v. v ≡ record { board = r.0.terms.origin; list = text.now ∷ [] }) r.2.items) }
+    ensures fault { IfErr result (λ r. IsViewFault seats [] views text.now r.fault) }
+{
+    let inlets = Vec::new(alloc);
+    match room {
+        Some(room) => {
+            Desk::open_with_views(rt, alloc, table, text, room, seats, inlets, views)
+        }
+        None => Desk::open_live(rt, alloc, table, text, seats, inlets, views),
+    }
+}
+
 /// Opens a desk with new seats and no inlets, and with a view where one is to check.
 fn open_desk<'a, 'b, T: Drop, R: Wait>(
     rt: &'a R,
     alloc: Global,
     table: T,
     text: &[u8],
+    room: Option<usize>,
     seats: usize,
     check: Option<&'b [u8]>,
 ) -> Result<Opened<'a, 'b, T, R>, RunFault>
     requires { (0 < seats) × (seats ≤ 256) }
-    ensures desk { IfOk result (λ o. IsOpenedWith text.now seats o.desk) }
+    ensures desk { IfOk result (λ o. IsOpenedFor room text.now seats o.desk) }
     ensures many { IfOk result (λ o. o.desk.terms.seats ≡ seats) }
     ensures seats { IfOk result (λ o. (o.seats.items ≡ seats_below o.desk [] seats) × All (λ s. s.desk ≡ o.desk) o.seats.items) }
     ensures name { IfOk result (λ o. option_map (λ a. a.name.now) o.asked ≡ option_map (λ n. n.now) check.entry) }
@@ -126,8 +154,7 @@ fn open_desk<'a, 'b, T: Drop, R: Wait>(
     ensures view_asked { IfErr result (IsViewAsked (option_map (λ n. n.now) check.entry)) }
 {
     let views = views_asked(check);
-    let inlets = Vec::new(alloc);
-    match Desk::open_with_views(rt, alloc, table, text, ROOM, seats, inlets, views) {
+    match open_for(rt, alloc, table, text, room, seats, views) {
         Ok((desk, seats, views)) => Ok(Opened {
             desk,
             seats,
@@ -150,12 +177,13 @@ fn begin_work<'a, 'b, T: Drop, R: Wait>(
     alloc: Global,
     table: T,
     text: &[u8],
+    room: Option<usize>,
     sessions: usize,
     workers: usize,
     check: Option<&'b [u8]>,
 ) -> Result<Begun<'a, 'b, T, R>, RunFault>
     requires { (0 < sessions + workers) × (sessions + workers ≤ 256) }
-    ensures desk { IfOk result (λ b. IsOpenedWith text.now (sessions + workers) b.desk) }
+    ensures desk { IfOk result (λ b. IsOpenedFor room text.now (sessions + workers) b.desk) }
     ensures many { IfOk result (λ b. b.desk.terms.seats ≡ vec_len b.work.seats) }
     ensures count { IfOk result (λ b. sessions + workers ≡ vec_len b.work.seats) }
     ensures ready { IfOk result (λ b. Ready b.desk sessions (vec_len b.work.seats) b.work.seats.items b.work.ended.items b.work.drivers.items (vec_capacity b.work.ended) (vec_capacity b.work.drivers)) }
@@ -172,7 +200,7 @@ fn begin_work<'a, 'b, T: Drop, R: Wait>(
         return Err(RunFault::NoMemory);
     };
     let many = sessions + workers;
-    let Opened { desk, seats, asked } = match open_desk(rt, alloc, table, text, many, check) {
+    let Opened { desk, seats, asked } = match open_desk(rt, alloc, table, text, room, many, check) {
         Ok(opened) => opened,
         Err(fault) => return Err(fault),
     };
@@ -224,25 +252,28 @@ fn work_and_close<T: Handlers + Send + Drop, D: Door, G: Gate, R: Threads + Wait
     door: &D,
     gate: &G,
     sessions: usize,
-    rounds: u64,
+    extent: Extent,
     work: Work<T>,
     asked: Option<Asked>,
 ) -> AllRan<T>
     requires many { desk.terms.seats ≡ vec_len work.seats }
     requires some { 0 < vec_len work.seats }
+    requires turns { 0 < extent.turns }
     requires ready { Ready desk sessions (vec_len work.seats) work.seats.items work.ended.items work.drivers.items (vec_capacity work.ended) (vec_capacity work.drivers) }
     requires view { IfSome asked (λ a. a.view.board ≡ desk.terms.origin) }
-    ensures headline { (text : List ℕ) (n : ℕ) → n ≡ vec_len work.seats → IsOpenedWith text n desk.entry → Headline text n result.book }
-    ensures worked { (n : ℕ) → n ≡ vec_len work.seats → Worked (Attended D.lets_in D.Reader.input D.Writer.output G.gives G.told door.now gate.now readonly) (Drove G.gives G.told gate.now rounds)
+    ensures headline { (room : Option ℕ) (text : List ℕ) (n : ℕ) → n ≡ vec_len work.seats → IsOpenedFor room text n desk.entry → HeadlineFor room text n result.book }
+    ensures worked { (n : ℕ) → n ≡ vec_len work.seats
+        → Worked (AttendedInTurn D.lets_in D.Reader.input D.Writer.output G.gives G.told door.now gate.now readonly extent.turns) (DroveFor G.gives G.told gate.now extent.rounds)
         sessions n result.book.seats result.ended.items result.drivers.items }
     ensures checked { IsChecked (option_map (λ a. a.name.now) asked.entry) result.book result.checked }
 {
+    let places = Places::new(sessions);
     let Work {
         seats,
         ended,
         drivers,
     } = work_all(
-        rt, alloc, &desk, readonly, door, gate, sessions, rounds, work,
+        rt, alloc, &desk, readonly, door, gate, sessions, extent, &places, work,
     );
     let (book, checked) = close_and_check(rt, desk, seats, asked);
     AllRan {
@@ -275,11 +306,54 @@ pub fn run<T: Handlers + Drop, S: Source, W: Sink, R: Wait>(
     ensures never_close { IfErr result IsNoClose }
     ensures view_asked { IfErr result (IsViewAsked (option_map (λ n. n.now) check.entry)) }
 {
-    let Opened { desk, seats, asked } = match open_desk(rt, alloc, table, text, 1, check) {
+    let Opened { desk, seats, asked } = match open_desk(rt, alloc, table, text, Some(ROOM), 1, check) {
         Ok(opened) => opened,
         Err(fault) => return Err(fault),
     };
     Ok(serve_and_close(rt, alloc, desk, seats, reader, writer, readonly, asked))
+}
+
+/// Runs sessions and drivers over a desk with new seats as far as the extent goes, and closes it.
+fn run_for<T: Handlers + Send + Drop, D: Door, G: Gate, R: Threads + Wait + Sync>(
+    rt: &R,
+    alloc: Global,
+    table: T,
+    text: &[u8],
+    readonly: bool,
+    door: &D,
+    sessions: usize,
+    workers: usize,
+    extent: Extent,
+    gate: &G,
+    check: Option<&[u8]>,
+) -> Result<AllRan<T>, RunFault>
+    requires many { (0 < sessions + workers) × (sessions + workers ≤ 256) }
+    requires turns { 0 < extent.turns }
+    ensures headline { IfOk result (λ ran. HeadlineFor extent.room text.now (sessions + workers) ran.book) }
+    ensures worked { IfOk result (λ ran. Worked (AttendedInTurn D.lets_in D.Reader.input D.Writer.output G.gives G.told door.now gate.now readonly extent.turns)
+        (DroveFor G.gives G.told gate.now extent.rounds) sessions (sessions + workers) ran.book.seats ran.ended.items ran.drivers.items) }
+    ensures rounds { IfOk result (λ ran. DriversRound sessions ran.book) }
+    ensures checked { IfOk result (λ ran. IsChecked (option_map (λ n. n.now) check.entry) ran.book ran.checked) }
+    ensures config { IfErr result (IsTrueFault text.now) }
+    ensures never_close { IfErr result IsNoClose }
+    ensures view_asked { IfErr result (IsViewAsked (option_map (λ n. n.now) check.entry)) }
+{
+    let Begun { desk, work, asked } = match begin_work(
+        rt,
+        alloc,
+        table,
+        text,
+        extent.room,
+        sessions,
+        workers,
+        check,
+    ) {
+        Ok(begun) => begun,
+        Err(fault) => return Err(fault),
+    };
+    Ok(work_and_close(
+        rt, alloc, desk, readonly, door, gate, sessions, extent, work, asked,
+    ))
 }
 
 /// Runs sessions and drivers over a desk, each in a thread of its own where one can be made, and closes the desk. Where a name is given, a view then learns what
@@ -309,13 +383,53 @@ pub fn run_workers<T: Handlers + Send + Drop, D: Door, G: Gate, R: Threads + Wai
     ensures never_close { IfErr result IsNoClose }
     ensures view_asked { IfErr result (IsViewAsked (option_map (λ n. n.now) check.entry)) }
 {
-    let Begun { desk, work, asked } = match begin_work(
-        rt, alloc, table, text, sessions, workers, check,
-    ) {
-        Ok(begun) => begun,
-        Err(fault) => return Err(fault),
+    let extent = Extent {
+        room: Some(ROOM),
+        turns: 1,
+        rounds: Some(rounds),
     };
-    Ok(work_and_close(
-        rt, alloc, desk, readonly, door, gate, sessions, rounds, work, asked,
-    ))
+    run_for(
+        rt, alloc, table, text, readonly, door, sessions, workers, extent, gate, check,
+    )
+}
+
+/// Runs a router that stays: over a desk that keeps no book, so that it takes no more memory however long it runs. There are so many places for sessions, each of
+/// which serves `turns` of them, one after another over one seat, and drivers beside them, which make Rounds until every place has served its sessions; each place
+/// and each driver has a thread of its own where one can be made. Then the desk is closed. With 2^64 - 1 turns none of this ends before the process does.
+///
+/// Its promises are those of `run_workers`, of a history that nobody keeps: there is one, of just these calls with just these replies. It is never full.
+///
+/// Where no thread can be made, the first place serves all its sessions before the next begins, and the drivers make no Round.
+pub fn run_live<T: Handlers + Send + Drop, D: Door, G: Gate, R: Threads + Wait + Sync>(
+    rt: &R,
+    alloc: Global,
+    table: T,
+    text: &[u8],
+    readonly: bool,
+    door: &D,
+    places: usize,
+    workers: usize,
+    turns: u64,
+    gate: &G,
+    check: Option<&[u8]>,
+) -> Result<AllRan<T>, RunFault>
+    requires many { (0 < places + workers) × (places + workers ≤ 256) }
+    requires turns { 0 < turns }
+    ensures headline { IfOk result (λ ran. HeadlineFor None text.now (places + workers) ran.book) }
+    ensures worked { IfOk result (λ ran. Worked (AttendedInTurn D.lets_in D.Reader.input D.Writer.output G.gives G.told door.now gate.now readonly turns)
+        (DroveFor G.gives G.told gate.now None) places (places + workers) ran.book.seats ran.ended.items ran.drivers.items) }
+    ensures rounds { IfOk result (λ ran. DriversRound places ran.book) }
+    ensures checked { IfOk result (λ ran. IsChecked (option_map (λ n. n.now) check.entry) ran.book ran.checked) }
+    ensures config { IfErr result (IsTrueFault text.now) }
+    ensures never_close { IfErr result IsNoClose }
+    ensures view_asked { IfErr result (IsViewAsked (option_map (λ n. n.now) check.entry)) }
+{
+    let extent = Extent {
+        room: None,
+        turns,
+        rounds: None,
+    };
+    run_for(
+        rt, alloc, table, text, readonly, door, places, workers, extent, gate, check,
+    )
 }

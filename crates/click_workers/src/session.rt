@@ -1,12 +1,14 @@
 //! A session over a desk and a seat.
 
-ghost use Rattle.std.specs.Prelude.{◌≡◌};
+ghost use Rattle.std.specs.Prelude.{◌≡◌, ◌<◌};
 ghost use Rattle.click_control.specs.Serving.{WentThrough, NoneRefused, most_reads};
 ghost use Rattle.click_workers.specs.Seats.{SameSeat, SeatServes};
-ghost use Rattle.click_workers.specs.Work.{Attends};
+ghost use Rattle.click_workers.specs.Work.{Attends, InTurn};
 
 use crate::door::Door;
 use crate::gate::{AtGate, Gate};
+use crate::pause::Pause;
+use crate::places::Places;
 use crate::seated::Seated;
 use click_control::{Ended, ServeFault, Sink, Source, Turns, serve, serve_turns};
 use click_desk::{Desk, Seat};
@@ -66,7 +68,7 @@ pub enum SessionEnd {
 const MOST_READS: u32 = 4_294_967_295;
 
 /// Lets a session in and serves it over the seat.
-pub(crate) fn attend<T: Handlers, D: Door, G: Gate, R: Wait>(
+fn attend<T: Handlers, D: Door, G: Gate, R: Wait>(
     rt: &R,
     alloc: Global,
     desk: &Desk<T, &R>,
@@ -96,4 +98,40 @@ pub(crate) fn attend<T: Handlers, D: Door, G: Gate, R: Wait>(
         MOST_READS,
     );
     (SessionEnd::Served(ended), seat)
+}
+
+/// How long a place that nobody came in at sleeps at most, in microseconds.
+const LONGEST: u64 = 100_000;
+
+/// Lets this many sessions in, one after another, and serves each over the seat. Where one did not come in it sleeps before the next. Says how the last one ended.
+pub(crate) fn attend_in_turn<T: Handlers, D: Door, G: Gate, R: Wait>(
+    rt: &R,
+    alloc: Global,
+    desk: &Desk<T, &R>,
+    seat: Seat<T>,
+    readonly: bool,
+    door: &D,
+    gate: &G,
+    who: usize,
+    turns: u64,
+    places: &Places,
+) -> (SessionEnd, Seat<T>)
+    requires desk { seat.desk ≡ desk.now }
+    requires some { 0 < turns }
+    ensures same { SameSeat seat result.1 }
+    ensures attends { InTurn (Attends D.lets_in D.Reader.input D.Writer.output G.gives G.told door.now gate.now readonly who) turns seat result.1 result.0 }
+{
+    let mut pause = Pause::up_to(LONGEST);
+    let (mut last, mut seat) = attend(rt, alloc, desk, seat, readonly, door, gate, who);
+    for nth in 1..turns {
+        match last {
+            SessionEnd::NoEntry => pause.sleep(rt),
+            SessionEnd::Served(_) => pause.begin_anew(),
+        }
+        let (end, left) = attend(rt, alloc, desk, seat, readonly, door, gate, who);
+        last = end;
+        seat = left;
+    }
+    places.leave();
+    (last, seat)
 }

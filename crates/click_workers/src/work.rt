@@ -1,16 +1,18 @@
 //! Sessions and drivers, each in a thread of its own.
 
-ghost use Rattle.std.specs.Prelude.{◌≡◌, ◌≤◌, ◌+◌, [], IfSome, IfNone, vec_len, vec_capacity};
+ghost use Rattle.std.specs.Prelude.{◌≡◌, ◌≤◌, ◌<◌, ◌+◌, [], IfSome, IfNone, vec_len, vec_capacity};
 ghost use Rattle.std.specs.List.{All};
 ghost use Rattle.std.specs.Thread.{IsSend, IsSync};
 ghost use Rattle.click_desk.specs.Sittings.{new_seat};
 ghost use Rattle.click_workers.specs.Seats.{SameSeat, IsOf};
-ghost use Rattle.click_workers.specs.Work.{Attends, Attended, Drives, Drove, Ready, Worked};
+ghost use Rattle.click_workers.specs.Work.{Attends, AttendedInTurn, DrivesFor, DroveFor, InTurn, Ready, Worked};
 
 use crate::door::Door;
-use crate::driver::drive;
+use crate::driver::drive_for;
+use crate::extent::Extent;
 use crate::gate::Gate;
-use crate::session::{SessionEnd, attend};
+use crate::places::Places;
+use crate::session::{SessionEnd, attend_in_turn};
 use click_desk::{Desk, Seat};
 use click_router::Handlers;
 use std::alloc::Global;
@@ -61,12 +63,14 @@ pub(crate) fn work_all<T: Handlers + Send + Drop, D: Door, G: Gate, R: Threads +
     door: &D,
     gate: &G,
     sessions: usize,
-    rounds: u64,
+    extent: Extent,
+    places: &Places,
     work: Work<T>,
 ) -> Work<T>
-    requires { Ready desk.now sessions (vec_len work.seats) work.seats.items work.ended.items work.drivers.items (vec_capacity work.ended) (vec_capacity work.drivers) }
+    requires ready { Ready desk.now sessions (vec_len work.seats) work.seats.items work.ended.items work.drivers.items (vec_capacity work.ended) (vec_capacity work.drivers) }
+    requires some { 0 < extent.turns }
     ensures desk { All (IsOf desk.now) result.seats.items }
-    ensures worked { Worked (Attended D.lets_in D.Reader.input D.Writer.output G.gives G.told door.now gate.now readonly) (Drove G.gives G.told gate.now rounds)
+    ensures worked { Worked (AttendedInTurn D.lets_in D.Reader.input D.Writer.output G.gives G.told door.now gate.now readonly extent.turns) (DroveFor G.gives G.told gate.now extent.rounds)
         sessions (vec_len work.seats) result.seats.items result.ended.items result.drivers.items }
     ensures room { (vec_capacity work.seats ≤ vec_capacity result.seats) × (vec_capacity work.ended ≤ vec_capacity result.ended) × (vec_capacity work.drivers ≤ vec_capacity result.drivers) }
 {
@@ -80,17 +84,19 @@ pub(crate) fn work_all<T: Handlers + Send + Drop, D: Door, G: Gate, R: Threads +
             rt,
             move || -> (bool, Seat<T>)
                 requires { IsSync R.row × IsSync G.row × (seat.desk ≡ desk.now) × (seat.calls ≡ []) }
-                ensures { SameSeat seat result.1 × Drives G.gives G.told gate.entry.now who rounds result.1 result.0 }
-            { drive(rt, desk, seat, gate, who, rounds) },
+                ensures { SameSeat seat result.1 × DrivesFor G.gives G.told gate.entry.now who extent.rounds result.1 result.0 }
+            {
+                drive_for(rt, desk, seat, gate, who, extent.rounds, places)
+            },
             move || -> Work<T>
-                requires { IsSync R.row × IsSync D.row × IsSync G.row × IsSend T.row × Ready desk.now sessions (vec_len rest.seats) rest.seats.items rest.ended.items rest.drivers.items (vec_capacity rest.ended) (vec_capacity rest.drivers) }
+                requires { IsSync R.row × IsSync D.row × IsSync G.row × IsSend T.row × Ready desk.now sessions (vec_len rest.seats) rest.seats.items rest.ended.items rest.drivers.items (vec_capacity rest.ended) (vec_capacity rest.drivers) × (0 < extent.turns) }
                 ensures { All (IsOf desk.entry.now) result.seats.items
-                    × Worked (Attended D.lets_in D.Reader.input D.Writer.output G.gives G.told door.entry.now gate.entry.now readonly) (Drove G.gives G.told gate.entry.now rounds)
+                    × Worked (AttendedInTurn D.lets_in D.Reader.input D.Writer.output G.gives G.told door.entry.now gate.entry.now readonly extent.turns) (DroveFor G.gives G.told gate.entry.now extent.rounds)
                     sessions (vec_len rest.seats) result.seats.items result.ended.items result.drivers.items
                     × (vec_capacity rest.seats ≤ vec_capacity result.seats) × (vec_capacity rest.ended ≤ vec_capacity result.ended) × (vec_capacity rest.drivers ≤ vec_capacity result.drivers) }
             {
                 work_all(
-                    rt, alloc, desk, readonly, door, gate, sessions, rounds, rest,
+                    rt, alloc, desk, readonly, door, gate, sessions, extent, places, rest,
                 )
             },
         );
@@ -101,18 +107,22 @@ pub(crate) fn work_all<T: Handlers + Send + Drop, D: Door, G: Gate, R: Threads +
         let ((end, seat), mut done) = thread::join(
             rt,
             move || -> (SessionEnd, Seat<T>)
-                requires { IsSync R.row × IsSync D.row × IsSync G.row × (seat.desk ≡ desk.now) }
-                ensures { SameSeat seat result.1 × Attends D.lets_in D.Reader.input D.Writer.output G.gives G.told door.entry.now gate.entry.now readonly who seat result.1 result.0 }
-            { attend(rt, alloc, desk, seat, readonly, door, gate, who) },
+                requires { IsSync R.row × IsSync D.row × IsSync G.row × (seat.desk ≡ desk.now) × (0 < extent.turns) }
+                ensures { SameSeat seat result.1 × InTurn (Attends D.lets_in D.Reader.input D.Writer.output G.gives G.told door.entry.now gate.entry.now readonly who) extent.turns seat result.1 result.0 }
+            {
+                attend_in_turn(
+                    rt, alloc, desk, seat, readonly, door, gate, who, extent.turns, places,
+                )
+            },
             move || -> Work<T>
-                requires { IsSync R.row × IsSync D.row × IsSync G.row × IsSend T.row × Ready desk.now sessions (vec_len rest.seats) rest.seats.items rest.ended.items rest.drivers.items (vec_capacity rest.ended) (vec_capacity rest.drivers) }
+                requires { IsSync R.row × IsSync D.row × IsSync G.row × IsSend T.row × Ready desk.now sessions (vec_len rest.seats) rest.seats.items rest.ended.items rest.drivers.items (vec_capacity rest.ended) (vec_capacity rest.drivers) × (0 < extent.turns) }
                 ensures { All (IsOf desk.entry.now) result.seats.items
-                    × Worked (Attended D.lets_in D.Reader.input D.Writer.output G.gives G.told door.entry.now gate.entry.now readonly) (Drove G.gives G.told gate.entry.now rounds)
+                    × Worked (AttendedInTurn D.lets_in D.Reader.input D.Writer.output G.gives G.told door.entry.now gate.entry.now readonly extent.turns) (DroveFor G.gives G.told gate.entry.now extent.rounds)
                     sessions (vec_len rest.seats) result.seats.items result.ended.items result.drivers.items
                     × (vec_capacity rest.seats ≤ vec_capacity result.seats) × (vec_capacity rest.ended ≤ vec_capacity result.ended) × (vec_capacity rest.drivers ≤ vec_capacity result.drivers) }
             {
                 work_all(
-                    rt, alloc, desk, readonly, door, gate, sessions, rounds, rest,
+                    rt, alloc, desk, readonly, door, gate, sessions, extent, places, rest,
                 )
             },
         );
