@@ -275,6 +275,18 @@ def files(row):
     return f"{len(names_in(folder, '.click'))} examples answered"
 
 
+def books(row):
+    """Over the text of NAME.click the calls of NAME.book are made again, and it is told what NAME.out says; where there is such, with a status."""
+    folder = row.pages[0]
+    for example in names_in(folder, ".click"):
+        part = lambda ending: bytes_of(f"{folder}/{example}{ending}", b"")
+        came = ran([program("click_calls"), "-e", part(".click").rstrip(b"\n"), "--replay"], part(".book"))
+        answered(came, f"book {example}", out=part(".out"), status=int(part(".status") or 0))
+    for stray in set(names_in(folder, ".book", ".out", ".status")) - set(names_in(folder, ".click")):
+        fail(f"what stands in {folder} for {stray} stands beside no {stray}.click")
+    return f"{len(names_in(folder, '.click'))} books made again"
+
+
 def refused(row):
     """Each text is refused with the fault before it, alone; and so are texts that are too deep or too large."""
     prog = program("click_prog")
@@ -470,6 +482,7 @@ TABLE = (
     Row(["examples"], ["click_prog"], files),
     Row(["examples/counter.session"], ["click_prog"], limits),
     Row(["examples/calls"], ["click_calls"], files),
+    Row(["examples/books"], ["click_calls"], books),
     Row(["examples/calls/wrong_lines.txt"], ["click_calls"], wrong_lines),
     # A program that is run to its end before anything is written answers too late, which is seen last of all.
     Row(["examples/calls/counter.calls"], ["click_calls"], call_limits),
