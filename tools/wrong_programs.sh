@@ -127,7 +127,12 @@ wrong_kind limits 'a line that is never too long' 'sed -i "s/^500 Line too long/
 wrong_kind faults 'a fault without its place' 'sed -i "s/ \(at\|in\) .*//" "$err"'
 wrong_kind readings 'a fault without its place' 'sed -i "s/ \(at\|in\) .*//" "$err"'
 
-# A book, made again by a wrong click_calls.
+# A book, written by a wrong click_prog, and made again by a wrong click_calls.
+wrong_kind books 'no book' ': > "$err"'
+wrong_kind books 'a book without its first entry' 'sed -i 1d "$err"'
+wrong_kind books 'a book with an entry twice' 'sed -i 1p "$err"'
+wrong_kind books 'a book in another order' 'tac "$err" > "$out.turned"; mv "$out.turned" "$err"'
+wrong_kind books 'a book with other seats' 'sed -i "s/^0/1/" "$err"'
 wrong_replay() {
     wrapped "$work/wrong_calls" "$calls" "$2"
     CALLS=$work/wrong_calls is_refused "a click_calls with $1" tools/examples.py books
@@ -446,7 +451,8 @@ wrong_example files examples/mixed.status 's/1/0/'
 wrong_example files examples/readonly.options d
 wrong_example files examples/calls/counter.out 1d '$p'
 wrong_example files examples/calls/counter.calls '$d'
-wrong_example books examples/books/session.book 1d '$p' '2s/done$/nodevice/' '6s/\\0a/\\0A/' '$a junk'
+wrong_example books examples/books/session.book 1d '$p' '2s/done$/nodevice/' 's/^0/1/' '6s/\\0a/\\0A/' '$a junk'
+wrong_example books examples/books/session.session 1d '/^WRITE s/s/1$/0/'
 wrong_example books examples/books/session_changed.out 's/^line 3/line 2/' 's/31/30/' d
 wrong_example books examples/books/no_line.status 's/2/1/'
 

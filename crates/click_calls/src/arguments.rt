@@ -64,7 +64,7 @@ fn replay_argument<'a>(alloc: Global) -> Arg<'a>
     Arg::new(alloc, "replay")
         .long("replay")
         .help(
-            "The lines are calls with their replies: makes the calls again, and tells at which line the first reply differs",
+            "The lines are those of click_prog --book: makes their calls again, and tells at which line the first reply differs",
         )
         .action(ArgAction::SetTrue)
 }
