@@ -239,10 +239,10 @@ def refused_by_itself(said):
     """The functions that are refused for what they do themselves, those that are refused for a lost name alone, each with the reason, and all that were checked."""
     errors, lost = {}, {}
     for found in re.finditer(r"^\./proofs/(\S+)/\w+\.antt:\d+:\d+: error: (.*)$", said, re.M):
-        # Functions that call one another in a cycle have their proofs in one folder, and the name of a goal there begins with that of its function. One that calls itself alone has
-        # a folder of its own name.
-        in_cycle = re.match(r"(.*/)?\+(\w+) `(\w+)-", f"{found[1]} {found[2]}")
-        places = [f"{in_cycle[1] or ''}{name}" for name in in_cycle.groups()[1:]] if in_cycle else [found[1]]
+        # Functions that call one another in a cycle have their proofs in one folder, and the name of a goal there begins with that of its function. One that calls itself alone, or by
+        # its closures, has a folder of its own name.
+        in_cycle = re.match(r"(.*/)?\+(\S+) `(\w+)-", f"{found[1]} {found[2]}")
+        places = [f"{in_cycle[1] or ''}{name}" for name in {in_cycle[3], *re.findall(r"\w+", in_cycle[2])}] if in_cycle else [found[1]]
         for place in places:
             (lost if STALE.search(found[2]) else errors).setdefault(place, found[2])
     # A lemma beside the functions' proofs speaks of definitions alone, so it fails where an edit changes one; what stands on it is then told as not admitted.

@@ -466,7 +466,7 @@ wrong_names() {
     done
 }
 wrong_names README.md 's/(docs\/CALLS\.md)/(docs\/CALL.md)/' 's/(docs\/CALLS\.md)/(CALLS.md)/' 's/`parse`/`parse_texts`/' 's/`Desk::close`/`Desk::shut_down`/' '1s/$/'"$(printf '%120s')"'/' '1,40p'
-wrong_names docs/TESTS.md 's/tools\/refuse\.sh/tools\/refuses.sh/' 's/feeds::feeds_lose_nothing/feeds::feeds_lose_all/' 's/(DEFINITIONS\.md)/(DEFINITIONS.md#no-heading)/' 's/examples\/run\.sh/examples\/runs.sh/'
+wrong_names docs/TESTS.md 's/tools\/refuse\.sh/tools\/refuses.sh/' 's/feeds::feeds_lose_nothing/feeds::feeds_lose_all/' 's/(DEFINITIONS\.md)/(DEFINITIONS.md#no-heading)/' 's/tools\/examples\.py/tools\/example.py/'
 wrong_names docs/ARCHITECTURE.md 's/`specs\/Acts\.antt`/`specs\/Actions.antt`/' '$a see NOPAGE.md' '$a `src/nowhere.rt`' '$a `NoSuchThing`'
 wrong_names examples/README.md '/^| `hotswap` /d'
 
