@@ -275,6 +275,25 @@ def files(row):
     return f"{len(names_in(folder, '.click'))} examples answered"
 
 
+def books(row):
+    """Over the text of NAME.click the calls of NAME.book are made again, and it is told what NAME.out says; where there is such, with a status. Where there is
+    a NAME.session, the book is just what its session writes to standard error."""
+    folder = row.pages[0]
+    sessions = names_in(folder, ".session")
+    for example in names_in(folder, ".click"):
+        part = lambda ending: bytes_of(f"{folder}/{example}{ending}", b"")
+        text = part(".click").rstrip(b"\n")
+        if example in sessions:
+            came = ran([program("click_prog"), "-e", text, "--book"], part(".session"))
+            same((part(".book"), 0), (came.err, came.status), f"the book of session {example}, and its status")
+        came = ran([program("click_calls"), "-e", text, "--replay"], part(".book"))
+        answered(came, f"book {example}", out=part(".out"), status=int(part(".status") or 0))
+    for stray in set(names_in(folder, ".book", ".out", ".session", ".status")) - set(names_in(folder, ".click")):
+        fail(f"what stands in {folder} for {stray} stands beside no {stray}.click")
+    is_there(sessions, f"sessions of {folder}")
+    return f"{len(names_in(folder, '.click'))} books made again, {len(sessions)} of them as a session writes it"
+
+
 def refused(row):
     """Each text is refused with the fault before it, alone; and so are texts that are too deep or too large."""
     prog = program("click_prog")
@@ -470,6 +489,7 @@ TABLE = (
     Row(["examples"], ["click_prog"], files),
     Row(["examples/counter.session"], ["click_prog"], limits),
     Row(["examples/calls"], ["click_calls"], files),
+    Row(["examples/books"], ["click_prog", "click_calls"], books),
     Row(["examples/calls/wrong_lines.txt"], ["click_calls"], wrong_lines),
     # A program that is run to its end before anything is written answers too late, which is seen last of all.
     Row(["examples/calls/counter.calls"], ["click_calls"], call_limits),

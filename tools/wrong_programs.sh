@@ -127,6 +127,23 @@ wrong_kind limits 'a line that is never too long' 'sed -i "s/^500 Line too long/
 wrong_kind faults 'a fault without its place' 'sed -i "s/ \(at\|in\) .*//" "$err"'
 wrong_kind readings 'a fault without its place' 'sed -i "s/ \(at\|in\) .*//" "$err"'
 
+# A book, written by a wrong click_prog, and made again by a wrong click_calls.
+wrong_kind books 'no book' ': > "$err"'
+wrong_kind books 'a book without its first entry' 'sed -i 1d "$err"'
+wrong_kind books 'a book with an entry twice' 'sed -i 1p "$err"'
+wrong_kind books 'a book in another order' 'tac "$err" > "$out.turned"; mv "$out.turned" "$err"'
+wrong_kind books 'a book with other seats' 'sed -i "s/^0/1/" "$err"'
+wrong_replay() {
+    wrapped "$work/wrong_calls" "$calls" "$2"
+    CALLS=$work/wrong_calls is_refused "a click_calls with $1" tools/examples.py books
+}
+wrong_replay 'a book that is always good' 'echo "replayed 3 calls, all replies the same" > "$out"; status=0'
+wrong_replay 'another line' 'sed -i "s/^line 2/line 1/" "$out"'
+wrong_replay 'another number of calls' 'sed -i "s/^replayed 3/replayed 2/" "$out"'
+wrong_replay 'the replies the other way' 'sed -i "s/is value 31, and value 30/is value 30, and value 31/" "$out"'
+wrong_replay 'a good end at another reply' 'if [ $status = 1 ]; then status=0; fi'
+wrong_replay 'a good end at no line' 'if [ $status = 2 ]; then status=0; fi'
+
 # A client that waits for each reply: a program that is run to its end before anything is written is late, and one of its own answers at once, but wrongly.
 PROGRAM=$work/click_prog SECONDS_TO_WAIT=1 is_refused 'a program with late replies' tools/client.sh
 cat > "$work/own" << 'E'
@@ -434,6 +451,10 @@ wrong_example files examples/mixed.status 's/1/0/'
 wrong_example files examples/readonly.options d
 wrong_example files examples/calls/counter.out 1d '$p'
 wrong_example files examples/calls/counter.calls '$d'
+wrong_example books examples/books/session.book 1d '$p' '2s/done$/nodevice/' 's/^0/1/' '6s/\\0a/\\0A/' '$a junk'
+wrong_example books examples/books/session.session 1d '/^WRITE s/s/1$/0/'
+wrong_example books examples/books/session_changed.out 's/^line 3/line 2/' 's/31/30/' d
+wrong_example books examples/books/no_line.status 's/2/1/'
 
 # wrong_names PAGE CHANGE..: links, paths and names that are none, and a README that is too large.
 wrong_names() {

@@ -1,3 +1,2 @@
-pub mod Digits
-pub mod ReplyLine
+pub mod Replays
 pub mod Statuses

@@ -8,11 +8,14 @@ use Rattle.click_calls.specs.declared.Status.{Status}
 use Rattle.click_calls.specs.declared.Status.TheVariants as status
 use Rattle.click_calls.specs.declared.answering.Stop.{Stop}
 use Rattle.click_calls.specs.declared.answering.Stop.TheVariants as stop
+use Rattle.click_calls.specs.declared.replay.Replayed.{Replayed}
+use Rattle.click_calls.specs.declared.replay.Replayed.TheVariants as replayed
 
 -- the number that the program's caller sees
 abbrev pub code : Status → ℕ
 code status.Good = 0
 code status.FaultyConfiguration = 1
+code status.Differs = 1
 code status.Wrong = 2
 code status.NoMemory = 3
 code status.DeviceFailed = 4
@@ -27,6 +30,12 @@ abbrev pub stop_status : Stop → Status
 stop_status (stop.Line number fault) = status.Wrong
 stop_status stop.NoMemory = status.NoMemory
 stop_status stop.DeviceFailed = status.DeviceFailed
+
+-- by what lines come to that are made again
+abbrev pub replayed_status : Replayed → Status
+replayed_status (replayed.Same count) = status.Good
+replayed_status (replayed.Differs number written came) = status.Differs
+replayed_status (replayed.NoLine number) = status.Wrong
 
 -- where the words of the command line cannot be read
 abbrev pub unread_status : ErrorKind → Status

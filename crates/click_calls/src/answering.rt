@@ -1,8 +1,9 @@
 //! The calls of an input, answered one after another.
 
 use crate::line::{LineFault, call_of};
-use crate::reply::reply_line;
+use click_lines::reply_line;
 use click_router::{Handlers, Router, StepFault};
+use click_text::sequence::Sequence;
 use std::alloc::{AllocError, Global};
 use std::io::{self, BufRead, Read, Write};
 use thiserror::Error;
@@ -108,4 +109,21 @@ fn answer<W: Write, T: Handlers>(
     let reply = router.step(alloc, &call)?;
     output.write_all(&reply_line(alloc, &reply)?)?;
     Ok(output.flush()?)
+}
+
+/// The lines of the input, without their ends.
+pub fn lines_of<R: BufRead>(alloc: Global, input: &mut R) -> Result<Sequence<Sequence<u8>>, Stop> {
+    let mut lines = Sequence::new(alloc);
+    for _ in 0..u64::MAX {
+        let mut line = Vec::new(alloc);
+        if input.read_until(b'\n', &mut line)? == 0 {
+            return Ok(lines);
+        }
+        if line.as_slice().ends_with(b"\n") {
+            let _end = line.pop();
+        }
+        lines.push(Sequence::of(line))?;
+    }
+    // No input has that many lines.
+    Err(Stop::DeviceFailed)
 }

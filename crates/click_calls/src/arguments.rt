@@ -1,29 +1,70 @@
 //! The program's command line.
 
-ghost use Rattle.std.specs.Prelude.{◌≡◌, IfOk, is_some, true};
+ghost use Rattle.std.specs.Prelude.{◌≡◌, IfOk, codes, false, is_some, true};
+ghost use Rattle.clap.specs.Built.{IsPlainArg, TakesValue};
+ghost use Rattle.clap.specs.Matches.{first_value, found_of};
 
-use clap::{Arg, ArgAction, Command, Error};
+use clap::{Arg, ArgAction, ArgMatches, Command, Error};
 use std::alloc::Global;
 
-/// The configuration text that the words of a command line give, or what clap has to say of them. `-e` takes the next word
-/// whatever it is.
-pub fn configuration<'a>(alloc: Global, words: &'a [String]) -> Result<Option<&'a str>, Error>
+/// What the words of a command line ask for.
+#[derive(Clone, Copy, Debug)]
+pub struct Options<'a> {
+    /// The configuration.
+    pub text: Option<&'a str>,
+    /// Whether the lines on standard input are calls with their replies, which are made again.
+    pub replay: bool,
+}
+
+/// What the words of a command line ask for, or what clap has to say of them. `-e` takes the next word whatever it is.
+pub fn options_of<'a>(alloc: Global, words: &'a [String]) -> Result<Options<'a>, Error>
     // Where clap has nothing to say there is a text.
-    ensures { IfOk result (λ text. is_some text ≡ true) }
+    ensures { IfOk result (λ options. is_some options.text ≡ true) }
 {
-    let text = Arg::new(alloc, "text")
-        .short('e')
-        .value_name("TEXT")
-        .help("The configuration of the router")
-        .required(true)
-        .allow_hyphen_values(true)
-        .action(ArgAction::Set);
+    let matches = parsed(alloc, words)?;
+    Ok(Options {
+        text: matches.get_str("text"),
+        replay: matches.get_flag("replay"),
+    })
+}
+
+/// What clap finds in the words.
+fn parsed<'a>(alloc: Global, words: &'a [String]) -> Result<ArgMatches<'a>, Error>
+    ensures { IfOk result (λ matches. is_some (first_value (found_of matches) (codes "text")) ≡ true) }
+{
     let command = Command::new(alloc, "click_calls")
         .about("A Click router that answers calls, one a line, on standard input and output")
         .after_help(
             "Calls: arrive DEVICE HEX, poll DEVICE HEX,HEX,.., round, transmit DEVICE, read NAME [TEXT], write NAME [TEXT],\ncheckread NAME, checkwrite NAME, swap TEXT. HEX is a packet, - one of no bytes; NAME is a handler, as c.count of the\nelement c. docs/CALLS.md has the replies.",
         )
-        .arg(text)?;
+        .arg(text_argument(alloc))?
+        .arg(replay_argument(alloc))?;
     let matches = command.try_get_matches_from(words)?;
-    Ok(matches.get_str("text"))
+    Ok(matches)
+}
+
+/// The option of the configuration.
+fn text_argument<'a>(alloc: Global) -> Arg<'a>
+    ensures plain { (result.id.now ≡ codes "text") × IsPlainArg result × (result.global ≡ false) }
+    ensures takes { TakesValue result }
+{
+    Arg::new(alloc, "text")
+        .short('e')
+        .value_name("TEXT")
+        .help("The configuration of the router")
+        .required(true)
+        .allow_hyphen_values(true)
+        .action(ArgAction::Set)
+}
+
+/// The flag of lines that are made again.
+fn replay_argument<'a>(alloc: Global) -> Arg<'a>
+    ensures { (result.id.now ≡ codes "replay") × IsPlainArg result × (result.global ≡ false) }
+{
+    Arg::new(alloc, "replay")
+        .long("replay")
+        .help(
+            "The lines are those of click_prog --book: makes their calls again, and tells at which line the first reply differs",
+        )
+        .action(ArgAction::SetTrue)
 }

@@ -1,6 +1,6 @@
 //! Lines, and the calls that they are.
 
-use crate::digits::{HexFault, packet_of};
+use click_lines::{HexFault, packet_of};
 use click_packet::StoredPacket;
 use click_router::Call;
 use click_text::sequence::Sequence;

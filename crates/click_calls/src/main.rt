@@ -1,21 +1,22 @@
-//! A router that answers calls: one a line on standard input, and a line for each reply on standard output.
+//! A router that answers calls: one a line on standard input, and a line for each reply on standard output. Or calls with their replies, made again.
 #![tactic(auto)]
 
 ghost use Rattle.std.specs.Prelude.{◌≡◌};
-ghost use Rattle.click_calls.specs.Statuses.{code, config_status, stop_status, unread_status};
+ghost use Rattle.click_calls.specs.Statuses.{code, config_status, replayed_status, stop_status, unread_status};
 
 mod answering;
 mod arguments;
-mod digits;
 mod line;
-mod reply;
+mod replay;
 
-use answering::{Stop, answer_all};
-use arguments::configuration;
+use answering::{Stop, answer_all, lines_of};
+use arguments::options_of;
 use clap::error::ErrorKind;
 use click_handlers::{Table, TakesTable, with_table};
 use click_router::{ConfigFault, FaultKind, Handlers, Router, prepare};
-use std::io::{BufReader, Write};
+use replay::{Replayed, replay_lines, replayed_line};
+use std::alloc::Global;
+use std::io::{BufRead, BufReader, Write};
 use std::process::ExitCode;
 use std::sync::Wait;
 use std::thread::Threads;
@@ -26,6 +27,8 @@ use std::{env, io};
 enum Status {
     Good,
     FaultyConfiguration,
+    /// A call that is made again gets another reply.
+    Differs,
     /// The arguments are wrong, or a line is no call.
     Wrong,
     NoMemory,
@@ -40,6 +43,7 @@ impl Status {
         match self {
             Status::Good => 0,
             Status::FaultyConfiguration => 1,
+            Status::Differs => 1,
             Status::Wrong => 2,
             Status::NoMemory => 3,
             Status::DeviceFailed => 4,
@@ -61,10 +65,14 @@ fn program<R: Threads + Wait + Sync>(threads: &R, rt: &HostRuntime) -> Status {
     let Ok(words) = words.collect::<Vec<String>>(alloc) else {
         return Status::NoMemory;
     };
-    match configuration(alloc, words.as_slice()) {
-        Ok(text) => {
-            let bytes = text.unwrap().as_bytes();
-            match with_table(threads, alloc, Answers { rt, text: bytes }) {
+    match options_of(alloc, words.as_slice()) {
+        Ok(options) => {
+            let answers = Answers {
+                rt,
+                text: options.text.unwrap().as_bytes(),
+                replay: options.replay,
+            };
+            match with_table(threads, alloc, answers) {
                 Ok(status) => status,
                 Err(_) => Status::NoMemory,
             }
@@ -90,23 +98,24 @@ fn unread(rt: &HostRuntime, kind: io::ErrorKind) -> Status
     Status::Wrong
 }
 
-/// The calls on standard input, to a router of this text.
+/// The calls on standard input, to a router of this text; with their replies, where they are made again.
 #[derive(Drop)]
 struct Answers<'a> {
     rt: &'a HostRuntime,
     text: &'a [u8],
+    replay: bool,
 }
 
 impl<'a> TakesTable for Answers<'a> {
     type Out = Status;
 
     fn take<R: Threads + Wait + Sync>(self, _rt: &R, table: Table) -> Status {
-        calls(self.rt, table, self.text)
+        calls(self.rt, table, self.text, self.replay)
     }
 }
 
-/// Answers the calls on standard input by the router of the text.
-fn calls<T: Handlers + Drop>(rt: &HostRuntime, table: T, text: &[u8]) -> Status {
+/// Answers the calls on standard input by the router of the text, or makes those again that stand there with their replies.
+fn calls<T: Handlers + Drop>(rt: &HostRuntime, table: T, text: &[u8], replay: bool) -> Status {
     let alloc = rt.alloc();
     let mut router = match prepare(alloc, text) {
         Ok(prepared) => Router::open(table, prepared),
@@ -115,9 +124,40 @@ fn calls<T: Handlers + Drop>(rt: &HostRuntime, table: T, text: &[u8]) -> Status 
     let Ok(mut input) = BufReader::new(alloc, rt.stdin()) else {
         return Status::NoMemory;
     };
+    if replay {
+        return match replay_all(alloc, &mut input, &mut rt.stdout(), &mut router) {
+            Ok(replayed) => of_replayed(&replayed),
+            Err(stop) => stopped(rt, stop),
+        };
+    }
     match answer_all(alloc, &mut input, &mut rt.stdout(), &mut router) {
         Ok(()) => Status::Good,
         Err(stop) => stopped(rt, stop),
+    }
+}
+
+/// Makes the calls of the input again, and tells what they come to.
+fn replay_all<R: BufRead, W: Write, T: Handlers>(
+    alloc: Global,
+    input: &mut R,
+    output: &mut W,
+    router: &mut Router<T>,
+) -> Result<Replayed, Stop> {
+    let lines = lines_of(alloc, input)?;
+    let replayed = replay_lines(alloc, router, lines.as_slice())?;
+    output.write_all(&replayed_line(alloc, &replayed)?)?;
+    output.flush()?;
+    Ok(replayed)
+}
+
+/// The status by what lines come to that are made again.
+fn of_replayed(replayed: &Replayed) -> Status
+    ensures { result ≡ replayed_status replayed.now }
+{
+    match replayed {
+        Replayed::Same { .. } => Status::Good,
+        Replayed::Differs { .. } => Status::Differs,
+        Replayed::NoLine { .. } => Status::Wrong,
     }
 }
 

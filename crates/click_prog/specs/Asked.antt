@@ -43,6 +43,7 @@ pub record AsksFor (found : Found) (options : Options) : Type 0 where
   pub workers : IsGivenOr 0 16 0 (first_value found (codes "workers")) options.workers
   pub rounds : IsGivenOr 0 1000000 1000 (first_value found (codes "number")) options.rounds
   pub check : option_map (λ s. s.now) options.check ≡ first_value found (codes "check")
+  pub book : IsFlag (one_text found (codes "book")) options.book
 
 -- each number is in its range
 pub record IsInRanges (options : Options) : Type 0 where

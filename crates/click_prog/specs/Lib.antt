@@ -1,3 +1,4 @@
 pub mod Running
 pub mod Statuses
 pub mod Asked
+pub mod Written

@@ -29,6 +29,8 @@ pub struct Options<'a> {
     pub rounds: u64,
     /// The handler that is checked at the end.
     pub check: Option<&'a str>,
+    /// Whether the book is written at the end.
+    pub book: bool,
 }
 
 /// Why a command line is refused.
@@ -93,7 +95,8 @@ fn parsed<'a>(alloc: Global, words: &'a [String]) -> Result<ArgMatches<'a>, Erro
         .arg(workers)?
         .arg(rounds)?
         .arg(readonly_argument(alloc))?
-        .arg(check_argument(alloc))?;
+        .arg(check_argument(alloc))?
+        .arg(book_argument(alloc))?;
     let matches = command.try_get_matches_from(words)?;
     Ok(matches)
 }
@@ -110,6 +113,7 @@ fn options_in<'a>(matches: &ArgMatches<'a>) -> Result<Options<'a>, Refusal<'a>>
         workers: number_of(matches, "workers", "-w <WORKERS>", 0, 16, 0)? as usize,
         rounds: number_of(matches, "number", "--rounds <N>", 0, 1_000_000, 1_000)?,
         check: matches.get_str("check"),
+        book: matches.get_flag("book"),
     })
 }
 
@@ -146,6 +150,18 @@ fn check_argument<'a>(alloc: Global) -> Arg<'a>
         .value_name("NAME")
         .help("At the end tells on standard error whether this handler can be read")
         .action(ArgAction::Set)
+}
+
+/// The flag of a book that is written at the end.
+fn book_argument<'a>(alloc: Global) -> Arg<'a>
+    ensures { (result.id.now ≡ codes "book") × IsPlainArg result × (result.global ≡ false) }
+{
+    Arg::new(alloc, "book")
+        .long("book")
+        .help(
+            "At the end writes each call with its seat and its reply to standard error, as lines that click_calls --replay makes again",
+        )
+        .action(ArgAction::SetTrue)
 }
 
 /// An option that takes a number. Clap takes any text, `-1` too, and which number that is, if it is one, is looked at after it (`given`).

@@ -5,6 +5,7 @@ ghost use Rattle.std.specs.Prelude.{◌≡◌, ◌∷◌, []};
 ghost use Rattle.std.specs.Net.Addr.{ipv4_octets};
 
 mod arguments;
+mod booked;
 mod doors;
 mod serving;
 mod status;
@@ -12,7 +13,7 @@ mod status;
 use arguments::{Refusal, options_of};
 use clap::error::ErrorKind;
 use click_handlers::with_table;
-use serving::{Comes, Plan, Serving, plan_of};
+use serving::{AtEnd, Comes, Plan, Serving, plan_of};
 use status::{Status, of_unread};
 use std::net::{Ipv4Addr, Net, TcpListener, TcpStream};
 use std::process::ExitCode;
@@ -43,7 +44,10 @@ fn program<R: Threads + Wait + Net<Listener = TcpListener, Stream = TcpStream> +
             host,
             options.text.unwrap().as_bytes(),
             plan_of(&options),
-            options.check.map(|name| name.as_bytes()),
+            AtEnd {
+                check: options.check.map(|name| name.as_bytes()),
+                book: options.book,
+            },
             options.port,
         ),
         Err(refusal) => refused(host, &refusal),
@@ -56,7 +60,7 @@ fn serve<R: Threads + Wait + Net<Listener = TcpListener, Stream = TcpStream> + S
     host: &HostRuntime,
     text: &[u8],
     plan: Plan,
-    check: Option<&[u8]>,
+    end: AtEnd,
     port: Option<u16>,
 ) -> Status {
     let comes = match port {
@@ -70,7 +74,7 @@ fn serve<R: Threads + Wait + Net<Listener = TcpListener, Stream = TcpStream> + S
         host,
         text,
         plan,
-        check,
+        end,
         comes,
     };
     match with_table(rt, host.alloc(), serving) {

@@ -8,9 +8,11 @@ ghost use Rattle.click_prog.specs.Running.{RunsTo, RunsAlone, AllRunTo, PlanRuns
 ghost use Rattle.click_prog.specs.Statuses.{fault_status, check_line, check_word};
 
 use crate::arguments::Options;
+use crate::booked::write_book;
 use crate::doors::{Shut, Standard};
 use crate::status::{Status, of_end, of_fault, of_sessions};
 use click_control::{InputDevice, OutputDevice, Reading, Sink, Source, Writing};
+use click_desk::Entry;
 use click_handlers::{Table, TakesTable};
 use click_router::{Check, ConfigFault, Handlers};
 use click_workers::{Door, Gate, Listening, OpenGate, RunFault, run, run_workers};
@@ -67,6 +69,13 @@ pub fn plan_of(options: &Options) -> Plan
     Plan::new(sessions, options.workers, options.rounds, options.readonly)
 }
 
+/// What is told once a run is closed: whether this handler can be read then, and the book.
+#[derive(Clone, Copy)]
+pub struct AtEnd<'a> {
+    pub check: Option<&'a [u8]>,
+    pub book: bool,
+}
+
 /// Serves one session that reads from this device and writes to that one, over the router of the text. The devices come back as the
 /// session left them. Why a text is refused is written to `errors`, and whether the handler that is to be checked can be read at the end.
 pub fn session<T: Handlers + Drop, I: InputDevice, O: OutputDevice, E: Write, R: Wait>(
@@ -78,7 +87,7 @@ pub fn session<T: Handlers + Drop, I: InputDevice, O: OutputDevice, E: Write, R:
     errors: &mut E,
     text: &[u8],
     readonly: bool,
-    check: Option<&[u8]>,
+    end: AtEnd,
 ) -> (Status, Reading<I>, Writing<O>)
     ensures { RunsTo text.now readonly (fresh_input (I.remaining input)) (⟦<Reading<I> as Source>⟧.input result.1)
         (fresh_output (O.contents output)) (⟦<Writing<O> as Sink>⟧.output result.2) result.0 }
@@ -94,7 +103,7 @@ pub fn session<T: Handlers + Drop, I: InputDevice, O: OutputDevice, E: Write, R:
         errors,
         text,
         readonly,
-        check,
+        end,
     );
     (status, reader, writer)
 }
@@ -109,13 +118,14 @@ fn serve_text<T: Handlers + Drop, S: Source, W: Sink, E: Write, R: Wait>(
     errors: &mut E,
     text: &[u8],
     readonly: bool,
-    check: Option<&[u8]>,
+    end: AtEnd,
 ) -> Status
     ensures { RunsTo text.now readonly (S.input reader.old) (S.input reader.new) (W.output writer.old) (W.output writer.new) result }
 {
-    match run(rt, alloc, table, reader, writer, text, readonly, check) {
+    match run(rt, alloc, table, reader, writer, text, readonly, end.check) {
         Ok(ran) => {
-            tell_check(errors, check, ran.checked);
+            tell_check(errors, end.check, ran.checked);
+            tell_book(alloc, errors, end.book, &ran.book.entries);
             of_end(&ran.ended)
         }
         Err(fault) => refuse(alloc, errors, &fault),
@@ -131,7 +141,7 @@ pub fn serve_all<T: Handlers + Send + Drop, D: Door, E: Write, R: Threads + Wait
     errors: &mut E,
     text: &[u8],
     plan: Plan,
-    check: Option<&[u8]>,
+    end: AtEnd,
 ) -> Status
     ensures { AllRunTo D.lets_in D.Reader.input D.Writer.output ⟦<OpenGate as Gate>⟧.gives ⟦<OpenGate as Gate>⟧.told door.now plan.readonly text.now plan.sessions
         plan.workers plan.rounds result }
@@ -143,10 +153,11 @@ pub fn serve_all<T: Handlers + Send + Drop, D: Door, E: Write, R: Threads + Wait
         readonly,
     } = plan;
     match run_workers(
-        rt, alloc, table, text, readonly, door, sessions, workers, rounds, &OpenGate, check,
+        rt, alloc, table, text, readonly, door, sessions, workers, rounds, &OpenGate, end.check,
     ) {
         Ok(ran) => {
-            tell_check(errors, check, ran.checked);
+            tell_check(errors, end.check, ran.checked);
+            tell_book(alloc, errors, end.book, &ran.book.entries);
             of_sessions(ran.ended.as_slice())
         }
         Err(fault) => refuse(alloc, errors, &fault),
@@ -186,6 +197,14 @@ fn tell_check<E: Write>(errors: &mut E, name: Option<&[u8]>, checked: Option<Che
     if let (Some(name), Some(check)) = (name, checked) {
         // A failed write changes nothing of the status.
         let _ = write_check(errors, name, check);
+    }
+}
+
+/// Writes the book, if that is asked for.
+fn tell_book<E: Write>(alloc: Global, errors: &mut E, asked: bool, entries: &[Entry]) {
+    if asked {
+        // A failed write changes nothing of the status.
+        let _ = write_book(alloc, errors, entries);
     }
 }
 
@@ -229,7 +248,7 @@ pub struct Serving<'a> {
     pub host: &'a HostRuntime,
     pub text: &'a [u8],
     pub plan: Plan,
-    pub check: Option<&'a [u8]>,
+    pub end: AtEnd<'a>,
     pub comes: Comes,
 }
 
@@ -241,10 +260,10 @@ impl<'a> TakesTable for Serving<'a> {
             host,
             text,
             plan,
-            check,
+            end,
             comes,
         } = self;
-        serve_plan(rt, host, table, text, plan, check, comes)
+        serve_plan(rt, host, table, text, plan, end, comes)
     }
 }
 
@@ -255,7 +274,7 @@ fn serve_plan<T: Handlers + Send + Drop, R: Threads + Wait + Sync>(
     table: T,
     text: &[u8],
     plan: Plan,
-    check: Option<&[u8]>,
+    end: AtEnd,
     comes: Comes,
 ) -> Status
     ensures alone { comes ≡ Comes.Standard → plan.workers ≡ 0 → RunsAlone text.now plan.readonly result }
@@ -279,18 +298,18 @@ fn serve_plan<T: Handlers + Send + Drop, R: Threads + Wait + Sync>(
                 &mut errors,
                 text,
                 plan.readonly,
-                check,
+                end,
             );
             status
         }
         Comes::Standard => {
             let door = Standard::new(host.stdin(), host.stdout());
-            serve_all(rt, alloc, table, &door, &mut errors, text, plan, check)
+            serve_all(rt, alloc, table, &door, &mut errors, text, plan, end)
         }
         Comes::Over(listener) => {
             let door = Listening::new(listener);
-            serve_all(rt, alloc, table, &door, &mut errors, text, plan, check)
+            serve_all(rt, alloc, table, &door, &mut errors, text, plan, end)
         }
-        Comes::Nowhere => serve_all(rt, alloc, table, &Shut, &mut errors, text, plan, check),
+        Comes::Nowhere => serve_all(rt, alloc, table, &Shut, &mut errors, text, plan, end),
     }
 }

@@ -1,0 +1,61 @@
+-- Lines of calls and replies, made again.
+use Rattle.std.specs.Prelude.{◌≡◌, ◌≢◌, ℕ, ◌+◌, List, [], ◌∷◌, ◌++◌, length, codes, decimal}
+use Rattle.click_router.specs.One.{Answers}
+use Rattle.click_router.specs.State.{RouterState}
+use Rattle.click_router.specs.declared.call.Call.{Call}
+use Rattle.click_router.specs.declared.call.Reply.{Reply}
+use Rattle.click_lines.specs.Lines.{entry_line, line_text}
+use Rattle.click_lines.specs.ReplyLine.{reply_text}
+use Rattle.click_lines.specs.Spelling.{words}
+use Rattle.click_lines.specs.declared.line.Line.{Line}
+use Rattle.click_calls.specs.declared.replay.Again.{Again}
+use Rattle.click_calls.specs.declared.replay.Again.TheVariants as again
+use Rattle.click_calls.specs.declared.replay.Replayed.{Replayed}
+use Rattle.click_calls.specs.declared.replay.Replayed.TheVariants as replayed
+
+-- The line is of a call and its reply, as a router answers it in this state, which it leaves for the next.
+pub record Agrees (s : RouterState) (line : List ℕ) (next : RouterState) : Type 0 where
+  pub seat : ℕ
+  pub call : Call
+  pub reply : Reply
+  pub is : line ≡ entry_line seat call reply
+  pub answers : Answers s call next reply
+
+-- The line is of a call that a router answers in this state otherwise than was written: the text of the reply is another.
+pub record Differs (s : RouterState) (line : List ℕ) (written came : List ℕ) : Type 0 where
+  pub said : Line
+  pub is : line ≡ line_text said
+  pub text_written : said.reply ≡ written
+  pub reply : Reply
+  pub next : RouterState
+  pub answers : Answers s said.call next reply
+  pub text_came : reply_text reply ≡ came
+  pub other : came ≢ written
+
+-- Made one after another from the first state, the calls of the lines get just the replies that are written, and leave the last state.
+abbrev pub Replays : RouterState → List (List ℕ) → RouterState → Type 0
+Replays s [] last = s ≡ last
+Replays s (line ∷ lines) last = (next : RouterState) × Agrees s line next × Replays next lines last
+
+-- what the call of one line comes to
+abbrev pub IsAgain : RouterState → List ℕ → RouterState → Again → Type 0
+IsAgain s line next again.Same = Agrees s line next
+IsAgain s line next (again.Differs written came) = Differs s line written came
+IsAgain s line next again.NoLine = next ≡ s
+
+-- What the lines come to: all agree; or the first that does not is this one, counted from 1, those before it agree, and it differs so or is no line.
+abbrev pub IsReplayed : RouterState → List (List ℕ) → RouterState → Replayed → Type 0
+IsReplayed first lines last (replayed.Same count) = (count ≡ length lines) × Replays first lines last
+IsReplayed first lines last (replayed.Differs number written came) =
+    (before : List (List ℕ)) × (line : List ℕ) × (after : List (List ℕ)) × (lines ≡ before ++ line ∷ after) × (number ≡ length before + 1)
+    × ((s : RouterState) × Replays first before s × Differs s line written came)
+IsReplayed first lines last (replayed.NoLine number) =
+    (before : List (List ℕ)) × (line : List ℕ) × (after : List (List ℕ)) × (lines ≡ before ++ line ∷ after) × (number ≡ length before + 1)
+    × Replays first before last
+
+-- The line that tells it. The texts of replies are spelled, as in a line of a book.
+abbrev pub replayed_line : Replayed → List ℕ
+replayed_line (replayed.Same count) = codes "replayed " ++ decimal count ++ codes " calls, all replies the same\n"
+replayed_line (replayed.Differs number written came) =
+    codes "line " ++ decimal number ++ codes ": the reply is " ++ words came ++ codes ", and " ++ words written ++ codes " was written\n"
+replayed_line (replayed.NoLine number) = codes "line " ++ decimal number ++ codes " is no call with its reply\n"

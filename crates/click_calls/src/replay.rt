@@ -1,0 +1,128 @@
+//! Lines of calls and replies, made again.
+
+ghost use Rattle.std.specs.Prelude.{◌≡◌, IfOk};
+ghost use Rattle.click_calls.specs.Replays.{IsAgain, IsReplayed, replayed_line};
+
+use click_lines::{push_number, push_words, read_line, reply_text};
+use click_router::{Handlers, Router, StepFault};
+use click_text::sequence::Sequence;
+use std::alloc::{AllocError, Global};
+
+/// What the call of one line comes to.
+#[derive(Drop)]
+pub enum Again {
+    /// The reply that was written.
+    Same,
+    /// Another: the texts of both.
+    Differs {
+        written: Sequence<u8>,
+        came: Sequence<u8>,
+    },
+    /// None, for the line is no call with its reply.
+    NoLine,
+}
+
+/// What lines come to. They are counted from 1.
+#[derive(Drop)]
+pub enum Replayed {
+    /// So many calls, all with the replies that were written.
+    Same {
+        count: usize,
+    },
+    /// The first call with another reply: the texts of both.
+    Differs {
+        number: usize,
+        written: Sequence<u8>,
+        came: Sequence<u8>,
+    },
+    /// The first line that is no call with its reply.
+    NoLine {
+        number: usize,
+    },
+}
+
+/// Makes the call of a line again.
+fn made_again<T: Handlers>(
+    alloc: Global,
+    router: &mut Router<T>,
+    line: &[u8],
+) -> Result<Again, AllocError>
+    ensures { IfOk result (IsAgain router.old line.now router.new) }
+{
+    let Some(said) = read_line(alloc, line)? else {
+        return Ok(Again::NoLine);
+    };
+    let reply = match router.step(alloc, &said.call) {
+        Ok(reply) => reply,
+        Err(StepFault::NoMemory) => return Err(AllocError),
+    };
+    let came = reply_text(alloc, &reply)?;
+    if came.as_slice() == said.reply.as_slice() {
+        Ok(Again::Same)
+    } else {
+        Ok(Again::Differs {
+            written: said.reply,
+            came: Sequence::of(came),
+        })
+    }
+}
+
+/// Makes the calls of lines again, one after another, until one differs or is none.
+pub fn replay_lines<T: Handlers>(
+    alloc: Global,
+    router: &mut Router<T>,
+    lines: &[Sequence<u8>],
+) -> Result<Replayed, AllocError>
+    ensures { IfOk result (IsReplayed router.old lines.now router.new) }
+{
+    let mut count = 0;
+    for line in lines {
+        match made_again(alloc, router, line.as_slice())? {
+            Again::Same => {}
+            Again::Differs { written, came } => {
+                return Ok(Replayed::Differs {
+                    number: count + 1,
+                    written,
+                    came,
+                });
+            }
+            Again::NoLine => return Ok(Replayed::NoLine { number: count + 1 }),
+        }
+        count += 1;
+    }
+    Ok(Replayed::Same { count })
+}
+
+/// The line that tells what lines come to, with its end.
+pub fn replayed_line(alloc: Global, replayed: &Replayed) -> Result<Vec<u8>, AllocError>
+    ensures { IfOk result (λ line. line.items ≡ replayed_line replayed.now) }
+{
+    match replayed {
+        Replayed::Same { count } => {
+            let mut line = Vec::from_slice(alloc, b"replayed ")?;
+            push_number(&mut line, *count as u64)?;
+            line.extend_from_slice(b" calls, all replies the same\n")?;
+            Ok(line)
+        }
+        Replayed::Differs {
+            number,
+            written,
+            came,
+        } => {
+            let mut line = Vec::from_slice(alloc, b"line ")?;
+            push_number(&mut line, *number as u64)?;
+            line.extend_from_slice(b": the reply is ")?;
+            push_words(&mut line, came.as_slice())?;
+            line.extend_from_slice(b", and ")?;
+            push_words(&mut line, written.as_slice())?;
+            line.extend_from_slice(b" was written\n")?;
+            Ok(line)
+        }
+        Replayed::NoLine { number } => {
+            let mut line = Vec::from_slice(alloc, b"line ")?;
+            push_number(&mut line, *number as u64)?;
+            line.extend_from_slice(b" is no call with its reply\n")?;
+            Ok(line)
+        }
+    }
+}

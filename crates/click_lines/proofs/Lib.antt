@@ -1,0 +1,6 @@
+pub mod Cutting
+pub mod Entries
+pub mod PacketWords
+pub mod Packets
+pub mod ReadingBack
+pub mod Words

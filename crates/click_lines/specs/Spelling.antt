@@ -1,0 +1,32 @@
+-- Bytes as words of a line.
+use Rattle.std.specs.Prelude.{ℕ, Bool, ◌==◌, ◌&&◌, not, nat_le, if◌then◌else◌, List, [], ◌∷◌, ◌++◌}
+use Rattle.std.specs.List.{flat_map}
+use Rattle.hex.specs.Hex.{encode_lower}
+
+-- A byte that stands for itself: one of ASCII that can be seen, from the least on, but no backslash.
+abbrev pub is_plain : ℕ → ℕ → Bool
+is_plain least b = nat_le least b && nat_le b 126 && not (b == 92)
+
+-- any other byte is a backslash and its two hex digits in lower case
+abbrev pub spelled_byte : ℕ → ℕ → List ℕ
+spelled_byte least b = if is_plain least b then b ∷ [] else 92 ∷ encode_lower (b ∷ [])
+
+abbrev pub spelled : ℕ → List ℕ → List ℕ
+spelled least bytes = flat_map (spelled_byte least) bytes
+
+-- as one word, which has no blank
+abbrev pub word : List ℕ → List ℕ
+word bytes = spelled 33 bytes
+
+-- as words, whose blanks stay
+abbrev pub words : List ℕ → List ℕ
+words bytes = spelled 32 bytes
+
+-- each part but the first behind a byte
+abbrev pub behind : ℕ → List (List ℕ) → List ℕ
+behind byte parts = flat_map (λ (part : List ℕ). byte ∷ part) parts
+
+-- parts with a byte between them
+abbrev pub joined : ℕ → List (List ℕ) → List ℕ
+joined byte [] = []
+joined byte (part ∷ parts) = part ++ behind byte parts

@@ -1,0 +1,58 @@
+//! Packets and bytes in hex digits.
+
+ghost use Rattle.std.specs.Prelude.{◌≡◌, IfOk, MatchResult};
+ghost use Rattle.click_lines.specs.Digits.{IsHex, IsPacketOf, IsNoPacket, hex_text};
+
+use click_packet::Packet;
+use hex::FromHexError;
+use std::alloc::{AllocError, Global};
+use thiserror::Error;
+
+/// Why digits are no packet.
+#[derive(Clone, Copy, Debug, PartialEq, Eq, Error)]
+pub enum HexFault {
+    #[error("out of memory")]
+    NoMemory,
+    #[error("a packet has no digits; one of no bytes is written -")]
+    NoDigits,
+    #[error("a packet has an odd number of hex digits")]
+    OddDigits,
+    #[error("a packet has a byte that is no hex digit")]
+    NoDigit,
+    #[error("a packet has more than 1600 bytes")]
+    TooLong,
+}
+
+/// The digits of bytes, two a byte in lower case; `-` where there are none.
+pub fn hex_text(alloc: Global, bytes: &[u8]) -> Result<Vec<u8>, AllocError>
+    ensures text { IfOk result (λ text. text.items ≡ hex_text bytes.now) }
+    // They are read as these bytes again.
+    ensures back { IfOk result (λ text. IsHex text.items bytes.now) }
+{
+    if bytes.is_empty() {
+        return Vec::from_slice(alloc, b"-");
+    }
+    let digits = hex::encode(alloc, bytes)?;
+    Ok(digits.into_bytes())
+}
+
+/// The packet that digits in either case are, with paint 0 and destination 0.0.0.0; `-` is one of no bytes.
+pub fn packet_of(alloc: Global, digits: &[u8]) -> Result<Packet, HexFault>
+    ensures { MatchResult result (IsPacketOf digits.now) (IsNoPacket digits.now) }
+{
+    if digits == b"-".as_slice() {
+        return Ok(Packet::empty());
+    }
+    if digits.is_empty() {
+        return Err(HexFault::NoDigits);
+    }
+    match hex::decode(alloc, digits) {
+        Ok(bytes) => match Packet::of(bytes.as_slice()) {
+            Ok(packet) => Ok(packet),
+            Err(_) => Err(HexFault::TooLong),
+        },
+        Err(FromHexError::OutOfMemory) => Err(HexFault::NoMemory),
+        Err(FromHexError::OddLength) => Err(HexFault::OddDigits),
+        Err(_) => Err(HexFault::NoDigit),
+    }
+}

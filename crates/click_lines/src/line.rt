@@ -1,0 +1,53 @@
+//! The line of a call that a seat made, with its reply.
+
+ghost use Rattle.std.specs.Prelude.{◌≡◌, IfOk};
+ghost use Rattle.click_lines.specs.Lines.{entry_line, line_text};
+
+use crate::call::call_line;
+use crate::reply::{push_number, reply_text};
+use crate::spelling::push_words;
+use click_router::{Call, Reply};
+use click_text::sequence::Sequence;
+use std::alloc::{AllocError, Global};
+
+/// What a line says: a seat, the call that it made, and the text of the reply.
+#[derive(Drop)]
+pub struct Line {
+    pub seat: usize,
+    pub call: Call,
+    pub reply: Sequence<u8>,
+}
+
+/// The line of a seat's call and a reply of this text, without a line end.
+fn text_of(alloc: Global, seat: usize, call: &Call, reply: &[u8]) -> Result<Vec<u8>, AllocError>
+    ensures { IfOk result (λ text. text.items ≡ line_text (record { seat = seat; call = call.now; reply = reply.now })) }
+{
+    let mut text = Vec::new(alloc);
+    push_number(&mut text, seat as u64)?;
+    text.push(b'\t')?;
+    text.extend_from_slice(&call_line(alloc, call)?)?;
+    text.push(b'\t')?;
+    push_words(&mut text, reply)?;
+    Ok(text)
+}
+
+impl Line {
+    /// The line, without a line end. It has no byte that cannot be seen but its two tabs and its blanks.
+    pub fn text(&self, alloc: Global) -> Result<Vec<u8>, AllocError>
+        ensures { IfOk result (λ text. text.items ≡ line_text self.now) }
+    {
+        text_of(alloc, self.seat, &self.call, self.reply.as_slice())
+    }
+}
+
+/// The line of a call that a seat made and of its reply, without a line end.
+pub fn entry_line(
+    alloc: Global,
+    seat: usize,
+    call: &Call,
+    reply: &Reply,
+) -> Result<Vec<u8>, AllocError>
+    ensures { IfOk result (λ text. text.items ≡ entry_line seat call.now reply.now) }
+{
+    text_of(alloc, seat, call, &reply_text(alloc, reply)?)
+}

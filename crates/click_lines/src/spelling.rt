@@ -1,0 +1,73 @@
+//! Bytes as words of a line.
+
+ghost use Rattle.std.specs.Prelude.{◌≡◌, ◌++◌, OnOk};
+ghost use Rattle.click_lines.specs.Spelling.{is_plain, spelled_byte, spelled, words};
+
+use std::alloc::{AllocError, Global};
+
+/// The least byte of a word that stands for itself, and the least one of words.
+pub const IN_WORD: u8 = b'!';
+
+const IN_WORDS: u8 = b' ';
+
+/// Whether a byte stands for itself.
+fn is_plain(least: u8, byte: u8) -> bool
+    ensures { result ≡ is_plain least byte }
+{
+    least <= byte && byte <= b'~' && byte != b'\\'
+}
+
+/// Adds a byte as it is spelled.
+fn push_byte(line: &mut Vec<u8>, least: u8, byte: u8) -> Result<(), AllocError>
+    ensures { OnOk result (line.new.items ≡ line.old.items ++ spelled_byte least byte) }
+{
+    if is_plain(least, byte) {
+        line.push(byte)?;
+        return Ok(());
+    }
+    let mut digits = [0; 2];
+    match hex::encode_to_slice([byte].as_slice(), &mut digits) {
+        Ok(()) => {
+            line.push(b'\\')?;
+            line.extend_from_slice(&digits)
+        }
+        Err(_) => unreachable!(),
+    }
+}
+
+/// Adds bytes as they are spelled.
+pub fn push_spelled(line: &mut Vec<u8>, least: u8, bytes: &[u8]) -> Result<(), AllocError>
+    ensures { OnOk result (line.new.items ≡ line.old.items ++ spelled least bytes.now) }
+{
+    for byte in bytes {
+        push_byte(line, least, *byte)?;
+    }
+    Ok(())
+}
+
+/// Adds bytes as words, whose blanks stay.
+pub fn push_words(line: &mut Vec<u8>, bytes: &[u8]) -> Result<(), AllocError>
+    ensures { OnOk result (line.new.items ≡ line.old.items ++ words bytes.now) }
+{
+    push_spelled(line, IN_WORDS, bytes)
+}
+
+/// The bytes that a text spells; none where a backslash has no two hex digits behind it.
+pub fn unspelled(alloc: Global, text: &[u8]) -> Result<Option<Vec<u8>>, AllocError> {
+    let mut bytes = Vec::new(alloc);
+    let mut rest = text;
+    while let Some((first, behind)) = rest.split_first() {
+        rest = behind;
+        if *first != b'\\' {
+            bytes.push(*first)?;
+            continue;
+        }
+        let mut byte = [0; 1];
+        if rest.len() < 2 || hex::decode_to_slice(&rest[..2], &mut byte).is_err() {
+            return Ok(None);
+        }
+        bytes.push(byte[0])?;
+        rest = &rest[2..];
+    }
+    Ok(Some(bytes))
+}

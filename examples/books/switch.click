@@ -1,0 +1,1 @@
+Idle -> s :: Switch(0) -> c :: Counter -> Discard; s [1] -> Discard;
