@@ -7,6 +7,7 @@ Each case but the last starts the program on a free port of 127.0.0.1 and ends w
 """
 import os
 import re
+import signal
 import socket
 import struct
 import subprocess
@@ -34,7 +35,9 @@ class Router:
     def __init__(self, program, text, sessions, drivers=0, rounds=0, options=()):
         for _ in range(5):
             self.port = free_port()
-            words = [program, "-e", text, "-p", str(self.port), "-n", str(sessions), "-w", str(drivers), "--rounds", str(rounds), *options]
+            words = [program, "-e", text, "-p", str(self.port), "-n", str(sessions), "-w", str(drivers), *options]
+            if rounds is not None:
+                words += ["--rounds", str(rounds)]
             self.process = subprocess.Popen(words, stdin=subprocess.DEVNULL, stdout=subprocess.PIPE, stderr=subprocess.PIPE)
             time.sleep(0.1)
             if self.process.poll() is None:
@@ -321,6 +324,44 @@ def taken(program):
         raise Wrong(f"a port that is taken: status {ended.returncode}, {ended.stdout!r}, {ended.stderr!r}")
 
 
+def staying(program):
+    """A router that stays: at one place come more sessions than there are places, one after another, while a driver goes on. All read and write one
+    router, the driver's packets come to their end and no more, one session waits until another leaves, and SIGTERM ends the program."""
+    text = "InfiniteSource(ab, 3000, 1) -> c :: Counter -> Discard; Idle -> s :: Switch(0) -> Discard; s [1] -> Discard;"
+    router = Router(program, text, 1, 1, None, ["--live"])
+    try:
+        for n in range(30):
+            session = Session(router)
+            if session.read(b"s.switch") != b"%d" % (n % 2):
+                raise Wrong("a session does not find what the one before it has written")
+            if session.write(b"s.switch", b"%d" % ((n + 1) % 2))[0] != 200:
+                raise Wrong("a write was refused")
+            session.quit()
+        session = Session(router)
+        ends = time.monotonic() + SECONDS
+        while int(session.read(b"c.count")) < 3000:
+            if time.monotonic() > ends:
+                raise Wrong("the driver does not go on")
+            time.sleep(0.01)
+        with socket.create_connection(("127.0.0.1", router.port), timeout=SECONDS) as other:
+            other.settimeout(0.5)
+            try:
+                other.recv(1)
+                raise Wrong("a second session was served at one place")
+            except TimeoutError:
+                pass
+            session.quit()
+            other.settimeout(SECONDS)
+            if other.recv(len(GREETING)) != GREETING:
+                raise Wrong("the session that waited was not served")
+        if router.process.poll() is not None:
+            raise Wrong("the program has ended")
+        router.process.terminate()
+        router.ends(-signal.SIGTERM)
+    finally:
+        router.stop()
+
+
 def attached(port):
     """Two sessions at a router that listens on this port read its counter `c` and leave."""
 
@@ -340,7 +381,7 @@ def attached(port):
     all_at_once([work, work])
 
 
-CASES = {case.__name__: case for case in (counting, swapping, clients, reading, taken, attached)}
+CASES = {case.__name__: case for case in (counting, swapping, clients, reading, taken, staying, attached)}
 
 
 def main():

@@ -15,7 +15,7 @@ use std::thread;
 const MOST_LOOKS: u64 = 100_000_000;
 
 /// Looks again and again until so many have come, but not for ever.
-fn waits_for(come: &AtomicU64, wanted: u64) -> bool {
+pub(crate) fn waits_for(come: &AtomicU64, wanted: u64) -> bool {
     for _ in 0..MOST_LOOKS {
         if come.load(Ordering::SeqCst) >= wanted {
             return true;

@@ -20,6 +20,8 @@ mod seats;
 #[cfg(test)]
 mod sessions;
 #[cfg(test)]
+mod staying;
+#[cfg(test)]
 mod views;
 #[cfg(test)]
 mod watching;

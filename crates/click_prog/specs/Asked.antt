@@ -44,6 +44,9 @@ pub record AsksFor (found : Found) (options : Options) : Type 0 where
   pub rounds : IsGivenOr 0 1000000 1000 (first_value found (codes "number")) options.rounds
   pub check : option_map (λ s. s.now) options.check ≡ first_value found (codes "check")
   pub book : IsFlag (one_text found (codes "book")) options.book
+  pub live : IsFlag (one_text found (codes "live")) options.live
+  -- a router that stays takes no number of rounds, and tells nothing at an end
+  pub stays : options.live ≡ true → (first_value found (codes "number") ≡ None) × (options.check ≡ None) × (options.book ≡ false)
 
 -- each number is in its range
 pub record IsInRanges (options : Options) : Type 0 where
@@ -64,4 +67,5 @@ plan_of options = record {
   workers = options.workers;
   rounds = options.rounds;
   readonly = options.readonly;
+  live = options.live;
 }

@@ -1,22 +1,23 @@
 -- A run over one seat, and its status.
-use Rattle.std.specs.Prelude.{◌≡◌, ◌⊎◌, ℕ, ◌+◌, List, Bool, Option, false, Result}
+use Rattle.std.specs.Prelude.{◌≡◌, ◌⊎◌, ℕ, ◌+◌, List, Bool, Option, None, false, Result}
 use Rattle.click_control.specs.Peers.{Input, Output}
 use Rattle.click_control.specs.declared.serving.Ended.{Ended}
 use Rattle.click_control.specs.declared.serving.ServeFault.{ServeFault}
 use Rattle.click_desk.specs.Booklet.{Booklet}
-use Rattle.click_workers.specs.Runs.{Headline, RanOver, IsTrueFault, IsNoClose}
-use Rattle.click_workers.specs.Work.{Attended, Drove, Worked}
+use Rattle.click_workers.specs.Runs.{Headline, HeadlineFor, RanOver, IsTrueFault, IsNoClose}
+use Rattle.click_workers.specs.Work.{Attended, AttendedInTurn, Drove, DroveFor, Worked}
 use Rattle.click_workers.specs.declared.session.SessionEnd.{SessionEnd}
 use Rattle.click_workers.specs.declared.runs.RunFault.{RunFault}
 use Rattle.click_prog.specs.Statuses.{end_status, fault_status, sessions_status}
 use Rattle.click_prog.specs.declared.status.Status.{Status}
 
--- How many sessions and drivers there are, how many rounds each driver makes, and whether sessions may only read.
+-- How many sessions and drivers there are, how many rounds each driver makes, whether sessions may only read, and whether the router stays.
 pub record Planned : Type 0 where
   pub sessions : ℕ
   pub workers : ℕ
   pub rounds : ℕ
   pub readonly : Bool
+  pub live : Bool
 
 -- The session was over the one seat of a desk of this text, the desk's book is a history of one thread, and the status is that of the session's end.
 pub record HasRun (text : List ℕ) (readonly : Bool) (had left : Input) (held holds : Output) (s : Status) : Type 0 where
@@ -36,6 +37,18 @@ pub record HaveRun {D Rd Wr G : Type 0} (lets_in : D → ℕ → Option (Rd × W
   pub ended : List SessionEnd
   pub drivers : List Bool
   pub worked : Worked (Attended lets_in input output gives told door gate readonly) (Drove gives told gate rounds) sessions (sessions + workers) book.seats ended drivers
+  pub is : s ≡ sessions_status ended
+
+-- Places for sessions and drivers were at one desk of this text that keeps nothing, each with a seat of its own, at a gate that they share, and each place served so
+-- many sessions, one after another; there is one history of one thread with just their calls and replies, and the status is that of the places' last sessions.
+pub record HaveLived {D Rd Wr G : Type 0} (lets_in : D → ℕ → Option (Rd × Wr) → Type 0) (input : Rd → Input) (output : Wr → Output) (gives : G → ℕ → ℕ → Bool → Type 0)
+    (told : G → ℕ → ℕ → Type 0) (door : D) (readonly : Bool) (text : List ℕ) (places workers turns : ℕ) (s : Status) : Type 0 where
+  pub gate : G
+  pub book : Booklet
+  pub headline : HeadlineFor None text (places + workers) book
+  pub ended : List SessionEnd
+  pub drivers : List Bool
+  pub worked : Worked (AttendedInTurn lets_in input output gives told door gate readonly turns) (DroveFor gives told gate None) places (places + workers) book.seats ended drivers
   pub is : s ≡ sessions_status ended
 
 -- There was no desk, and the status is that of the fault.
@@ -80,3 +93,14 @@ abbrev pub PlanRunsTo : {D Rd Wr G : Type 0} → (D → ℕ → Option (Rd × Wr
     → Planned → List ℕ → Status → Type 0
 PlanRunsTo {D} {Rd} {Wr} {G} lets_in input output gives told plan text s =
     (door : D) × AllRunTo lets_in input output gives told door plan.readonly text plan.sessions plan.workers plan.rounds s
+
+abbrev pub LiveRunTo : {D Rd Wr G : Type 0} → (D → ℕ → Option (Rd × Wr) → Type 0) → (Rd → Input) → (Wr → Output) → (G → ℕ → ℕ → Bool → Type 0) → (G → ℕ → ℕ → Type 0)
+    → D → Bool → List ℕ → ℕ → ℕ → ℕ → Status → Type 0
+LiveRunTo lets_in input output gives told door readonly text places workers turns s =
+    HaveLived lets_in input output gives told door readonly text places workers turns s ⊎ HaveNotRun text s
+
+-- the same as a plan has it, at some door of this kind
+abbrev pub PlanLivesTo : {D Rd Wr G : Type 0} → (D → ℕ → Option (Rd × Wr) → Type 0) → (Rd → Input) → (Wr → Output) → (G → ℕ → ℕ → Bool → Type 0) → (G → ℕ → ℕ → Type 0)
+    → Planned → List ℕ → ℕ → Status → Type 0
+PlanLivesTo {D} {Rd} {Wr} {G} lets_in input output gives told plan text turns s =
+    (door : D) × LiveRunTo lets_in input output gives told door plan.readonly text plan.sessions plan.workers turns s

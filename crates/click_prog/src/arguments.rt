@@ -1,10 +1,10 @@
 //! The program's command line.
 
-ghost use Rattle.std.specs.Prelude.{◌≡◌, ◌≤◌, IfOk, IfErr, IfSome, MatchOption, codes, false, is_some, true, option_map};
+ghost use Rattle.std.specs.Prelude.{◌≡◌, ◌≤◌, IfOk, IfErr, IfSome, IfNone, MatchOption, codes, false, is_some, true, option_map, Some, None};
 ghost use Rattle.std.specs.Char.{is_ascii_digit};
 ghost use Rattle.std.specs.List.{list_all};
 ghost use Rattle.clap.specs.Built.{IsPlainArg, IsParsedFrom, TakesValue};
-ghost use Rattle.clap.specs.Matches.{first_value, found_of};
+ghost use Rattle.clap.specs.Matches.{first_value, found_of, one_text};
 ghost use Rattle.clap.specs.declared.builder.command.Command.{Command};
 ghost use Rattle.clap.specs.declared.parser.matches.ArgMatches.{ArgMatches};
 ghost use Rattle.click_prog.specs.Asked.{AsksFor, IsGiven, IsGivenOr, IsInRanges, IsMistyped, IsNoNumber, IsNumber};
@@ -31,6 +31,8 @@ pub struct Options<'a> {
     pub check: Option<&'a str>,
     /// Whether the book is written at the end.
     pub book: bool,
+    /// Whether the router stays: it keeps no book, and serves until the process ends.
+    pub live: bool,
 }
 
 /// Why a command line is refused.
@@ -39,6 +41,14 @@ pub enum Refusal<'a> {
     /// What clap has to say of it; help is asked for so too.
     Clap(Error),
     NoNumber(NoNumber<'a>),
+    NotLive(NotLive),
+}
+
+/// What a router that stays has no use for: its drivers go on, and nothing is told at an end.
+#[derive(Clone, Copy, Debug, Drop, thiserror::Error)]
+#[error("--live takes no {option}")]
+pub struct NotLive {
+    option: &'static str,
 }
 
 /// What was given where an option takes a number from `least` to `most`, in decimal digits alone, and is none.
@@ -96,7 +106,8 @@ fn parsed<'a>(alloc: Global, words: &'a [String]) -> Result<ArgMatches<'a>, Erro
         .arg(rounds)?
         .arg(readonly_argument(alloc))?
         .arg(check_argument(alloc))?
-        .arg(book_argument(alloc))?;
+        .arg(book_argument(alloc))?
+        .arg(live_argument(alloc))?;
     let matches = command.try_get_matches_from(words)?;
     Ok(matches)
 }
@@ -105,6 +116,10 @@ fn parsed<'a>(alloc: Global, words: &'a [String]) -> Result<ArgMatches<'a>, Erro
 fn options_in<'a>(matches: &ArgMatches<'a>) -> Result<Options<'a>, Refusal<'a>>
     ensures { IfOk result (AsksFor (found_of matches.now)) }
 {
+    let live = matches.get_flag("live");
+    if let (true, Some(option)) = (live, of_an_end(matches)) {
+        return Err(Refusal::NotLive(NotLive { option }));
+    }
     Ok(Options {
         text: matches.get_str("text"),
         readonly: matches.get_flag("readonly"),
@@ -114,7 +129,25 @@ fn options_in<'a>(matches: &ArgMatches<'a>) -> Result<Options<'a>, Refusal<'a>>
         rounds: number_of(matches, "number", "--rounds <N>", 0, 1_000_000, 1_000)?,
         check: matches.get_str("check"),
         book: matches.get_flag("book"),
+        live,
     })
+}
+
+/// The first option that was given of those which only a run that ends has.
+fn of_an_end(matches: &ArgMatches) -> Option<&'static str>
+    ensures { IfNone result ((first_value (found_of matches.now) (codes "number") ≡ None) × (first_value (found_of matches.now) (codes "check") ≡ None)
+        × ((one_text (found_of matches.now) (codes "book") ≡ Some (codes "true")) → ⊥)) }
+{
+    if matches.get_str("number").is_some() {
+        return Some("--rounds");
+    }
+    if matches.get_str("check").is_some() {
+        return Some("--check");
+    }
+    if matches.get_flag("book") {
+        return Some("--book");
+    }
+    None
 }
 
 /// The option of the configuration.
@@ -160,6 +193,18 @@ fn book_argument<'a>(alloc: Global) -> Arg<'a>
         .long("book")
         .help(
             "At the end writes each call with its seat and its reply to standard error, as lines that click_calls --replay makes again",
+        )
+        .action(ArgAction::SetTrue)
+}
+
+/// The flag of a router that stays.
+fn live_argument<'a>(alloc: Global) -> Arg<'a>
+    ensures { (result.id.now ≡ codes "live") × IsPlainArg result × (result.global ≡ false) }
+{
+    Arg::new(alloc, "live")
+        .long("live")
+        .help(
+            "Keeps no book and takes no more memory however long it runs: with a port it serves without end, up to SESSIONS at once",
         )
         .action(ArgAction::SetTrue)
 }

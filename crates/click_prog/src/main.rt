@@ -104,6 +104,9 @@ fn refused(host: &HostRuntime, refusal: &Refusal) -> Status {
         Refusal::NoNumber(number) => {
             let _ = eprintln!(host; "click_prog: {number}");
         }
+        Refusal::NotLive(option) => {
+            let _ = eprintln!(host; "click_prog: {option}");
+        }
     }
     Status::WrongArguments
 }

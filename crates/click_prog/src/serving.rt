@@ -4,7 +4,7 @@ ghost use Rattle.std.specs.Prelude.{◌≡◌, ◌++◌, ◌∷◌, ◌+◌, ◌
 ghost use Rattle.std.specs.Io.KnownBytes.{Appends};
 ghost use Rattle.std.specs.declared.net.TcpListener.{TcpListener};
 ghost use Rattle.click_prog.specs.Asked.{IsInRanges, plan_of};
-ghost use Rattle.click_prog.specs.Running.{RunsTo, RunsAlone, AllRunTo, PlanRunsTo, fresh_input, fresh_output};
+ghost use Rattle.click_prog.specs.Running.{RunsTo, RunsAlone, AllRunTo, LiveRunTo, PlanRunsTo, PlanLivesTo, fresh_input, fresh_output};
 ghost use Rattle.click_prog.specs.Statuses.{fault_status, check_line, check_word};
 
 use crate::arguments::Options;
@@ -15,7 +15,7 @@ use click_control::{InputDevice, OutputDevice, Reading, Sink, Source, Writing};
 use click_desk::Entry;
 use click_handlers::{Table, TakesTable};
 use click_router::{Check, ConfigFault, Handlers};
-use click_workers::{Door, Gate, Listening, OpenGate, RunFault, run, run_workers};
+use click_workers::{Door, Gate, Listening, OpenGate, RunFault, run, run_live, run_workers};
 use std::alloc::Global;
 use std::io::{self, Stdin, Stdout, Write};
 use std::marker::Model;
@@ -23,13 +23,14 @@ use std::net::{TcpListener, TcpStream};
 use std::sync::Wait;
 use std::thread::Threads;
 
-/// How many sessions (1 to 64) and drivers (at most 16) there are, how many rounds each driver makes, and whether sessions may only read.
+/// How many sessions (1 to 64) and drivers (at most 16) there are, how many rounds each driver makes, whether sessions may only read, and whether the router stays.
 #[derive(Drop)]
 pub struct Plan {
     sessions: usize,
     workers: usize,
     rounds: u64,
     readonly: bool,
+    live: bool,
 }
 
 impl Model for Plan {
@@ -38,21 +39,22 @@ impl Model for Plan {
 
     ghost Value = { Planned };
 
-    ghost view = { λ p. record { sessions = p.sessions; workers = p.workers; rounds = p.rounds; readonly = p.readonly } };
+    ghost view = { λ p. record { sessions = p.sessions; workers = p.workers; rounds = p.rounds; readonly = p.readonly; live = p.live } };
 
     ghost invariant = { λ p. (1 ≤ p.sessions) × (p.sessions ≤ 64) × (p.workers ≤ 16) };
 }
 
 impl Plan {
-    pub fn new(sessions: usize, workers: usize, rounds: u64, readonly: bool) -> Plan
+    pub fn new(sessions: usize, workers: usize, rounds: u64, readonly: bool, live: bool) -> Plan
         requires { (1 ≤ sessions) × (sessions ≤ 64) × (workers ≤ 16) }
-        ensures { result ≡ record { sessions = sessions; workers = workers; rounds = rounds; readonly = readonly } }
+        ensures { result ≡ record { sessions = sessions; workers = workers; rounds = rounds; readonly = readonly; live = live } }
     {
         Plan {
             sessions,
             workers,
             rounds,
             readonly,
+            live,
         }
     }
 }
@@ -66,7 +68,13 @@ pub fn plan_of(options: &Options) -> Plan
         None => 1,
         Some(_) => options.sessions,
     };
-    Plan::new(sessions, options.workers, options.rounds, options.readonly)
+    Plan::new(
+        sessions,
+        options.workers,
+        options.rounds,
+        options.readonly,
+        options.live,
+    )
 }
 
 /// What is told once a run is closed: whether this handler can be read then, and the book.
@@ -125,7 +133,7 @@ fn serve_text<T: Handlers + Drop, S: Source, W: Sink, E: Write, R: Wait>(
     match run(rt, alloc, table, reader, writer, text, readonly, end.check) {
         Ok(ran) => {
             tell_check(errors, end.check, ran.checked);
-            tell_book(alloc, errors, end.book, &ran.book.entries);
+            tell_book(alloc, errors, end.book, ran.book.entries.as_slice());
             of_end(&ran.ended)
         }
         Err(fault) => refuse(alloc, errors, &fault),
@@ -151,15 +159,47 @@ pub fn serve_all<T: Handlers + Send + Drop, D: Door, E: Write, R: Threads + Wait
         workers,
         rounds,
         readonly,
+        live: _,
     } = plan;
     match run_workers(
         rt, alloc, table, text, readonly, door, sessions, workers, rounds, &OpenGate, end.check,
     ) {
         Ok(ran) => {
             tell_check(errors, end.check, ran.checked);
-            tell_book(alloc, errors, end.book, &ran.book.entries);
+            tell_book(alloc, errors, end.book, ran.book.entries.as_slice());
             of_sessions(ran.ended.as_slice())
         }
+        Err(fault) => refuse(alloc, errors, &fault),
+    }
+}
+
+/// Serves sessions that come in at this door, so many at each place, one after another, with drivers beside them that go on as long, over a router of the text that
+/// keeps no book. Why a text is refused is written to `errors`.
+pub fn serve_live<T: Handlers + Send + Drop, D: Door, E: Write, R: Threads + Wait + Sync>(
+    rt: &R,
+    alloc: Global,
+    table: T,
+    door: &D,
+    errors: &mut E,
+    text: &[u8],
+    plan: Plan,
+    turns: u64,
+) -> Status
+    requires { 0 < turns }
+    ensures { LiveRunTo D.lets_in D.Reader.input D.Writer.output ⟦<OpenGate as Gate>⟧.gives ⟦<OpenGate as Gate>⟧.told door.now plan.readonly text.now plan.sessions
+        plan.workers turns result }
+{
+    let Plan {
+        sessions,
+        workers,
+        rounds: _,
+        readonly,
+        live: _,
+    } = plan;
+    match run_live(
+        rt, alloc, table, text, readonly, door, sessions, workers, turns, &OpenGate, None,
+    ) {
+        Ok(ran) => of_sessions(ran.ended.as_slice()),
         Err(fault) => refuse(alloc, errors, &fault),
     }
 }
@@ -263,7 +303,11 @@ impl<'a> TakesTable for Serving<'a> {
             end,
             comes,
         } = self;
-        serve_plan(rt, host, table, text, plan, end, comes)
+        if plan.live {
+            live_plan(rt, host, table, text, plan, comes)
+        } else {
+            serve_plan(rt, host, table, text, plan, end, comes)
+        }
     }
 }
 
@@ -311,5 +355,36 @@ fn serve_plan<T: Handlers + Send + Drop, R: Threads + Wait + Sync>(
             serve_all(rt, alloc, table, &door, &mut errors, text, plan, end)
         }
         Comes::Nowhere => serve_all(rt, alloc, table, &Shut, &mut errors, text, plan, end),
+    }
+}
+
+/// Serves the sessions that come over a router that stays. One on standard input ends it; over TCP nothing does but the end of the process.
+fn live_plan<T: Handlers + Send + Drop, R: Threads + Wait + Sync>(
+    rt: &R,
+    host: &HostRuntime,
+    table: T,
+    text: &[u8],
+    plan: Plan,
+    comes: Comes,
+) -> Status
+    ensures standard { comes ≡ Comes.Standard → PlanLivesTo ⟦<Standard as Door>⟧.lets_in ⟦<Reading<Stdin> as Source>⟧.input ⟦<Writing<Stdout> as Sink>⟧.output
+        ⟦<OpenGate as Gate>⟧.gives ⟦<OpenGate as Gate>⟧.told plan text.now 1 result }
+    ensures over { (listener : TcpListener) → comes ≡ Comes.Over listener → PlanLivesTo ⟦<Listening as Door>⟧.lets_in ⟦<Reading<TcpStream> as Source>⟧.input ⟦<Writing<TcpStream> as Sink>⟧.output
+        ⟦<OpenGate as Gate>⟧.gives ⟦<OpenGate as Gate>⟧.told plan text.now 18446744073709551615 result }
+    ensures nowhere { comes ≡ Comes.Nowhere → PlanLivesTo ⟦<Shut as Door>⟧.lets_in ⟦<Reading<Stdin> as Source>⟧.input ⟦<Writing<Stdout> as Sink>⟧.output
+        ⟦<OpenGate as Gate>⟧.gives ⟦<OpenGate as Gate>⟧.told plan text.now 1 result }
+{
+    let alloc = host.alloc();
+    let mut errors = host.stderr();
+    match comes {
+        Comes::Standard => {
+            let door = Standard::new(host.stdin(), host.stdout());
+            serve_live(rt, alloc, table, &door, &mut errors, text, plan, 1)
+        }
+        Comes::Over(listener) => {
+            let door = Listening::new(listener);
+            serve_live(rt, alloc, table, &door, &mut errors, text, plan, u64::MAX)
+        }
+        Comes::Nowhere => serve_live(rt, alloc, table, &Shut, &mut errors, text, plan, 1),
     }
 }

@@ -1,5 +1,5 @@
 -- What whole runs leave.
-use Rattle.std.proofs.Common.{◌≡◌, ◌↔◌, ℕ, ◌+◌, ◌==◌, ◌<◌, ◌≤◌, inl, inr, Bool, true, false, true≢false, cond, List, [], ◌∷◌, map, length, count_by, refl, sym, ap, ◌∙◌, subst, arith}
+use Rattle.std.proofs.Common.{◌≡◌, ◌↔◌, ℕ, ◌+◌, ◌==◌, ◌<◌, ◌≤◌, inl, inr, Option, Bool, true, false, true≢false, cond, List, [], ◌∷◌, map, length, count_by, refl, sym, ap, ◌∙◌, subst, arith}
 use Rattle.std.proofs.lemmas.Bool.Decides.{nat_tests}
 use Rattle.std.specs.List.{All}
 use Rattle.std.proofs.lemmas.List.Elements.{All-head, All-tail}
@@ -17,7 +17,7 @@ use Rattle.click_desk.specs.declared.open.OpenFault.{OpenFault}
 use Rattle.click_desk.specs.declared.open.OpenFault.TheVariants as told
 use Rattle.click_workers.specs.declared.runs.RunFault.{RunFault}
 use Rattle.click_workers.specs.declared.runs.RunFault.TheVariants as run
-use Rattle.click_workers.specs.Runs.{Headline, IsOpenedWith, IsTrueFault, IsLate, entries_of}
+use Rattle.click_workers.specs.Runs.{Headline, HeadlineFor, IsOpenedFor, IsTrueFault, IsLate, entries_of}
 
 none-named : (taps : List Drawing) → map name_of taps ≡ [] → taps ≡ []
 none-named [] e = refl
@@ -30,9 +30,9 @@ no-feeds desk seats book some all closes =
     none-named book.taps (sym (closes.feeds blank) ∙ (all 0 blank some).1)
 
 -- what a closed desk's book says of the text that it was opened with
-pub headline-of : (text : List ℕ) (n : ℕ) (desk : DeskName) (seats : List Sitting) (book : Booklet) → IsOpenedWith text n desk → 0 < length seats → All (IsOf desk) seats
-    → IsEachOnce desk.terms.seats seats → Closes desk seats book → Headline text n book
-headline-of text n desk seats book terms some all once closes = record {
+pub headline-of : (room : Option ℕ) (text : List ℕ) (n : ℕ) (desk : DeskName) (seats : List Sitting) (book : Booklet) → IsOpenedFor room text n desk → 0 < length seats → All (IsOf desk) seats
+    → IsEachOnce desk.terms.seats seats → Closes desk seats book → HeadlineFor room text n book
+headline-of room text n desk seats book terms some all once closes = record {
   opening = closes.opening ∙ terms.0;
   replayed = closes.replayed;
   lawful = closes.lawful;
@@ -41,8 +41,8 @@ headline-of text n desk seats book terms some all once closes = record {
       (subst (λ (l : List Sitting). IsEachOnce desk.terms.seats l) (sym closes.seats_are) once);
   numbered = subst (λ (l : List Sitting). All (λ e. count_by (λ s. s.number == e.seat) l ≡ 1) book.entries) (sym closes.seats_are) closes.numbered;
   no_feeds = no-feeds desk seats book some all closes;
-  terms = subst (λ (l : List Sitting). All (λ (s : Sitting). IsOpenedWith text n s.desk) l) (sym closes.seats_are)
-      (λ k s below. subst (λ (d : DeskName). IsOpenedWith text n d) (sym (all k s below).0) terms);
+  terms = subst (λ (l : List Sitting). All (λ (s : Sitting). IsOpenedFor room text n s.desk) l) (sym closes.seats_are)
+      (λ k s below. subst (λ (d : DeskName). IsOpenedFor room text n d) (sym (all k s below).0) terms);
 }
 
 -- a fault that the opening told is the text's first, also as the run tells it

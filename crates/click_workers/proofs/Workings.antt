@@ -1,12 +1,14 @@
 -- One session or driver more.
 use Rattle.std.proofs.Common.{◌≡◌, ℕ, zero, suc, ◌+◌, ◌≤◌, ◌-◌, min, Bool, List, [], ◌∷◌, ◌++◌, length, map, Option, Some, None, IfSome, MatchOption, refl, sym, ap, ◌∙◌, subst, append_assoc, append-nil, length-append, arith}
 use Rattle.std.specs.Prelude.{option_to_list}
+use Rattle.std.specs.List.{All}
+use Rattle.click_router.specs.declared.call.Call.TheVariants as call
 use Rattle.click_desk.specs.Closing.{IsEachOnce}
 use Rattle.click_desk.proofs.Books.{new_once, same_once}
 use Rattle.click_desk.specs.Sittings.{DeskName, Sitting, new_seat, seats_below}
 use Rattle.click_control.specs.Peers.{Input, Output}
 use Rattle.click_workers.specs.declared.session.SessionEnd.{SessionEnd}
-use Rattle.click_workers.specs.Work.{Attends, Attended, Drives, Drove, SideBySide, Ready, Worked, numbers_below}
+use Rattle.click_workers.specs.Work.{Attends, AttendedInTurn, DrivesFor, DroveFor, InTurn, SideBySide, Ready, Worked, numbers_below}
 
 snoc-inj : (xs ys : List Sitting) (x y : Sitting) → xs ++ x ∷ [] ≡ ys ++ y ∷ [] → (xs ≡ ys) × (x ≡ y)
 snoc-inj [] [] x y e = (refl, cc)
@@ -48,16 +50,30 @@ seats-many desk zero = refl
 seats-many desk (suc n) = omega (arith, length-append (seats_below desk [] n) (new_seat desk [] n ∷ []), seats-many desk n)
 
 -- by the number of its seat
-pub driven-by : {G : Type 0} (gives : G → ℕ → ℕ → Bool → Type 0) (told : G → ℕ → ℕ → Type 0) (gate : G) (who rounds : ℕ) (s : Sitting) (all : Bool) → who ≡ suc s.number
-    → Drives gives told gate who rounds s all → Drove gives told gate rounds s all
-driven-by gives told gate who rounds s all is h = subst (λ w. Drives gives told gate w rounds s all) is h
+pub driven-by : {G : Type 0} (gives : G → ℕ → ℕ → Bool → Type 0) (told : G → ℕ → ℕ → Type 0) (gate : G) (who : ℕ) (rounds : Option ℕ) (s : Sitting) (all : Bool) → who ≡ suc s.number
+    → DrivesFor gives told gate who rounds s all → DroveFor gives told gate rounds s all
+driven-by gives told gate who rounds s all is h = subst (λ w. DrivesFor gives told gate w rounds s all) is h
 
 pub attended-by : {D Rd Wr G : Type 0} (lets_in : D → ℕ → Option (Rd × Wr) → Type 0) (input : Rd → Input) (output : Wr → Output) (gives : G → ℕ → ℕ → Bool → Type 0) (told : G → ℕ → ℕ → Type 0)
-    (door : D) (gate : G) (readonly : Bool) (who : ℕ) (seat s : Sitting) (e : SessionEnd) → who ≡ suc s.number → seat ≡ new_seat s.desk [] s.number
-    → Attends lets_in input output gives told door gate readonly who seat s e → Attended lets_in input output gives told door gate readonly s e
-attended-by lets_in input output gives told door gate readonly who seat s e is fresh h =
-    subst (λ w. Attends lets_in input output gives told door gate readonly w (new_seat s.desk [] s.number) s e) is
-    (subst (λ o. Attends lets_in input output gives told door gate readonly who o s e) fresh h)
+    (door : D) (gate : G) (readonly : Bool) (who turns : ℕ) (seat s : Sitting) (e : SessionEnd) → who ≡ suc s.number → seat ≡ new_seat s.desk [] s.number
+    → InTurn (Attends lets_in input output gives told door gate readonly who) turns seat s e → AttendedInTurn lets_in input output gives told door gate readonly turns s e
+attended-by lets_in input output gives told door gate readonly who turns seat s e is fresh h =
+    subst (λ w. InTurn (Attends lets_in input output gives told door gate readonly w) turns (new_seat s.desk [] s.number) s e) is
+    (subst (λ o. InTurn (Attends lets_in input output gives told door gate readonly who) turns o s e) fresh h)
+
+-- however many Rounds it was to make
+pub drove-alone : {G : Type 0} (gives : G → ℕ → ℕ → Bool → Type 0) (told : G → ℕ → ℕ → Type 0) (gate : G) (rounds : Option ℕ) (s : Sitting) (all : Bool)
+    → DroveFor gives told gate rounds s all → All (λ p. p.0 ≡ call.Round) s.calls
+drove-alone gives told gate None s all h = h.1.rounds_alone
+drove-alone gives told gate (Some rounds) s all h = h.rounds_alone
+
+-- one session more at a place
+pub one-more : (attends : Sitting → Sitting → SessionEnd → Type 0) (n : ℕ) (old between new : Sitting) (before last : SessionEnd) → 1 ≤ n
+    → InTurn attends n old between before → attends between new last → InTurn attends (n + 1) old new last
+one-more attends zero old between new before last some h one = absurd (omega arith)
+one-more attends (suc n) old between new before last some h one =
+    let more : InTurn attends (suc (suc n)) old new last = (between, before, h, one) in
+    subst (λ k. InTurn attends k old new last) (omega arith) more
 
 module _ (attends : Sitting → SessionEnd → Type 0) (drives : Sitting → Bool → Type 0) where
   pub worked-none : (sessions : ℕ) → Worked attends drives sessions 0 [] [] []

@@ -1,4 +1,4 @@
-use Rattle.std.proofs.Common.{◌≡◌, ◌<◌, true, false, true≢false, List, [], ◌∷◌, ◌++◌, map, length, refl, sym, ap, ◌∙◌, subst, arith}
+use Rattle.std.proofs.Common.{◌≡◌, ◌<◌, true, false, true≢false, Some, List, [], ◌∷◌, ◌++◌, map, length, refl, sym, ap, ◌∙◌, subst, arith}
 use Rattle.std.specs.List.{All}
 use Rattle.std.proofs.lemmas.List.Elements.{All-nil, All-push}
 use Rattle.click_desk.specs.History.{Legal}
@@ -33,7 +33,7 @@ returns-clause-headline g c = λ text terms.
     let number : s.number ≡ 0 = c.serve_alone-ended.ensures.same.1 ∙ ap (λ (t : Sitting). t.number) taken.1 in
     let alone : IsEachOnce 1 c.push_reserved.new.self.items = once-of desk 1 c.push_reserved.new.self.items (ap (λ l. map (λ (t : Sitting). t.number) l) items ∙ ap (λ n. n ∷ []) number) in
     let once : IsEachOnce desk.terms.seats c.push_reserved.new.self.items = subst (λ m. IsEachOnce m c.push_reserved.new.self.items) (sym c.requires.many) alone in
-    headline-of text 1 desk c.push_reserved.new.self.items c.close_and_check-book.result.0 terms
+    headline-of (Some 1048576) text 1 desk c.push_reserved.new.self.items c.close_and_check-book.result.0 terms
     (subst (λ (l : List Sitting). 0 < length l) (sym items) (omega arith))
     (subst (λ (l : List Sitting). All (IsOf desk) l) (sym items) (All-push (IsOf desk) [] s (All-nil (IsOf desk)) of)) once closes
 

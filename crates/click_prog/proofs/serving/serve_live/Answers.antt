@@ -1,0 +1,14 @@
+use Rattle.std.proofs.Common.{inl, ap, ◌∙◌}
+use Rattle.click_prog.specs.Statuses.{sessions_status}
+use Rattle.click_prog.proofs.serving.serve_live.Goals as goal
+
+pub returns-in-Ok : goal.returns-in-Ok
+returns-in-Ok g c = rw (← c.plan.view_is) (inl (record {
+  gate = _;
+  book = c.in-Ok.ran.book;
+  headline = c.in-Ok.ensures.headline;
+  ended = c.in-Ok.ran.ended.items;
+  drivers = c.in-Ok.ran.drivers.items;
+  worked = c.in-Ok.ensures.worked;
+  is = c.of_sessions.ensures ∙ ap sessions_status c.as_slice.ensures.value;
+}))
