@@ -327,9 +327,9 @@ impl<'a, T: Drop, R: Wait> Desk<T, &'a R> {
         Desk::open_of(rt, alloc, table, text, Some(room), seats, inlets, views)
     }
 
-    /// Opens a live desk, which keeps no book: its history has no bound, and no call and no poll takes memory that stays. There is one history as of a desk with a
-    /// book, and all that is promised of it holds, but it is not kept, so that no seat lends its calls and the book of the close lends no entries. It is refused as
-    /// `open_with_views` is.
+    /// Opens a live desk, which keeps no book: its history has no bound, and no call and no poll takes memory that stays, but that views keep what each swap
+    /// published. There is one history as of a desk with a book, and all that is promised of it holds, but it is not kept, so that no seat lends its calls and the
+    /// book of the close lends no entries. It is refused as `open_with_views` is.
     pub fn open_live(
         rt: &'a R,
         alloc: Global,

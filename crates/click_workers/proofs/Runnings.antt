@@ -1,5 +1,5 @@
 -- What whole runs leave.
-use Rattle.std.proofs.Common.{◌≡◌, ◌↔◌, ℕ, ◌+◌, ◌==◌, ◌<◌, ◌≤◌, inl, inr, Option, Bool, true, false, true≢false, cond, List, [], ◌∷◌, map, length, count_by, refl, sym, ap, ◌∙◌, subst, arith}
+use Rattle.std.proofs.Common.{◌≡◌, ◌↔◌, ℕ, ◌+◌, ◌==◌, ◌<◌, ◌≤◌, inl, inr, Bool, true, false, true≢false, cond, List, [], ◌∷◌, map, length, Option, is_some, count_by, refl, sym, ap, ◌∙◌, subst, arith}
 use Rattle.std.proofs.lemmas.Bool.Decides.{nat_tests}
 use Rattle.std.specs.List.{All}
 use Rattle.std.proofs.lemmas.List.Elements.{All-head, All-tail}
@@ -34,6 +34,7 @@ pub headline-of : (room : Option ℕ) (text : List ℕ) (n : ℕ) (desk : DeskNa
     → IsEachOnce desk.terms.seats seats → Closes desk seats book → HeadlineFor room text n book
 headline-of room text n desk seats book terms some all once closes = record {
   opening = closes.opening ∙ terms.0;
+  kept = closes.kept ∙ ap (λ (r : Option ℕ). is_some r) terms.1;
   replayed = closes.replayed;
   lawful = closes.lawful;
   entered = subst (λ (l : List Sitting). All (IsEntered book.entries) l) (sym closes.seats_are) closes.entered;

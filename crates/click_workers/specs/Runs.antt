@@ -1,5 +1,5 @@
 -- What whole runs leave.
-use Rattle.std.specs.Prelude.{◌≡◌, ◌==◌, count_by, ℕ, List, [], ◌∷◌, map, drop, Bool, Option, Some, None, Result}
+use Rattle.std.specs.Prelude.{◌≡◌, ◌==◌, count_by, ℕ, List, [], ◌∷◌, map, drop, Bool, Option, Some, None, is_some, Result}
 use Rattle.std.specs.List.{All}
 use Rattle.click_router.specs.Opened.{IsFirstFault}
 use Rattle.click_router.specs.One.{Listing, IsListing, check}
@@ -35,9 +35,10 @@ IsOpenedWith text n desk = IsOpenedFor (Some 1048576) text n desk
 
 -- The book is a history of one thread from this text, of so many seats: made one after another from what the text opens, its calls get just their replies and
 -- lead to its router, and every configuration that was installed is lawful. It has of each seat just the calls that the seat made, in their order and with
--- the replies that it got, each number is that of one seat, and each entry is of one of them. It has no feeds. Every seat's desk was opened with this text, this room and so many seats.
+-- the replies that it got, each number is that of one seat, and each entry is of one of them. Its entries are kept where the room has a bound. It has no feeds. Every seat's desk was opened with this text, this room and so many seats.
 pub record HeadlineFor (room : Option ℕ) (text : List ℕ) (n : ℕ) (book : Booklet) : Type 0 where
   pub opening : book.opening ≡ text
+  pub kept : book.keeps ≡ is_some room
   pub replayed : Legal book.opening book.entries book.router
   pub lawful : EachLawful (installs book.opening book.entries)
   pub entered : All (IsEntered book.entries) book.seats
