@@ -3,7 +3,7 @@
 ghost use Rattle.std.specs.Prelude.{◌≡◌, ◌++◌, IfOk, codes};
 ghost use Rattle.std.specs.List.{before_last};
 ghost use Rattle.click_router.specs.One.{is_dot};
-ghost use Rattle.click_control.specs.ReplyText.{text_of, read_text, done_text, good_text, refused_text, failed_text, denied_text, uncalled_text, naming, data_text, error_text};
+ghost use Rattle.click_control.specs.ReplyText.{text_of, read_text, done_text, good_text, refused_text, failed_text, denied_text, naming, data_text, error_text};
 
 use crate::command::{Answer, Command};
 use crate::port::AskFault;
@@ -17,71 +17,102 @@ use std::alloc::{AllocError, Global};
 pub fn reply_text(alloc: Global, command: &Command, answer: &Answer) -> Result<Vec<u8>, AllocError>
     ensures { IfOk result (λ text. text.items ≡ text_of command.now answer.now) }
 {
-    match command {
-        Command::Read { handler, .. } => read_text(alloc, handler.as_slice(), answer),
-        Command::CheckRead { handler } => {
-            done_text(alloc, Way::Read, handler.as_slice(), answer)
-        }
-        Command::Write { handler, .. } | Command::CheckWrite { handler } => {
-            done_text(alloc, Way::Write, handler.as_slice(), answer)
-        }
-        Command::Quit => uncalled_text(alloc, answer, b"200 Goodbye!\r\n"),
-        Command::Syntax => uncalled_text(alloc, answer, b"500 Syntax error\r\n"),
-        Command::LineTooLong => uncalled_text(alloc, answer, b"500 Line too long\r\n"),
-        Command::DataTooLong => uncalled_text(alloc, answer, b"500 Data too long\r\n"),
-        Command::Unknown { word } => {
-            let text = naming(alloc, b"501 Unimplemented command ", word.as_slice(), b"")?;
-            uncalled_text(alloc, answer, &text)
-        }
+    match answer {
+        Answer::Replied(reply) => replied_text(alloc, command, reply),
+        Answer::Failed(fault) => unreplied_text(alloc, command, *fault),
+        Answer::NoCall => uncalled_text(alloc, command),
     }
 }
 
-/// The text for a command that makes no call.
-fn uncalled_text(alloc: Global, answer: &Answer, text: &[u8]) -> Result<Vec<u8>, AllocError>
-    ensures { IfOk result (λ lines. lines.items ≡ uncalled_text answer.now text.now) }
+/// The lines for a command whose call has this reply.
+pub(crate) fn replied_text(
+    alloc: Global,
+    command: &Command,
+    reply: &Reply,
+) -> Result<Vec<u8>, AllocError>
+    ensures { IfOk result (λ text. text.items ≡ text_of command.now (Answer.Replied reply.now)) }
 {
-    match answer {
-        Answer::NoCall => Vec::from_slice(alloc, text),
-        Answer::Replied(_) | Answer::Failed(_) => Ok(Vec::new(alloc)),
+    match command {
+        Command::Read { handler, .. } => read_text(alloc, handler.as_slice(), reply),
+        Command::CheckRead { handler } => done_text(alloc, Way::Read, handler.as_slice(), reply),
+        Command::Write { handler, .. } | Command::CheckWrite { handler } => {
+            done_text(alloc, Way::Write, handler.as_slice(), reply)
+        }
+        Command::Quit
+        | Command::Syntax
+        | Command::LineTooLong
+        | Command::DataTooLong
+        | Command::Unknown { .. } => Ok(Vec::new(alloc)),
+    }
+}
+
+/// The lines for a command whose call has no reply.
+pub(crate) fn unreplied_text(
+    alloc: Global,
+    command: &Command,
+    fault: AskFault,
+) -> Result<Vec<u8>, AllocError>
+    ensures { IfOk result (λ text. text.items ≡ text_of command.now (Answer.Failed fault)) }
+{
+    match command {
+        Command::Read { .. }
+        | Command::Write { .. }
+        | Command::CheckRead { .. }
+        | Command::CheckWrite { .. } => failed_text(alloc, fault),
+        Command::Quit
+        | Command::Syntax
+        | Command::LineTooLong
+        | Command::DataTooLong
+        | Command::Unknown { .. } => Ok(Vec::new(alloc)),
+    }
+}
+
+/// The lines for a command that makes no call.
+pub(crate) fn uncalled_text(alloc: Global, command: &Command) -> Result<Vec<u8>, AllocError>
+    ensures { IfOk result (λ text. text.items ≡ text_of command.now Answer.NoCall) }
+{
+    match command {
+        Command::Read { handler, .. } | Command::CheckRead { handler } => {
+            denied_text(alloc, Way::Read, handler.as_slice())
+        }
+        Command::Write { handler, .. } | Command::CheckWrite { handler } => {
+            denied_text(alloc, Way::Write, handler.as_slice())
+        }
+        Command::Quit => Vec::from_slice(alloc, b"200 Goodbye!\r\n"),
+        Command::Syntax => Vec::from_slice(alloc, b"500 Syntax error\r\n"),
+        Command::LineTooLong => Vec::from_slice(alloc, b"500 Line too long\r\n"),
+        Command::DataTooLong => Vec::from_slice(alloc, b"500 Data too long\r\n"),
+        Command::Unknown { word } => {
+            naming(alloc, b"501 Unimplemented command ", word.as_slice(), b"")
+        }
     }
 }
 
 /// The reply to a read of a handler.
-fn read_text(alloc: Global, handler: &[u8], answer: &Answer) -> Result<Vec<u8>, AllocError>
-    ensures { IfOk result (λ text. text.items ≡ read_text handler.now answer.now) }
+fn read_text(alloc: Global, handler: &[u8], reply: &Reply) -> Result<Vec<u8>, AllocError>
+    ensures { IfOk result (λ text. text.items ≡ read_text handler.now (Answer.Replied reply.now)) }
 {
-    match answer {
-        Answer::Replied(Reply::Value(bytes)) => value_text(alloc, handler, bytes.as_slice()),
-        Answer::Replied(Reply::Refused(why)) => refused_text(alloc, Way::Read, handler, why),
-        Answer::Failed(fault) => failed_text(alloc, *fault),
-        Answer::NoCall => denied_text(alloc, Way::Read, handler),
-        Answer::Replied(
-            Reply::Done | Reply::Entered(_) | Reply::Worked(_) | Reply::Sent(_) | Reply::NoDevice,
-        ) => Ok(Vec::new(alloc)),
+    match reply {
+        Reply::Value(bytes) => value_text(alloc, handler, bytes.as_slice()),
+        Reply::Refused(why) => refused_text(alloc, Way::Read, handler, why),
+        Reply::Done | Reply::Entered(_) | Reply::Worked(_) | Reply::Sent(_) | Reply::NoDevice => {
+            Ok(Vec::new(alloc))
+        }
     }
 }
 
 /// The reply to a write, and to the question whether a handler can be used that way.
-fn done_text(
-    alloc: Global,
-    way: Way,
-    handler: &[u8],
-    answer: &Answer,
-) -> Result<Vec<u8>, AllocError>
-    ensures { IfOk result (λ text. text.items ≡ done_text way handler.now answer.now) }
+fn done_text(alloc: Global, way: Way, handler: &[u8], reply: &Reply) -> Result<Vec<u8>, AllocError>
+    ensures { IfOk result (λ text. text.items ≡ done_text way handler.now (Answer.Replied reply.now)) }
 {
-    match answer {
-        Answer::Replied(Reply::Done) => good_text(alloc, way, handler),
-        Answer::Replied(Reply::Refused(why)) => refused_text(alloc, way, handler, why),
-        Answer::Failed(fault) => failed_text(alloc, *fault),
-        Answer::NoCall => denied_text(alloc, way, handler),
-        Answer::Replied(
-            Reply::Value(_)
-            | Reply::Entered(_)
-            | Reply::Worked(_)
-            | Reply::Sent(_)
-            | Reply::NoDevice,
-        ) => Ok(Vec::new(alloc)),
+    match reply {
+        Reply::Done => good_text(alloc, way, handler),
+        Reply::Refused(why) => refused_text(alloc, way, handler, why),
+        Reply::Value(_)
+        | Reply::Entered(_)
+        | Reply::Worked(_)
+        | Reply::Sent(_)
+        | Reply::NoDevice => Ok(Vec::new(alloc)),
     }
 }
 
@@ -95,12 +126,16 @@ fn good_text(alloc: Global, way: Way, handler: &[u8]) -> Result<Vec<u8>, AllocEr
     }
 }
 
+/// How many bytes a line `DATA n` may have, with its end.
+const LONGEST_DATA: usize = 27;
+
 /// The lines of a read that has a value.
 fn value_text(alloc: Global, handler: &[u8], bytes: &[u8]) -> Result<Vec<u8>, AllocError>
     ensures { IfOk result (λ text. text.items ≡ naming (codes "200 Read handler ") handler.now (codes " OK") ++ data_text bytes.now) }
 {
     let mut digits = Buffer::new();
-    let mut text = good_text(alloc, Way::Read, handler)?;
+    let more = bytes.len().saturating_add(LONGEST_DATA);
+    let mut text = naming_with(alloc, b"200 Read handler ", handler, b" OK", more)?;
     text.extend_from_slice(b"DATA ")?;
     text.extend_from_slice(digits.format(bytes.len()).as_bytes())?;
     text.extend_from_slice(b"\r\n")?;
@@ -177,10 +212,25 @@ fn error_text(alloc: Global, way: Way, handler: &[u8], fault: &[u8]) -> Result<V
 fn naming(alloc: Global, front: &[u8], name: &[u8], back: &[u8]) -> Result<Vec<u8>, AllocError>
     ensures { IfOk result (λ text. text.items ≡ naming front.now name.now back.now) }
 {
-    let mut text = Vec::from_slice(alloc, front)?;
-    text.extend_from_slice(b"'")?;
+    naming_with(alloc, front, name, back, 0)
+}
+
+/// The same, with room for so many bytes behind it.
+fn naming_with(
+    alloc: Global,
+    front: &[u8],
+    name: &[u8],
+    back: &[u8],
+    more: usize,
+) -> Result<Vec<u8>, AllocError>
+    ensures { IfOk result (λ text. text.items ≡ naming front.now name.now back.now) }
+{
+    let room = front.len().saturating_add(name.len()).saturating_add(back.len());
+    let mut text = Vec::with_capacity(alloc, room.saturating_add(more).saturating_add(4))?;
+    text.extend_from_slice(front)?;
+    text.push(b'\'')?;
     text.extend_from_slice(name)?;
-    text.extend_from_slice(b"'")?;
+    text.push(b'\'')?;
     text.extend_from_slice(back)?;
     text.extend_from_slice(b"\r\n")?;
     Ok(text)

@@ -9,10 +9,10 @@ ghost use Rattle.click_control.specs.kept.Going.{SoFar, Goes, Written, WroteFron
 ghost use Rattle.click_control.specs.ReplyText.{text_of, greeting};
 ghost use Rattle.click_control.specs.declared.command.Answer.{Answer};
 
-use crate::command::{Answer, Command};
+use crate::command::Command;
 use crate::peer::{Failed, Sink, Source};
 use crate::port::Port;
-use crate::reply::reply_text;
+use crate::reply::{replied_text, uncalled_text, unreplied_text};
 use crate::session::Session;
 use crate::turns::{Open, Turns};
 use click_router::Call;
@@ -192,8 +192,7 @@ fn take_up<W: Sink, P: Port, T: Turns>(
     if !turns.before(nth) {
         return Ok(Some(Ended::GateClosed));
     }
-    let answer = ask(alloc, port, call);
-    reply(alloc, writer, &command, &answer)?;
+    ask_and_reply(alloc, writer, port, &command, call)?;
     turns.after(nth);
     Ok(ending)
 }
@@ -256,30 +255,35 @@ fn copy(alloc: Global, bytes: &Sequence<u8>) -> Result<Sequence<u8>, AllocError>
     Ok(Sequence::of(Vec::from_slice(alloc, bytes.as_slice())?))
 }
 
-/// Asks the port, where there is a call.
-fn ask<P: Port>(alloc: Global, port: &mut P, call: Option<Call>) -> Answer
+/// Asks the port, where there is a call, and writes the reply to the command in full. The port's reply stays where it is: it may be as large as a packet.
+fn ask_and_reply<W: Sink, P: Port>(
+    alloc: Global,
+    writer: &mut W,
+    port: &mut P,
+    command: &Command,
+    call: Option<Call>,
+) -> Result<(), ServeFault>
     requires { IfSome call (λ c. is_poll c ≡ false) }
-    ensures { Answered P.asks port.old call result port.new }
+    ensures { (answer : Answer) × Answered P.asks port.old call answer port.new
+        × Written result (W.output writer.old) (W.output writer.new) (text_of command.now answer) }
 {
     match call {
-        None => Answer::NoCall,
-        Some(call) => match port.ask(alloc, call) {
-            Ok(reply) => Answer::Replied(reply),
-            Err(fault) => Answer::Failed(fault),
-        },
+        None => reply(writer, uncalled_text(alloc, command)),
+        Some(call) => {
+            let asked = port.ask(alloc, call);
+            match &asked {
+                Ok(answer) => reply(writer, replied_text(alloc, command, answer)),
+                Err(fault) => reply(writer, unreplied_text(alloc, command, *fault)),
+            }
+        }
     }
 }
 
-/// Writes the reply to a command in full.
-fn reply<W: Sink>(
-    alloc: Global,
-    writer: &mut W,
-    command: &Command,
-    answer: &Answer,
-) -> Result<(), ServeFault>
-    ensures { Written result (W.output writer.old) (W.output writer.new) (text_of command.now answer.now) }
+/// Writes the lines of a reply in full, where there was memory for them.
+fn reply<W: Sink>(writer: &mut W, lines: Result<Vec<u8>, AllocError>) -> Result<(), ServeFault>
+    ensures { (text : List ℕ) → IfOk lines (λ l. l.items ≡ text) → Written result (W.output writer.old) (W.output writer.new) text }
 {
-    let Ok(text) = reply_text(alloc, command, answer) else {
+    let Ok(text) = lines else {
         return Err(ServeFault::NoMemory);
     };
     match write_all(writer, &text) {

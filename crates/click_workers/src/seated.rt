@@ -55,8 +55,8 @@ impl<'a, T: Handlers, R: Wait, B: Wait + Drop> Port for Seated<'a, T, R, B> {
     ghost asks = { SeatAsks };
 
     fn ask(&mut self, _alloc: Global, call: Call) -> Result<Reply, AskFault> {
-        match self.desk.call(self.rt, &mut self.seat, call) {
-            Ok(reply) => Ok(reply),
+        match self.desk.record(self.rt, &mut self.seat, call) {
+            Ok(reply) => Ok(reply.into_reply()),
             Err(DeskFault::NoMemory) => Err(AskFault::NoMemory),
             Err(DeskFault::HistoryFull) => Err(AskFault::HistoryFull),
         }
