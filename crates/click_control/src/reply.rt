@@ -108,11 +108,8 @@ fn done_text(alloc: Global, way: Way, handler: &[u8], reply: &Reply) -> Result<V
     match reply {
         Reply::Done => good_text(alloc, way, handler),
         Reply::Refused(why) => refused_text(alloc, way, handler, why),
-        Reply::Value(_)
-        | Reply::Entered(_)
-        | Reply::Worked(_)
-        | Reply::Sent(_)
-        | Reply::NoDevice => Ok(Vec::new(alloc)),
+        Reply::Value(_) | Reply::Entered(_) | Reply::Worked(_) | Reply::Sent(_) | Reply::NoDevice =>
+            Ok(Vec::new(alloc)),
     }
 }
 
@@ -225,7 +222,10 @@ fn naming_with(
 ) -> Result<Vec<u8>, AllocError>
     ensures { IfOk result (λ text. text.items ≡ naming front.now name.now back.now) }
 {
-    let room = front.len().saturating_add(name.len()).saturating_add(back.len());
+    let room = front
+        .len()
+        .saturating_add(name.len())
+        .saturating_add(back.len());
     let mut text = Vec::with_capacity(alloc, room.saturating_add(more).saturating_add(4))?;
     text.extend_from_slice(front)?;
     text.push(b'\'')?;

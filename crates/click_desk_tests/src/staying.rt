@@ -16,7 +16,8 @@ use std::test::Fail;
 use std::thread::Threads;
 
 /// A source of three packets, one a Round, and a switch.
-const TEXT: &[u8] = b"InfiniteSource(ab, 3, 1) -> c :: Counter -> Discard; Idle -> s :: Switch(0); s [0] -> Discard; s [1] -> Discard; s [2] -> Discard; s [3] -> Discard;";
+const TEXT: &[u8] =
+    b"InfiniteSource(ab, 3, 1) -> c :: Counter -> Discard; Idle -> s :: Switch(0); s [0] -> Discard; s [1] -> Discard; s [2] -> Discard; s [3] -> Discard;";
 
 /// What the sessions of each place write, one after another.
 const TURNS: [&[u8]; 3] = [
@@ -200,7 +201,13 @@ fn stays<T: Handlers + Send + Drop, R: Threads + Wait + Sync>(
     let switch = is_left(alloc, &mut ran.book.router, b"s.switch", case.switch)?;
     let count = is_left(alloc, &mut ran.book.router, b"c.count", case.count)?;
     let kept = !ran.book.entries.as_slice().is_empty();
-    Ok(switch & count & !kept & are_ended(&ran, case) & (came == case.turns.wrapping_mul(case.places as u64)))
+    Ok(
+        switch
+            & count
+            & !kept
+            & are_ended(&ran, case)
+            & (came == case.turns.wrapping_mul(case.places as u64)),
+    )
 }
 
 #[derive(Drop)]
@@ -223,7 +230,10 @@ impl TakesTable for Staying {
 fn places_serve_one_after_another(rt: HostRuntime) -> Result<(), Fail> {
     let alloc = rt.alloc();
     for case in CASES {
-        assert!(rt; with_table(&rt, alloc, Staying { alloc, case })?, "{case:?}");
+        assert!(rt;
+            with_table(&rt, alloc, Staying { alloc, case })?,
+            "{case:?}"
+        );
     }
     Ok(())
 }

@@ -27,7 +27,8 @@ impl Pause {
 
     /// Sleeps. Nobody wakes it before its time.
     pub(crate) fn sleep<R: Wait>(&mut self, rt: &R) {
-        self.parker.park_timeout(rt, Duration::from_micros(self.next));
+        self.parker
+            .park_timeout(rt, Duration::from_micros(self.next));
         self.next = self.next.saturating_mul(2).min(self.longest);
     }
 

@@ -126,9 +126,7 @@ fn open_for<'a, T: Drop, R: Wait>(
 {
     let inlets = Vec::new(alloc);
     match room {
-        Some(room) => {
-            Desk::open_with_views(rt, alloc, table, text, room, seats, inlets, views)
-        }
+        Some(room) => { Desk::open_with_views(rt, alloc, table, text, room, seats, inlets, views) }
         None => Desk::open_live(rt, alloc, table, text, seats, inlets, views),
     }
 }
@@ -306,7 +304,15 @@ pub fn run<T: Handlers + Drop, S: Source, W: Sink, R: Wait>(
     ensures never_close { IfErr result IsNoClose }
     ensures view_asked { IfErr result (IsViewAsked (option_map (λ n. n.now) check.entry)) }
 {
-    let Opened { desk, seats, asked } = match open_desk(rt, alloc, table, text, Some(ROOM), 1, check) {
+    let Opened { desk, seats, asked } = match open_desk(
+        rt,
+        alloc,
+        table,
+        text,
+        Some(ROOM),
+        1,
+        check,
+    ) {
         Ok(opened) => opened,
         Err(fault) => return Err(fault),
     };

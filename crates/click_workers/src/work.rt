@@ -85,9 +85,7 @@ pub(crate) fn work_all<T: Handlers + Send + Drop, D: Door, G: Gate, R: Threads +
             move || -> (bool, Seat<T>)
                 requires { IsSync R.row × IsSync G.row × (seat.desk ≡ desk.now) × (seat.calls ≡ []) }
                 ensures { SameSeat seat result.1 × DrivesFor G.gives G.told gate.entry.now who extent.rounds result.1 result.0 }
-            {
-                drive_for(rt, desk, seat, gate, who, extent.rounds, places)
-            },
+            { drive_for(rt, desk, seat, gate, who, extent.rounds, places) },
             move || -> Work<T>
                 requires { IsSync R.row × IsSync D.row × IsSync G.row × IsSend T.row × Ready desk.now sessions (vec_len rest.seats) rest.seats.items rest.ended.items rest.drivers.items (vec_capacity rest.ended) (vec_capacity rest.drivers) × (0 < extent.turns) }
                 ensures { All (IsOf desk.entry.now) result.seats.items
@@ -111,7 +109,16 @@ pub(crate) fn work_all<T: Handlers + Send + Drop, D: Door, G: Gate, R: Threads +
                 ensures { SameSeat seat result.1 × InTurn (Attends D.lets_in D.Reader.input D.Writer.output G.gives G.told door.entry.now gate.entry.now readonly who) extent.turns seat result.1 result.0 }
             {
                 attend_in_turn(
-                    rt, alloc, desk, seat, readonly, door, gate, who, extent.turns, places,
+                    rt,
+                    alloc,
+                    desk,
+                    seat,
+                    readonly,
+                    door,
+                    gate,
+                    who,
+                    extent.turns,
+                    places,
                 )
             },
             move || -> Work<T>
