@@ -304,15 +304,8 @@ pub fn run<T: Handlers + Drop, S: Source, W: Sink, R: Wait>(
     ensures never_close { IfErr result IsNoClose }
     ensures view_asked { IfErr result (IsViewAsked (option_map (λ n. n.now) check.entry)) }
 {
-    let Opened { desk, seats, asked } = match open_desk(
-        rt,
-        alloc,
-        table,
-        text,
-        Some(ROOM),
-        1,
-        check,
-    ) {
+    let room = Some(ROOM);
+    let Opened { desk, seats, asked } = match open_desk(rt, alloc, table, text, room, 1, check) {
         Ok(opened) => opened,
         Err(fault) => return Err(fault),
     };
