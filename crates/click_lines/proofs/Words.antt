@@ -12,10 +12,10 @@ use Rattle.click_lines.proofs.Cutting.{lacks, lacks-append, other, unlike}
 
 -- ---- digits
 
-abbrev high : ℕ → ℕ
+abbrev pub high : ℕ → ℕ
 high b = slice_index lower_digits (b / 16)
 
-abbrev low : ℕ → ℕ
+abbrev pub low : ℕ → ℕ
 low b = slice_index lower_digits (b % 16)
 
 digit_once : (d e : ℕ) → d < 16 → e < 16 → slice_index lower_digits d ≡ slice_index lower_digits e → d ≡ e
@@ -34,14 +34,14 @@ by_test true x y = inl (refl, refl)
 by_test false x y = inr refl
 
 -- the first byte stands for itself, or as a backslash and two digits
-shape : (least b : ℕ) (bs : List ℕ) → ((is_plain least b ≡ true) × (spelled least (b ∷ bs) ≡ b ∷ spelled least bs)) ⊎ (spelled least (b ∷ bs) ≡ 92 ∷ high b ∷ low b ∷ spelled least bs)
+pub shape : (least b : ℕ) (bs : List ℕ) → ((is_plain least b ≡ true) × (spelled least (b ∷ bs) ≡ b ∷ spelled least bs)) ⊎ (spelled least (b ∷ bs) ≡ 92 ∷ high b ∷ low b ∷ spelled least bs)
 unfolding encode_with
 shape least b bs = elim (by_test (is_plain least b) (b ∷ []) (92 ∷ encode_lower (b ∷ []))) [
   | inl plain ↦ inl (plain.0, ap (λ (x : List ℕ). x ++ spelled least bs) plain.1)
   | inr coded ↦ inr (ap (λ (x : List ℕ). x ++ spelled least bs) coded)
 ]
 
-no_backslash : (least b : ℕ) → is_plain least b ≡ true → b ≡ 92 → ⊥
+pub no_backslash : (least b : ℕ) → is_plain least b ≡ true → b ≡ 92 → ⊥
 no_backslash least b plain = unlike b 92 (and_parts (nat_le least b && nat_le b 126) (not (b == 92)) plain).1
 
 at_least : (least b : ℕ) → is_plain least b ≡ true → least ≤ b
