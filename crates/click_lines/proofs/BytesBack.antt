@@ -1,7 +1,7 @@
 -- Spelled bytes are read back.
-use Rattle.std.proofs.Common.{◌≡◌, ◌⊎◌, ℕ, ◌<◌, List, [], ◌∷◌, ◌++◌, length, append_assoc, ap, Ok, zero, suc, refl, sym, ◌∙◌, inl, inr, arith}
+use Rattle.std.proofs.Common.{◌≡◌, ℕ, ◌<◌, List, [], ◌∷◌, ◌++◌, length, append_assoc, ap, Ok, zero, suc, refl, sym, ◌∙◌, inl, inr, arith}
 use Rattle.std.proofs.lemmas.List.{append-nil}
-use Rattle.hex.specs.Hex.{IsBytes, decode_pairs, decode_sized, encode_with, lower_digits}
+use Rattle.hex.specs.Hex.{IsBytes, decode_sized, encode_with, lower_digits}
 use Rattle.hex.proofs.HexLemmas.{IsDigits-lower_digits, decode_pairs-encode_with}
 use Rattle.click_lines.specs.Spelling.{spelled}
 use Rattle.click_lines.specs.Lines.{AreBytes}

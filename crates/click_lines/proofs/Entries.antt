@@ -1,13 +1,12 @@
 -- A line is that of one seat, one call and one reply's text.
-use Rattle.std.proofs.Common.{◌≡◌, ℕ, ◌+◌, ◌*◌, ◌<◌, ◌^◌, ◌==◌, Bool, true, false, not, List, [], ◌∷◌, ◌++◌, length, slice_index, refl, sym, ap, ◌∙◌, arith, subst, codes}
+use Rattle.std.proofs.Common.{◌≡◌, ℕ, ◌+◌, ◌*◌, ◌<◌, ◌==◌, true, false, List, [], ◌∷◌, length, slice_index, refl, sym, ap, ◌∙◌, arith, subst, codes}
 use Rattle.std.specs.Prelude.{decimal}
-use Rattle.std.specs.List.{AllByRecursion}
 use Rattle.std.proofs.lemmas.Fmt.{decimal_injective}
 use Rattle.click_packet.specs.Packet.{Packet}
 use Rattle.click_router.specs.declared.call.Call.{Call}
 use Rattle.click_router.specs.declared.call.Call.TheVariants as call
 use Rattle.click_lines.specs.Spelling.{joined, word, words}
-use Rattle.click_lines.specs.Lines.{AreBytes, IsPacketOfBytes, IsCallOfBytes, IsLineOfBytes, call_line, call_words, line_text, packet_word, packets_word}
+use Rattle.click_lines.specs.Lines.{AreBytes, IsCallOfBytes, IsLineOfBytes, call_line, call_words, line_text, packet_word, packets_word}
 use Rattle.click_lines.specs.declared.line.Line.{Line}
 use Rattle.click_lines.proofs.Cutting.{AllLack, joined_once, lacks, lacks-joined}
 use Rattle.click_lines.proofs.Words.{lacks-decimal, lacks-spelled, spelled_once}

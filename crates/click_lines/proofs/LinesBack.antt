@@ -1,5 +1,5 @@
 -- Calls and lines are read back.
-use Rattle.std.proofs.Common.{◌≡◌, ℕ, ◌+◌, ◌<◌, ◌≤◌, ◌^◌, Option, Some, None, Result, Ok, Err, List, [], ◌∷◌, ◌++◌, length, true, refl, sym, ap, ◌∙◌, subst, arith, codes}
+use Rattle.std.proofs.Common.{◌≡◌, ℕ, ◌≤◌, Option, Some, Result, Ok, Err, List, [], ◌∷◌, length, refl, sym, ap, ◌∙◌, subst, arith}
 use Rattle.std.specs.Prelude.{◌==◌, IfOk, if◌then◌else◌, decimal}
 use Rattle.std.specs.List.{AllByRecursion}
 use Rattle.std.proofs.lemmas.List.{append-nil}
@@ -8,13 +8,13 @@ use Rattle.click_router.specs.declared.call.Call.{Call}
 use Rattle.click_router.specs.declared.call.Call.TheVariants as call
 use Rattle.click_lines.specs.declared.line.Line.{Line}
 use Rattle.click_lines.specs.Spelling.{joined, word, words}
-use Rattle.click_lines.specs.Lines.{AreBytes, IsPacketOfBytes, IsCallOfBytes, IsLineOfBytes, call_line, call_words, line_text, packet_word, packets_word}
+use Rattle.click_lines.specs.Lines.{AreBytes, IsPacketOfBytes, IsCallOfBytes, IsLineOfBytes, call_line, call_words, line_text}
 use Rattle.click_lines.specs.Reading.{HasPacketsThatFit, IsLaidOut, IsPacket, ReadsBytes, before, after}
 use Rattle.click_lines.specs.Kinds.{kind_word}
 use Rattle.click_lines.specs.declared.kind.Kind.{Kind}
 use Rattle.click_lines.specs.declared.kind.Kind.TheVariants as kind
 use Rattle.click_lines.proofs.Cuts.{first_part}
-use Rattle.click_lines.proofs.Cutting.{AllLack, lacks}
+use Rattle.click_lines.proofs.Cutting.{AllLack}
 use Rattle.click_lines.proofs.Entries.{columns, first_word, no_blanks, number}
 
 -- ---- the words of a call

@@ -1,5 +1,5 @@
 -- Packets are known by their words.
-use Rattle.std.proofs.Common.{◌≡◌, ◌≢◌, ◌⊎◌, ℕ, ◌+◌, ◌*◌, ◌/◌, ◌%◌, ◌<◌, ◌^◌, ◌==◌, Bool, true, false, not, ◌&&◌, List, [], ◌∷◌, ◌++◌, map, length, slice_index, All, Result, Ok, Err, zero, suc, refl, sym, ap, ◌∙◌, inl, inr, arith, subst, codes}
+use Rattle.std.proofs.Common.{◌≡◌, ◌⊎◌, ℕ, ◌+◌, ◌/◌, ◌%◌, ◌<◌, ◌^◌, ◌==◌, Bool, true, false, not, ◌&&◌, List, [], ◌∷◌, ◌++◌, map, length, slice_index, All, Ok, zero, suc, refl, sym, ap, ◌∙◌, inl, inr, arith, subst, codes}
 use Rattle.std.specs.Prelude.{if◌then◌else◌, decimal}
 use Rattle.std.specs.List.{AllByRecursion}
 use Rattle.std.specs.Str.{bytes_eq}
@@ -7,13 +7,13 @@ use Rattle.std.proofs.lemmas.Bool.{and_parts, and_from, eqb-true}
 use Rattle.std.proofs.lemmas.Fmt.{decimal_injective}
 use Rattle.std.proofs.lemmas.List.Elements.{All-nil, All-cons}
 use Rattle.std.proofs.lemmas.Slice.Eq.{bytes_eq-Decides}
-use Rattle.hex.specs.Hex.{IsBytes, decode_of, encode_with, encode_lower, lower_digits}
+use Rattle.hex.specs.Hex.{IsBytes, decode_of, encode_with, lower_digits}
 use Rattle.click_packet.specs.Packet.{Packet}
 use Rattle.click_classes.specs.Values.{address}
 use Rattle.click_handlers.specs.Reads.{dotted}
 use Rattle.click_handlers.proofs.Dotted.{dotted-read}
 use Rattle.click_lines.specs.Digits.{IsHex, hex_text}
-use Rattle.click_lines.specs.Spelling.{joined, behind}
+use Rattle.click_lines.specs.Spelling.{behind}
 use Rattle.click_lines.specs.Lines.{AreBytes, IsPacketOfBytes, is_unmarked, marks, packet_word, packets_word}
 use Rattle.click_lines.proofs.Cutting.{AllLack, Begins, cut_once, joined_once, lacks, lacks-append, lacks-joined}
 use Rattle.click_lines.proofs.ReadingBack.{reads_back}

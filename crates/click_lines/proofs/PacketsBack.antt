@@ -1,5 +1,5 @@
 -- Packets with commas between them are read back.
-use Rattle.std.proofs.Common.{◌≡◌, ◌⊎◌, ◌≤◌, Bool, true, false, Some, Option, inl, inr, subst, ℕ, ◌+◌, ◌<◌, List, [], ◌∷◌, ◌++◌, map, length, append_assoc, refl, sym, ap, ◌∙◌, arith}
+use Rattle.std.proofs.Common.{◌≡◌, ◌⊎◌, true, Some, Option, inl, inr, subst, ℕ, ◌<◌, List, [], ◌∷◌, ◌++◌, map, length, refl, sym, ap, ◌∙◌, arith}
 use Rattle.std.specs.List.{AllByRecursion}
 use Rattle.std.proofs.lemmas.List.{append-nil, length-append}
 use Rattle.click_packet.specs.Packet.{Packet}
@@ -8,7 +8,7 @@ use Rattle.click_handlers.specs.Reads.{dotted}
 use Rattle.click_lines.specs.Digits.{IsHex, IsNoPacket, IsPacketOf, SpellsNone, hex_text}
 use Rattle.click_lines.specs.declared.digits.HexFault.{HexFault}
 use Rattle.click_lines.specs.declared.digits.HexFault.TheVariants.{NoDigit, NoDigits, NoMemory, OddDigits, TooLong}
-use Rattle.click_lines.specs.Lines.{IsPacketOfBytes, is_unmarked, marks, packet_word, packets_word}
+use Rattle.click_lines.specs.Lines.{IsPacketOfBytes, is_unmarked, packet_word, packets_word}
 use Rattle.click_lines.specs.Reading.{IsPacket, ReadsMarks, before, after}
 use Rattle.click_lines.specs.Spelling.{behind}
 use Rattle.click_lines.proofs.Cuts.{after-at, after-lacks, before-at, before-lacks, first_part}

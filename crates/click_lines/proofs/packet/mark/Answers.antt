@@ -1,5 +1,4 @@
 use Rattle.std.proofs.Common.{◌≡◌, Some, None, refl, sym, ◌∙◌}
-use Rattle.click_lines.specs.Reading.{before, after}
 use Rattle.click_lines.proofs.NumbersBack.{destination_back, paint_back}
 use Rattle.click_lines.proofs.packet.mark.Goals as goal
 

@@ -1,5 +1,4 @@
 use Rattle.std.proofs.Common.{◌≡◌, ◌<◌, length, Some, None, ap, arith, sym, ◌∙◌}
-use Rattle.click_packet.specs.Packet.{Packet}
 use Rattle.click_lines.specs.Digits.{IsPacketOf, SpellsNone}
 use Rattle.click_lines.specs.Reading.{ReadsMarks, before, after}
 use Rattle.click_lines.proofs.PacketsBack.{marked_back, marks_read, plain_back, spells_some}

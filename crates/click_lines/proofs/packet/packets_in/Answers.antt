@@ -1,6 +1,5 @@
 use Rattle.std.proofs.Common.{◌≡◌, ◌<◌, [], ◌∷◌, ◌++◌, length, Some, None, ap, arith, refl, sym, ◌∙◌}
-use Rattle.click_packet.specs.Packet.{Packet}
-use Rattle.click_lines.specs.Reading.{ReadsPacket, before, after}
+use Rattle.click_lines.specs.Reading.{ReadsPacket, before}
 use Rattle.click_lines.proofs.Cuts.{after-shorter}
 use Rattle.click_lines.proofs.PacketsBack.{all_read, next_packet}
 use Rattle.click_lines.proofs.BytesBack.{one_more}

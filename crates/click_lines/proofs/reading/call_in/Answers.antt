@@ -1,4 +1,4 @@
-use Rattle.std.proofs.Common.{◌≡◌, List, ℕ, Option, Some, None, sym, ◌∙◌}
+use Rattle.std.proofs.Common.{◌≡◌, Option, Some, None, sym, ◌∙◌}
 use Rattle.click_router.specs.declared.call.Call.{Call}
 use Rattle.click_lines.specs.Kinds.{kind_word}
 use Rattle.click_lines.specs.Reading.{IsLaidOut, ReadsBytes, ReadsCall, before, after}

@@ -1,5 +1,4 @@
-use Rattle.std.proofs.Common.{◌≡◌, List, ℕ, Option, Some, None, refl, sym, ◌∙◌}
-use Rattle.click_router.specs.declared.call.Call.{Call}
+use Rattle.std.proofs.Common.{◌≡◌, Some, None, refl, sym, ◌∙◌}
 use Rattle.click_lines.specs.Reading.{ReadsBytes, ReadsCall, ReadsNumber, before, after}
 use Rattle.click_lines.proofs.LinesBack.{cut_line}
 use Rattle.click_lines.proofs.reading.parsed.Goals as goal

@@ -1,8 +1,8 @@
-use Rattle.std.proofs.Common.{◌≡◌, ◌∷◌, [], length, take, drop, Ok, ap, arith, refl}
+use Rattle.std.proofs.Common.{◌≡◌, ◌∷◌, [], length, take, Ok, ap, arith, refl}
 use Rattle.std.proofs.lemmas.List.{take_rest}
 use Rattle.hex.specs.Hex.{decode_sized}
 use Rattle.click_lines.specs.Spelling.{spelled}
-use Rattle.click_lines.proofs.BytesBack.{coded_first, pair_read, plain_first}
+use Rattle.click_lines.proofs.BytesBack.{coded_first, pair_read}
 use Rattle.click_lines.proofs.Words.{high, low}
 use Rattle.click_lines.proofs.spelling.first_byte.Goals as goal
 use Rattle.click_lines.proofs.spelling.first_byte.Goals.{then-behind-lt2-via-then-behind-lt2, then-behind-lt2-via-else-behind-lt2+then-is_err}
