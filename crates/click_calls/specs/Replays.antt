@@ -5,6 +5,7 @@ use Rattle.click_router.specs.State.{RouterState}
 use Rattle.click_router.specs.declared.call.Call.{Call}
 use Rattle.click_router.specs.declared.call.Reply.{Reply}
 use Rattle.click_lines.specs.Lines.{entry_line, line_text}
+use Rattle.click_lines.specs.Reading.{IsNoLine}
 use Rattle.click_lines.specs.ReplyLine.{reply_text}
 use Rattle.click_lines.specs.Spelling.{words}
 use Rattle.click_lines.specs.declared.line.Line.{Line}
@@ -22,12 +23,11 @@ pub record Agrees (s : RouterState) (line : List ℕ) (next : RouterState) : Typ
   pub answers : Answers s call next reply
 
 -- The line is of a call that a router answers in this state otherwise than was written: the text of the reply is another.
-pub record Differs (s : RouterState) (line : List ℕ) (written came : List ℕ) : Type 0 where
+pub record Differs (s : RouterState) (line : List ℕ) (written came : List ℕ) (next : RouterState) : Type 0 where
   pub said : Line
   pub is : line ≡ line_text said
   pub text_written : said.reply ≡ written
   pub reply : Reply
-  pub next : RouterState
   pub answers : Answers s said.call next reply
   pub text_came : reply_text reply ≡ came
   pub other : came ≢ written
@@ -40,18 +40,18 @@ Replays s (line ∷ lines) last = (next : RouterState) × Agrees s line next × 
 -- what the call of one line comes to
 abbrev pub IsAgain : RouterState → List ℕ → RouterState → Again → Type 0
 IsAgain s line next again.Same = Agrees s line next
-IsAgain s line next (again.Differs written came) = Differs s line written came
-IsAgain s line next again.NoLine = next ≡ s
+IsAgain s line next (again.Differs written came) = Differs s line written came next
+IsAgain s line next again.NoLine = IsNoLine line × (next ≡ s)
 
--- What the lines come to: all agree; or the first that does not is this one, counted from 1, those before it agree, and it differs so or is no line.
+-- What the lines come to: all agree; or the first that does not is this one, counted from 1, those before it agree, and it differs so, or no call with its reply is written so.
 abbrev pub IsReplayed : RouterState → List (List ℕ) → RouterState → Replayed → Type 0
 IsReplayed first lines last (replayed.Same count) = (count ≡ length lines) × Replays first lines last
 IsReplayed first lines last (replayed.Differs number written came) =
     (before : List (List ℕ)) × (line : List ℕ) × (after : List (List ℕ)) × (lines ≡ before ++ line ∷ after) × (number ≡ length before + 1)
-    × ((s : RouterState) × Replays first before s × Differs s line written came)
+    × ((s : RouterState) × Replays first before s × Differs s line written came last)
 IsReplayed first lines last (replayed.NoLine number) =
     (before : List (List ℕ)) × (line : List ℕ) × (after : List (List ℕ)) × (lines ≡ before ++ line ∷ after) × (number ≡ length before + 1)
-    × Replays first before last
+    × IsNoLine line × Replays first before last
 
 -- The line that tells it. The texts of replies are spelled, as in a line of a book.
 abbrev pub replayed_line : Replayed → List ℕ

@@ -1,8 +1,11 @@
 //! The program's command line.
 
 ghost use Rattle.std.specs.Prelude.{◌≡◌, IfOk, codes, false, is_some, true};
-ghost use Rattle.clap.specs.Built.{IsPlainArg, TakesValue};
+ghost use Rattle.clap.specs.Built.{IsParsedFrom, IsPlainArg, TakesValue};
 ghost use Rattle.clap.specs.Matches.{first_value, found_of};
+ghost use Rattle.clap.specs.declared.builder.command.Command.{Command};
+ghost use Rattle.clap.specs.declared.parser.matches.ArgMatches.{ArgMatches};
+ghost use Rattle.click_calls.specs.Asked.{AsksFor};
 
 use clap::{Arg, ArgAction, ArgMatches, Command, Error};
 use std::alloc::Global;
@@ -19,18 +22,28 @@ pub struct Options<'a> {
 /// What the words of a command line ask for, or what clap has to say of them. `-e` takes the next word whatever it is.
 pub fn options_of<'a>(alloc: Global, words: &'a [String]) -> Result<Options<'a>, Error>
     // Where clap has nothing to say there is a text.
-    ensures { IfOk result (λ options. is_some options.text ≡ true) }
+    ensures text { IfOk result (λ options. is_some options.text ≡ true) }
+    // They are what some parse found.
+    ensures asked { IfOk result (λ options. (command : Command) × (matches : ArgMatches) × IsParsedFrom command matches × AsksFor (found_of matches) options) }
 {
     let matches = parsed(alloc, words)?;
-    Ok(Options {
+    Ok(options_in(&matches))
+}
+
+/// What was found in the words.
+fn options_in<'a>(matches: &ArgMatches<'a>) -> Options<'a>
+    ensures { AsksFor (found_of matches.now) result }
+{
+    Options {
         text: matches.get_str("text"),
         replay: matches.get_flag("replay"),
-    })
+    }
 }
 
 /// What clap finds in the words.
 fn parsed<'a>(alloc: Global, words: &'a [String]) -> Result<ArgMatches<'a>, Error>
-    ensures { IfOk result (λ matches. is_some (first_value (found_of matches) (codes "text")) ≡ true) }
+    ensures text { IfOk result (λ matches. is_some (first_value (found_of matches) (codes "text")) ≡ true) }
+    ensures parsed { IfOk result (λ matches. (command : Command) × IsParsedFrom command matches) }
 {
     let command = Command::new(alloc, "click_calls")
         .about("A Click router that answers calls, one a line, on standard input and output")

@@ -1,13 +1,12 @@
 -- A line is that of one seat, one call and one reply's text.
-use Rattle.std.proofs.Common.{◌≡◌, ℕ, ◌+◌, ◌*◌, ◌<◌, ◌^◌, ◌==◌, Bool, true, false, not, List, [], ◌∷◌, ◌++◌, length, slice_index, refl, sym, ap, ◌∙◌, arith, subst, codes}
+use Rattle.std.proofs.Common.{◌≡◌, ℕ, ◌+◌, ◌*◌, ◌<◌, ◌==◌, true, false, List, [], ◌∷◌, length, slice_index, refl, sym, ap, ◌∙◌, arith, subst, codes}
 use Rattle.std.specs.Prelude.{decimal}
-use Rattle.std.specs.List.{AllByRecursion}
 use Rattle.std.proofs.lemmas.Fmt.{decimal_injective}
 use Rattle.click_packet.specs.Packet.{Packet}
 use Rattle.click_router.specs.declared.call.Call.{Call}
 use Rattle.click_router.specs.declared.call.Call.TheVariants as call
 use Rattle.click_lines.specs.Spelling.{joined, word, words}
-use Rattle.click_lines.specs.Lines.{AreBytes, IsPacketOfBytes, IsCallOfBytes, IsLineOfBytes, call_line, call_words, line_text, packet_word, packets_word}
+use Rattle.click_lines.specs.Lines.{AreBytes, IsCallOfBytes, IsLineOfBytes, call_line, call_words, line_text, packet_word, packets_word}
 use Rattle.click_lines.specs.declared.line.Line.{Line}
 use Rattle.click_lines.proofs.Cutting.{AllLack, joined_once, lacks, lacks-joined}
 use Rattle.click_lines.proofs.Words.{lacks-decimal, lacks-spelled, spelled_once}
@@ -15,15 +14,15 @@ use Rattle.click_lines.proofs.PacketWords.{lacks-packet, lacks-packets, packet_o
 
 -- ---- which call a word is
 
-abbrev first_word : List (List ℕ) → List ℕ
+abbrev pub first_word : List (List ℕ) → List ℕ
 first_word [] = []
 first_word (w ∷ ws) = w
 
 -- by its first byte and its length, each call's word has a number of its own
-abbrev number : List ℕ → ℕ
+abbrev pub number : List ℕ → ℕ
 number w = slice_index w 0 + 1000 * length w
 
-abbrev IsOf : ℕ → Call → Type 0
+abbrev pub IsOf : ℕ → Call → Type 0
 IsOf n d = elim (n == 4114) [
   | true ↦ (name : List ℕ) × (text : List ℕ) × (d ≡ call.Read name text)
   | false ↦ elim (n == 5119) [
@@ -50,7 +49,7 @@ IsOf n d = elim (n == 4114) [
   ]
 ]
 
-is_of : (d : Call) → IsOf (number (first_word (call_words d))) d
+pub is_of : (d : Call) → IsOf (number (first_word (call_words d))) d
 is_of (call.Read name text) = (name, text, refl)
 is_of (call.Write name text) = (name, text, refl)
 is_of (call.CheckRead name) = (name, refl)
@@ -144,7 +143,7 @@ no_blank bytes h = lacks-spelled 32 33 bytes h (omega arith) refl refl
 no_tab : (bytes : List ℕ) → AreBytes bytes → lacks 9 (word bytes) ≡ true
 no_tab bytes h = lacks-spelled 9 33 bytes h (omega arith) refl refl
 
-no_blanks : (c : Call) → IsCallOfBytes c → AllLack 32 (call_words c)
+pub no_blanks : (c : Call) → IsCallOfBytes c → AllLack 32 (call_words c)
 no_blanks (call.Read name text) h = (refl, (no_blank name h.0, (no_blank text h.1, tt)))
 no_blanks (call.Write name text) h = (refl, (no_blank name h.0, (no_blank text h.1, tt)))
 no_blanks (call.CheckRead name) h = (refl, (no_blank name h, tt))
@@ -189,7 +188,7 @@ call_line_once c d h k e =
     let same : v.0 ∷ v.1 ≡ w.0 ∷ w.1 = ap (λ (x : List ℕ). x ∷ v.1) one.0 ∙ ap (λ (x : List (List ℕ)). w.0 ∷ x) one.1 in
     calls_once c d h k (v.2 ∙ same ∙ sym w.2)
 
-columns : (l : Line) → IsLineOfBytes l → AllLack 9 (decimal l.seat ∷ call_line l.call ∷ words l.reply ∷ [])
+pub columns : (l : Line) → IsLineOfBytes l → AllLack 9 (decimal l.seat ∷ call_line l.call ∷ words l.reply ∷ [])
 columns l h = (
   lacks-decimal 9 l.seat apart_9 h.0,
   (lacks-joined 9 32 (call_words l.call) refl (no_tabs l.call h.1), (lacks-spelled 9 32 l.reply h.2 (omega arith) refl refl, tt)),

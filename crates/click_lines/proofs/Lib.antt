@@ -1,6 +1,11 @@
+pub mod BytesBack
+pub mod Cuts
 pub mod Cutting
 pub mod Entries
+pub mod LinesBack
+pub mod NumbersBack
 pub mod PacketWords
 pub mod Packets
+pub mod PacketsBack
 pub mod ReadingBack
 pub mod Words

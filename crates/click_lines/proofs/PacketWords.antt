@@ -1,5 +1,5 @@
 -- Packets are known by their words.
-use Rattle.std.proofs.Common.{◌≡◌, ◌≢◌, ◌⊎◌, ℕ, ◌+◌, ◌*◌, ◌/◌, ◌%◌, ◌<◌, ◌^◌, ◌==◌, Bool, true, false, not, ◌&&◌, List, [], ◌∷◌, ◌++◌, map, length, slice_index, All, Result, Ok, Err, zero, suc, refl, sym, ap, ◌∙◌, inl, inr, arith, subst, codes}
+use Rattle.std.proofs.Common.{◌≡◌, ◌⊎◌, ℕ, ◌+◌, ◌/◌, ◌%◌, ◌<◌, ◌^◌, ◌==◌, Bool, true, false, not, ◌&&◌, List, [], ◌∷◌, ◌++◌, map, length, slice_index, All, Ok, zero, suc, refl, sym, ap, ◌∙◌, inl, inr, arith, subst, codes}
 use Rattle.std.specs.Prelude.{if◌then◌else◌, decimal}
 use Rattle.std.specs.List.{AllByRecursion}
 use Rattle.std.specs.Str.{bytes_eq}
@@ -7,13 +7,13 @@ use Rattle.std.proofs.lemmas.Bool.{and_parts, and_from, eqb-true}
 use Rattle.std.proofs.lemmas.Fmt.{decimal_injective}
 use Rattle.std.proofs.lemmas.List.Elements.{All-nil, All-cons}
 use Rattle.std.proofs.lemmas.Slice.Eq.{bytes_eq-Decides}
-use Rattle.hex.specs.Hex.{IsBytes, decode_of, encode_with, encode_lower, lower_digits}
+use Rattle.hex.specs.Hex.{IsBytes, decode_of, encode_with, lower_digits}
 use Rattle.click_packet.specs.Packet.{Packet}
 use Rattle.click_classes.specs.Values.{address}
 use Rattle.click_handlers.specs.Reads.{dotted}
 use Rattle.click_handlers.proofs.Dotted.{dotted-read}
 use Rattle.click_lines.specs.Digits.{IsHex, hex_text}
-use Rattle.click_lines.specs.Spelling.{joined, behind}
+use Rattle.click_lines.specs.Spelling.{behind}
 use Rattle.click_lines.specs.Lines.{AreBytes, IsPacketOfBytes, is_unmarked, marks, packet_word, packets_word}
 use Rattle.click_lines.proofs.Cutting.{AllLack, Begins, cut_once, joined_once, lacks, lacks-append, lacks-joined}
 use Rattle.click_lines.proofs.ReadingBack.{reads_back}
@@ -26,23 +26,22 @@ bytes_at (b ∷ bytes) h (suc i) = bytes_at bytes h.1 i
 
 -- ---- hex digits
 
-pub hex_once : (a b : List ℕ) → AreBytes a → AreBytes b → hex_text a ≡ hex_text b → a ≡ b
-hex_once a b h k e = elim (reads_back a (bytes_at a h)) [
-  | inl p ↦ elim (reads_back b (bytes_at b k)) [
+-- digits are those of one list of bytes
+pub hex_same : (text a b : List ℕ) → IsHex text a → IsHex text b → a ≡ b
+hex_same text a b h k = elim h [
+  | inl p ↦ elim k [
     | inl q ↦ p.1 ∙ sym q.1
-    | inr q ↦
-        let hyphen : hex_text b ≡ codes "-" = sym e ∙ p.0 in
-        let bad : decode_of (codes "-") ≡ Ok b = ap decode_of (sym hyphen) ∙ q.1 in
-        absurd cc
+    | inr q ↦ let bad : decode_of (codes "-") ≡ Ok b = ap decode_of (sym p.0) ∙ q.1 in absurd cc
   ]
-  | inr p ↦ elim (reads_back b (bytes_at b k)) [
-    | inl q ↦
-        let hyphen : hex_text a ≡ codes "-" = e ∙ q.0 in
-        let bad : decode_of (codes "-") ≡ Ok a = ap decode_of (sym hyphen) ∙ p.1 in
-        absurd cc
-    | inr q ↦ let same : Ok a ≡ Ok b = sym p.1 ∙ ap decode_of e ∙ q.1 in cc
+  | inr p ↦ elim k [
+    | inl q ↦ let bad : decode_of (codes "-") ≡ Ok a = ap decode_of (sym q.0) ∙ p.1 in absurd cc
+    | inr q ↦ let same : Ok a ≡ Ok b = sym p.1 ∙ q.1 in cc
   ]
 ]
+
+pub hex_once : (a b : List ℕ) → AreBytes a → AreBytes b → hex_text a ≡ hex_text b → a ≡ b
+hex_once a b h k e =
+    hex_same (hex_text a) a b (reads_back a (bytes_at a h)) (subst (λ (t : List ℕ). IsHex t b) (sym e) (reads_back b (bytes_at b k)))
 
 hex_some : (bytes : List ℕ) → AreBytes bytes → hex_text bytes ≡ [] → ⊥
 hex_some bytes h e = elim (reads_back bytes (bytes_at bytes h)) [
@@ -73,7 +72,7 @@ all_bytes : (a : List ℕ) → AreBytes a → All (λ b. b < 256) a
 all_bytes [] h = All-nil (λ b. b < 256)
 all_bytes (x ∷ xs) h = All-cons (λ b. b < 256) x xs h.0 (all_bytes xs h.1)
 
-reads : (a : List ℕ) → length a ≡ 4 → AreBytes a → address (dotted a) ≡ Ok a
+pub reads : (a : List ℕ) → length a ≡ 4 → AreBytes a → address (dotted a) ≡ Ok a
 reads a four h = dotted-read a four (all_bytes a h)
 
 dotted_once : (a b : List ℕ) → length a ≡ 4 → length b ≡ 4 → AreBytes a → AreBytes b → dotted a ≡ dotted b → a ≡ b
@@ -96,11 +95,11 @@ lacks-dotted c a h apart dot =
 
 -- ---- paint and destination
 
-by_test : (t : Bool) (x y : List ℕ) → ((t ≡ true) × ((if t then x else y) ≡ x)) ⊎ ((t ≡ false) × ((if t then x else y) ≡ y))
+pub by_test : (t : Bool) (x y : List ℕ) → ((t ≡ true) × ((if t then x else y) ≡ x)) ⊎ ((t ≡ false) × ((if t then x else y) ≡ y))
 by_test true x y = inl (refl, refl)
 by_test false x y = inr (refl, refl)
 
-abbrev marked : Packet → List ℕ
+abbrev pub marked : Packet → List ℕ
 marked p = 58 ∷ decimal p.paint ++ 58 ∷ dotted p.destination
 
 begins-marks : (p : Packet) → Begins 58 (marks p)
@@ -109,10 +108,10 @@ begins-marks p = elim (by_test (is_unmarked p) [] (marked p)) [
   | inr e ↦ rw e.1 refl
 ]
 
-apart_58 : (d : ℕ) → d < 10 → 48 + d ≡ 58 → ⊥
+pub apart_58 : (d : ℕ) → d < 10 → 48 + d ≡ 58 → ⊥
 apart_58 d l e = omega (arith, l, e)
 
-zeros : (p : Packet) → is_unmarked p ≡ true → (p.paint ≡ 0) × (p.destination ≡ 0 ∷ 0 ∷ 0 ∷ 0 ∷ [])
+pub zeros : (p : Packet) → is_unmarked p ≡ true → (p.paint ≡ 0) × (p.destination ≡ 0 ∷ 0 ∷ 0 ∷ 0 ∷ [])
 zeros p e =
     let parts = and_parts (p.paint == 0) (bytes_eq p.destination (0 ∷ 0 ∷ 0 ∷ 0 ∷ [])) e in
     (eqb-true p.paint 0 parts.0, (bytes_eq-Decides p.destination (0 ∷ 0 ∷ 0 ∷ 0 ∷ [])).0 parts.1)
@@ -148,7 +147,7 @@ marks_once p q h k e = elim (by_test (is_unmarked p) [] (marked p)) [
 
 -- ---- packets
 
-equal : (p q : Packet) → p.bytes ≡ q.bytes → p.paint ≡ q.paint → p.destination ≡ q.destination → p ≡ q
+pub equal : (p q : Packet) → p.bytes ≡ q.bytes → p.paint ≡ q.paint → p.destination ≡ q.destination → p ≡ q
 equal p q bytes paint destination =
     ap (λ (x : List ℕ). record p { bytes = x }) bytes ∙ ap (λ (x : ℕ). record p { bytes = q.bytes; paint = x }) paint
     ∙ ap (λ (x : List ℕ). record q { destination = x }) destination
@@ -180,7 +179,7 @@ lacks-packet c p h digits others apart =
       | inr x ↦ rw x.1 all
     ])
 
-all_lack : (c : ℕ) (ps : List Packet) → AllByRecursion IsPacketOfBytes ps → lacks c lower_digits ≡ true → lacks c (codes "-.:") ≡ true → ((d : ℕ) → d < 10 → 48 + d ≡ c → ⊥)
+pub all_lack : (c : ℕ) (ps : List Packet) → AllByRecursion IsPacketOfBytes ps → lacks c lower_digits ≡ true → lacks c (codes "-.:") ≡ true → ((d : ℕ) → d < 10 → 48 + d ≡ c → ⊥)
     → AllLack c (map packet_word ps)
 all_lack c [] h digits others apart = tt
 all_lack c (p ∷ ps) h digits others apart = (lacks-packet c p h.0 digits others apart, all_lack c ps h.1 digits others apart)
@@ -201,10 +200,10 @@ front_nil : (x y : List ℕ) → x ++ y ≡ [] → x ≡ []
 front_nil [] y e = refl
 front_nil (b ∷ x) y e = absurd (let bad : b ∷ (x ++ y) ≡ [] = e in cc)
 
-word_some : (p : Packet) (rest : List ℕ) → IsPacketOfBytes p → packet_word p ++ rest ≡ [] → ⊥
+pub word_some : (p : Packet) (rest : List ℕ) → IsPacketOfBytes p → packet_word p ++ rest ≡ [] → ⊥
 word_some p rest h e = hex_some p.bytes h.0 (front_nil (hex_text p.bytes) (marks p) (front_nil (packet_word p) rest e))
 
-apart_44 : (d : ℕ) → d < 10 → 48 + d ≡ 44 → ⊥
+pub apart_44 : (d : ℕ) → d < 10 → 48 + d ≡ 44 → ⊥
 apart_44 d l e = omega (arith, l, e)
 
 pub packets_once : (ps qs : List Packet) → AllByRecursion IsPacketOfBytes ps → AllByRecursion IsPacketOfBytes qs → packets_word ps ≡ packets_word qs → ps ≡ qs

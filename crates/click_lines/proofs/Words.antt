@@ -1,21 +1,20 @@
 -- Words are known by how they are spelled, and have no blank.
-use Rattle.std.proofs.Common.{◌≡◌, ◌⊎◌, ℕ, ◌+◌, ◌*◌, ◌/◌, ◌%◌, ◌<◌, ◌≤◌, ◌^◌, ◌==◌, Bool, true, false, not, ◌&&◌, List, [], ◌∷◌, ◌++◌, length, slice_index, Some, zero, suc, refl, sym, ap, ◌∙◌, inl, inr, arith}
+use Rattle.std.proofs.Common.{◌≡◌, ◌⊎◌, ℕ, ◌+◌, ◌/◌, ◌%◌, ◌<◌, ◌≤◌, ◌^◌, ◌==◌, Bool, true, false, not, ◌&&◌, List, [], ◌∷◌, ◌++◌, length, slice_index, Some, zero, suc, refl, sym, ap, ◌∙◌, inl, inr, arith}
 use Rattle.std.specs.Prelude.{if◌then◌else◌, nat_le, decimal}
-use Rattle.std.specs.List.{AllByRecursion}
 use Rattle.std.proofs.lemmas.Bool.{and_parts, and_from, leb-true}
 use Rattle.std.proofs.lemmas.Fmt.{decimal_by_steps}
 use Rattle.hex.specs.Hex.{encode_with, encode_lower, hex_digit_value, lower_digits}
 use Rattle.hex.proofs.HexLemmas.{IsDigits-lower_digits}
-use Rattle.click_lines.specs.Spelling.{is_plain, spelled_byte, spelled}
+use Rattle.click_lines.specs.Spelling.{is_plain, spelled}
 use Rattle.click_lines.specs.Lines.{AreBytes}
 use Rattle.click_lines.proofs.Cutting.{lacks, lacks-append, other, unlike}
 
 -- ---- digits
 
-abbrev high : ℕ → ℕ
+abbrev pub high : ℕ → ℕ
 high b = slice_index lower_digits (b / 16)
 
-abbrev low : ℕ → ℕ
+abbrev pub low : ℕ → ℕ
 low b = slice_index lower_digits (b % 16)
 
 digit_once : (d e : ℕ) → d < 16 → e < 16 → slice_index lower_digits d ≡ slice_index lower_digits e → d ≡ e
@@ -34,14 +33,14 @@ by_test true x y = inl (refl, refl)
 by_test false x y = inr refl
 
 -- the first byte stands for itself, or as a backslash and two digits
-shape : (least b : ℕ) (bs : List ℕ) → ((is_plain least b ≡ true) × (spelled least (b ∷ bs) ≡ b ∷ spelled least bs)) ⊎ (spelled least (b ∷ bs) ≡ 92 ∷ high b ∷ low b ∷ spelled least bs)
+pub shape : (least b : ℕ) (bs : List ℕ) → ((is_plain least b ≡ true) × (spelled least (b ∷ bs) ≡ b ∷ spelled least bs)) ⊎ (spelled least (b ∷ bs) ≡ 92 ∷ high b ∷ low b ∷ spelled least bs)
 unfolding encode_with
 shape least b bs = elim (by_test (is_plain least b) (b ∷ []) (92 ∷ encode_lower (b ∷ []))) [
   | inl plain ↦ inl (plain.0, ap (λ (x : List ℕ). x ++ spelled least bs) plain.1)
   | inr coded ↦ inr (ap (λ (x : List ℕ). x ++ spelled least bs) coded)
 ]
 
-no_backslash : (least b : ℕ) → is_plain least b ≡ true → b ≡ 92 → ⊥
+pub no_backslash : (least b : ℕ) → is_plain least b ≡ true → b ≡ 92 → ⊥
 no_backslash least b plain = unlike b 92 (and_parts (nat_le least b && nat_le b 126) (not (b == 92)) plain).1
 
 at_least : (least b : ℕ) → is_plain least b ≡ true → least ≤ b

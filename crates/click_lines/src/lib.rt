@@ -3,9 +3,11 @@
 
 mod call;
 mod digits;
+mod kind;
 pub mod laws;
 mod line;
 mod packet;
+mod parts;
 mod reading;
 mod reply;
 mod spelling;

@@ -1,15 +1,17 @@
 //! Packets as words of a line.
 
-ghost use Rattle.std.specs.Prelude.{◌≡◌, ◌++◌, IfOk, OnOk};
+ghost use Rattle.std.specs.Prelude.{◌≡◌, ◌++◌, IfOk, MatchOption, OnOk};
+ghost use Rattle.click_lines.specs.Digits.{IsPacketOf, SpellsNone};
 ghost use Rattle.click_lines.specs.Lines.{is_unmarked, packet_word, packets_word};
+ghost use Rattle.click_lines.specs.Reading.{ReadsMarks, ReadsPacket, ReadsPackets};
 
 use crate::digits::{HexFault, hex_text, packet_of};
+use crate::parts::cut;
 use crate::reply::push_number;
-use click_classes::address;
+use click_classes::{address, decimal_number};
 use click_handlers::push_dotted;
 use click_packet::{Packet, StoredPacket};
 use click_text::sequence::Sequence;
-use memchr::memchr;
 use std::alloc::{AllocError, Global};
 
 /// Whether a packet has the paint and the destination with which one enters.
@@ -49,17 +51,14 @@ pub fn packets_word(alloc: Global, packets: &[StoredPacket]) -> Result<Vec<u8>, 
 }
 
 /// The packet of a word, if it is laid out as one.
-pub fn packet_in(alloc: Global, word: &[u8]) -> Result<Option<StoredPacket>, AllocError> {
-    let (digits, marks) = match memchr(b':', word) {
-        None => (word, None),
-        Some(place) => (&word[..place], Some(&word[place + 1..])),
+pub fn packet_in(alloc: Global, word: &[u8]) -> Result<Option<StoredPacket>, AllocError>
+    ensures { IfOk result (ReadsPacket word.now) }
+{
+    let (digits, marks) = cut(word, b':');
+    let Some(mut packet) = unmarked(alloc, digits)? else {
+        return Ok(None);
     };
-    let mut packet = match packet_of(alloc, digits) {
-        Ok(packet) => packet,
-        Err(HexFault::NoMemory) => return Err(AllocError),
-        Err(_) => return Ok(None),
-    };
-    if let Some(marks) = marks {
+    if !marks.is_empty() {
         let Some(()) = mark(&mut packet, marks) else {
             return Ok(None);
         };
@@ -67,33 +66,42 @@ pub fn packet_in(alloc: Global, word: &[u8]) -> Result<Option<StoredPacket>, All
     Ok(Some(StoredPacket::of(alloc, &packet)?))
 }
 
-/// Gives a packet the paint and the destination that stand in a text with a colon between them; nothing where they do not.
-fn mark(packet: &mut Packet, marks: &[u8]) -> Option<()> {
-    let place = memchr(b':', marks)?;
-    let paint = std::str::from_utf8(&marks[..place])
-        .ok()?
-        .parse::<u8>()
-        .ok()?;
-    let destination = address(&marks[place + 1..]).ok()?;
-    packet.set_paint(paint);
+/// The packet of these digits, if they are one.
+fn unmarked(alloc: Global, digits: &[u8]) -> Result<Option<Packet>, AllocError>
+    ensures { IfOk result (λ read. MatchOption read (SpellsNone digits.now) (IsPacketOf digits.now)) }
+{
+    match packet_of(alloc, digits) {
+        Ok(packet) => Ok(Some(packet)),
+        Err(fault) if fault == HexFault::NoMemory => Err(AllocError),
+        Err(_) => Ok(None),
+    }
+}
+
+/// Gives a packet the paint and the destination that stand in a text with a colon between them, if two such stand there.
+fn mark(packet: &mut Packet, text: &[u8]) -> Option<()>
+    ensures { ReadsMarks text.now packet.old packet.new result }
+{
+    let (paint, destination) = cut(text, b':');
+    let paint = decimal_number(paint, 0, 255).ok()?;
+    let destination = address(destination).ok()?;
+    packet.set_paint(paint as u8);
     packet.set_destination(destination);
     Some(())
 }
 
 /// The packets of a word, if it is laid out as one.
-pub fn packets_in(
-    alloc: Global,
-    word: &[u8],
-) -> Result<Option<Sequence<StoredPacket>>, AllocError> {
+pub fn packets_in(alloc: Global, word: &[u8]) -> Result<Option<Sequence<StoredPacket>>, AllocError>
+    ensures { IfOk result (ReadsPackets word.now) }
+{
     let mut packets = Sequence::new(alloc);
-    if word.is_empty() {
-        return Ok(Some(packets));
-    }
-    for part in word.split(|byte| *byte == b',') {
-        match packet_in(alloc, part)? {
-            Some(packet) => packets.push(packet)?,
-            None => return Ok(None),
-        }
+    let mut rest = word;
+    while !rest.is_empty() {
+        let (part, behind) = cut(rest, b',');
+        let Some(packet) = packet_in(alloc, part)? else {
+            return Ok(None);
+        };
+        packets.push(packet)?;
+        rest = behind;
     }
     Ok(Some(packets))
 }

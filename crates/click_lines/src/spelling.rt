@@ -1,8 +1,10 @@
 //! Bytes as words of a line.
 
-ghost use Rattle.std.specs.Prelude.{◌≡◌, ◌++◌, OnOk};
+ghost use Rattle.std.specs.Prelude.{◌≡◌, ◌++◌, ◌∷◌, ◌<◌, ℕ, List, ◌≤◌, length, IfOk, IfSome, OnOk, MatchOption};
 ghost use Rattle.click_lines.specs.Spelling.{is_plain, spelled_byte, spelled, words};
+ghost use Rattle.click_lines.specs.Reading.{ReadsBytes};
 
+use click_text::sequence::Sequence;
 use std::alloc::{AllocError, Global};
 
 /// The least byte of a word that stands for itself, and the least one of words.
@@ -53,21 +55,33 @@ pub fn push_words(line: &mut Vec<u8>, bytes: &[u8]) -> Result<(), AllocError>
 }
 
 /// The bytes that a text spells; none where a backslash has no two hex digits behind it.
-pub fn unspelled(alloc: Global, text: &[u8]) -> Result<Option<Vec<u8>>, AllocError> {
+pub fn unspelled(alloc: Global, text: &[u8]) -> Result<Option<Sequence<u8>>, AllocError>
+    ensures { IfOk result (ReadsBytes text.now) }
+{
     let mut bytes = Vec::new(alloc);
     let mut rest = text;
     while let Some((first, behind)) = rest.split_first() {
-        rest = behind;
-        if *first != b'\\' {
-            bytes.push(*first)?;
-            continue;
-        }
-        let mut byte = [0; 1];
-        if rest.len() < 2 || hex::decode_to_slice(&rest[..2], &mut byte).is_err() {
+        let Some((byte, further)) = first_byte(*first, behind) else {
             return Ok(None);
-        }
-        bytes.push(byte[0])?;
-        rest = &rest[2..];
+        };
+        bytes.push(byte)?;
+        rest = further;
     }
-    Ok(Some(bytes))
+    Ok(Some(Sequence::of(bytes)))
+}
+
+/// The byte that is spelled first in a text of a first byte and those behind it, and what stands behind its spelling.
+fn first_byte(first: u8, behind: &[u8]) -> Option<(u8, &[u8])>
+    ensures byte { (least b : ℕ) (bytes : List ℕ) → b < 256 → spelled least (b ∷ bytes) ≡ first ∷ behind.now
+        → MatchOption result ⊥ (λ r. (r.0 ≡ b) × (r.1.now ≡ spelled least bytes)) }
+    ensures shorter { IfSome result (λ r. length r.1.now ≤ length behind.now) }
+{
+    if first != b'\\' {
+        return Some((first, behind));
+    }
+    let mut byte = [0; 1];
+    if behind.len() < 2 || hex::decode_to_slice(&behind[..2], &mut byte).is_err() {
+        return None;
+    }
+    Some((byte[0], &behind[2..]))
 }

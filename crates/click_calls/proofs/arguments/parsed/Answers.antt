@@ -71,8 +71,8 @@ distinct (x ∷ xs) new (suc j) zero d e low high same =
     absurd (new_from (first x.id.now) xs (both _ _ new).0 j e (omega arith) (sym (starts (slice_index_or xs j e).id.now x.id.now same)))
 distinct (x ∷ xs) new (suc j) (suc k) d e low high same = ap suc (distinct xs (both _ _ new).1 j k d e (omega arith) (omega arith) same)
 
-pub returns : goal.returns
-returns c =
+pub returns-clause-text : goal.returns-clause-text
+returns-clause-text c =
     let text = c.text_argument.result in
     let replay = c.replay_argument.result in
     let xs : List Arg = text ∷ replay ∷ [] in

@@ -20,12 +20,14 @@ returns-in-NoLine g c =
     let lines = c.args.lines.now in
     let place = c.loop-line.line-index in
     let line = c.line-item.result in
-    let stays : c.made_again.new.router ≡ c.loop-line.router = rw c.in-NoLine.is at c.in_ok-made_again.ensures in (
+    let no = rw (c.in-NoLine.is, c.as_slice.ensures) at c.in_ok-made_again.ensures in
+    let stays : c.made_again.new.router ≡ c.loop-line.router = no.1 in (
       take place lines,
       line,
       drop (place + 1) lines,
       cut_at lines place line c.loop-line-test.true c.line-item.is,
       rw c.loop-line.invariant.counted (number_at lines place c.loop-line-test.true),
+      no.0,
       rw stays c.loop-line.invariant.same,
     )
 
