@@ -325,8 +325,8 @@ def taken(program):
 
 
 def staying(program):
-    """A router that stays: at one place come more sessions than there are places, one after another, while a driver goes on. All read and write one
-    router, the driver's packets come to their end and no more, one session waits until another leaves, and SIGTERM ends the program."""
+    """A router that stays: at one place come more sessions than there are places, one after another, some of which hang up, while a driver goes on. All read
+    and write one router, the driver's packets come to their end and no more, one session waits until another leaves, and SIGTERM ends the program."""
     text = "InfiniteSource(ab, 3000, 1) -> c :: Counter -> Discard; Idle -> s :: Switch(0) -> Discard; s [1] -> Discard;"
     router = Router(program, text, 1, 1, None, ["--live"])
     try:
@@ -336,7 +336,10 @@ def staying(program):
                 raise Wrong("a session does not find what the one before it has written")
             if session.write(b"s.switch", b"%d" % ((n + 1) % 2))[0] != 200:
                 raise Wrong("a write was refused")
-            session.quit()
+            if n % 3 == 2:
+                session.socket.close()  # hung up: the place is free again too
+            else:
+                session.quit()
         session = Session(router)
         ends = time.monotonic() + SECONDS
         while int(session.read(b"c.count")) < 3000:
