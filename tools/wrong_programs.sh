@@ -183,7 +183,7 @@ sessions_wrong reading 'writes where it may only read' "$writes"
 sessions_wrong clients 'a status that is always good' '"$program" "$@"' 'exit 0'
 sessions_wrong taken 'a status that is always good' '"$program" "$@"' 'exit 0'
 sessions_wrong swapping 'junk on standard output' 'echo junk' 'exec "$program" "$@"'
-sessions_wrong staying 'an end' "$(exchanged --live --readonly)"
+sessions_wrong staying 'an end' "$(printf '%s' "$writes" | sed s/--readonly/--live/)"
 sessions_wrong staying 'two sessions at one place' "$(exchanged 1 2)"
 cat > "$work/alone.py" << 'E'
 """Serves the sessions of a port one after another, each over a router of its own."""
