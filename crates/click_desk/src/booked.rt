@@ -280,6 +280,8 @@ impl<T: Handlers> Booked<T> {
         ensures keeps { calls.new.keeps ≡ calls.old.keeps }
         ensures full { (result ≡ Err DeskFault.HistoryFull) ↔ IsFull self.old.terms.room (length self.old.entries) }
     {
+        // What the type keeps is known where one of its fields is named.
+        let _ = &self.ledger;
         if self.is_full() {
             return Err(DeskFault::HistoryFull);
         }

@@ -5,8 +5,8 @@ use Rattle.click_desk.specs.declared.view.View.{View}
 use Rattle.click_desk.proofs.Calls.{as_call, may_give, sound, polls, refuses}
 use Rattle.click_desk.proofs.desk.Desk.poll.Goals as goal
 
-pub enter_poll-result-requires-clause-keeps : goal.enter_poll-result-requires-clause-keeps
-enter_poll-result-requires-clause-keeps g c = c.seat.invariant.4 ∙ ap (λ (t : Charter). is_some t.room) (sym c.take-booked.ensures.taken.1.0)
+pub enter_poll-result-requires : goal.enter_poll-result-requires
+enter_poll-result-requires g c = record { keeps = c.seat.invariant.4 ∙ ap (λ (t : Charter). is_some t.room) (sym c.take-booked.ensures.taken.1.0) }
 
 pub give-requires-clause-rule : goal.give-requires-clause-rule
 give-requires-clause-rule g c =
