@@ -1,3 +1,4 @@
 pub mod Asked
+pub mod InputLines
 pub mod Replays
 pub mod Statuses

@@ -1,5 +1,9 @@
 //! The calls of an input, answered one after another.
 
+ghost use Rattle.std.specs.Prelude.{◌≡◌, IfOk, IfSome};
+ghost use Rattle.std.specs.Io.BufRead.{strip_last};
+ghost use Rattle.click_calls.specs.InputLines.{lines_of};
+
 use crate::line::{LineFault, call_of};
 use click_lines::reply_line;
 use click_router::{Handlers, Router, StepFault};
@@ -112,18 +116,29 @@ fn answer<W: Write, T: Handlers>(
 }
 
 /// The lines of the input, without their ends.
-pub fn lines_of<R: BufRead>(alloc: Global, input: &mut R) -> Result<Sequence<Sequence<u8>>, Stop> {
+pub fn lines_of<R: BufRead>(alloc: Global, input: &mut R) -> Result<Sequence<Sequence<u8>>, Stop>
+    // Where its bytes are known.
+    ensures { IfOk result (λ lines. IfSome (R.remaining input.old) (λ bytes. lines ≡ lines_of bytes)) }
+{
     let mut lines = Sequence::new(alloc);
     for _ in 0..u64::MAX {
         let mut line = Vec::new(alloc);
         if input.read_until(b'\n', &mut line)? == 0 {
             return Ok(lines);
         }
-        if line.as_slice().ends_with(b"\n") {
-            let _end = line.pop();
-        }
-        lines.push(Sequence::of(line))?;
+        lines.push(Sequence::of(without_end(line)))?;
     }
     // No input has that many lines.
     Err(Stop::DeviceFailed)
+}
+
+/// A line without its end, which the last one may lack.
+fn without_end(line: Vec<u8>) -> Vec<u8>
+    ensures { result.items ≡ strip_last 10 line.items }
+{
+    let mut line = line;
+    if line.as_slice().ends_with(b"\n") {
+        let _end = line.pop();
+    }
+    line
 }

@@ -1,7 +1,10 @@
 //! A router that answers calls: one a line on standard input, and a line for each reply on standard output. Or calls with their replies, made again.
 #![tactic(auto)]
 
-ghost use Rattle.std.specs.Prelude.{◌≡◌};
+ghost use Rattle.std.specs.Prelude.{◌≡◌, IfOk, IfSome};
+ghost use Rattle.std.specs.Io.KnownBytes.{Appends};
+ghost use Rattle.click_calls.specs.InputLines.{lines_of};
+ghost use Rattle.click_calls.specs.Replays.{IsReplayed, replayed_line};
 ghost use Rattle.click_calls.specs.Statuses.{code, config_status, replayed_status, stop_status, unread_status};
 
 mod answering;
@@ -14,7 +17,7 @@ use arguments::options_of;
 use clap::error::ErrorKind;
 use click_handlers::{Table, TakesTable, with_table};
 use click_router::{ConfigFault, FaultKind, Handlers, Router, prepare};
-use replay::{Replayed, replay_lines, replayed_line};
+use replay::{Replayed, tell_replayed};
 use std::alloc::Global;
 use std::io::{BufRead, BufReader, Write};
 use std::process::ExitCode;
@@ -142,12 +145,13 @@ fn replay_all<R: BufRead, W: Write, T: Handlers>(
     input: &mut R,
     output: &mut W,
     router: &mut Router<T>,
-) -> Result<Replayed, Stop> {
+) -> Result<Replayed, Stop>
+    // Where the bytes are known that are read and written.
+    ensures again { IfOk result (λ replayed. IfSome (R.remaining input.old) (λ bytes. IsReplayed router.old (lines_of bytes) router.new replayed)) }
+    ensures told { IfOk result (λ replayed. Appends (W.contents output.old) (W.contents output.new) (replayed_line replayed)) }
+{
     let lines = lines_of(alloc, input)?;
-    let replayed = replay_lines(alloc, router, lines.as_slice())?;
-    output.write_all(&replayed_line(alloc, &replayed)?)?;
-    output.flush()?;
-    Ok(replayed)
+    tell_replayed(alloc, output, router, lines.as_slice())
 }
 
 /// The status by what lines come to that are made again.

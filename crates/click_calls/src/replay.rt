@@ -1,12 +1,15 @@
 //! Lines of calls and replies, made again.
 
 ghost use Rattle.std.specs.Prelude.{◌≡◌, IfOk};
+ghost use Rattle.std.specs.Io.KnownBytes.{Appends};
 ghost use Rattle.click_calls.specs.Replays.{IsAgain, IsReplayed, replayed_line};
 
+use crate::answering::Stop;
 use click_lines::{push_number, push_words, read_line, reply_text};
 use click_router::{Handlers, Router, StepFault};
 use click_text::sequence::Sequence;
 use std::alloc::{AllocError, Global};
+use std::io::Write;
 
 /// What the call of one line comes to.
 #[derive(Drop)]
@@ -67,8 +70,25 @@ fn made_again<T: Handlers>(
     }
 }
 
+/// Makes the calls of lines again, and writes what they come to.
+pub fn tell_replayed<W: Write, T: Handlers>(
+    alloc: Global,
+    output: &mut W,
+    router: &mut Router<T>,
+    lines: &[Sequence<u8>],
+) -> Result<Replayed, Stop>
+    ensures again { IfOk result (IsReplayed router.old lines.now router.new) }
+    ensures told { IfOk result (λ replayed. Appends (W.contents output.old) (W.contents output.new) (replayed_line replayed)) }
+{
+    let replayed = replay_lines(alloc, router, lines)?;
+    let line = replayed_line(alloc, &replayed)?;
+    output.write_all(&line)?;
+    output.flush()?;
+    Ok(replayed)
+}
+
 /// Makes the calls of lines again, one after another, until one differs or is none.
-pub fn replay_lines<T: Handlers>(
+fn replay_lines<T: Handlers>(
     alloc: Global,
     router: &mut Router<T>,
     lines: &[Sequence<u8>],
@@ -94,7 +114,7 @@ pub fn replay_lines<T: Handlers>(
 }
 
 /// The line that tells what lines come to, with its end.
-pub fn replayed_line(alloc: Global, replayed: &Replayed) -> Result<Vec<u8>, AllocError>
+fn replayed_line(alloc: Global, replayed: &Replayed) -> Result<Vec<u8>, AllocError>
     ensures { IfOk result (λ line. line.items ≡ replayed_line replayed.now) }
 {
     match replayed {

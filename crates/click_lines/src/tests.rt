@@ -19,6 +19,18 @@ fn comes_back(alloc: Global, line: &[u8]) -> Result<bool, AllocError> {
     }
 }
 
+/// Whether the line is of this seat's swap to this text, which was done.
+fn is_swap_done(line: &Line, seat: usize, text: &[u8]) -> bool {
+    match &line.call {
+        Call::Swap { text: read } => {
+            line.seat == seat
+                && read.as_slice() == text
+                && line.reply.as_slice() == b"done".as_slice()
+        }
+        _ => false,
+    }
+}
+
 #[test]
 fn a_read_is_a_line(rt: HostRuntime) -> Result<(), AllocError> {
     let alloc = rt.alloc();
@@ -59,16 +71,12 @@ fn every_byte_comes_back(rt: HostRuntime) -> Result<(), AllocError> {
         text: bytes(alloc, &all)?,
     };
     let line = entry_line(alloc, 255, &call, &Reply::Done)?;
-    let Some(
-        Line {
-            call: Call::Swap { text },
-            ..
-        },
-    ) = read_line(alloc, &line)?
-    else {
-        panic!(rt; "no swap");
-    };
-    assert!(rt; text.as_slice() == all.as_slice());
+    assert!(rt;
+        match read_line(alloc, &line)? {
+            Some(read) => is_swap_done(&read, 255, &all),
+            None => false,
+        }
+    );
     Ok(())
 }
 
