@@ -73,7 +73,8 @@ pub one-more : (attends : Sitting → Sitting → SessionEnd → Type 0) (n : �
 one-more attends zero old between new before last some h one = absurd (omega arith)
 one-more attends (suc n) old between new before last some h one =
     let more : InTurn attends (suc (suc n)) old new last = (between, before, h, one) in
-    subst (λ k. InTurn attends k old new last) (omega arith) more
+    let is : suc (suc n) ≡ suc n + 1 = omega arith in
+    subst (λ k. InTurn attends k old new last) is more
 
 module _ (attends : Sitting → SessionEnd → Type 0) (drives : Sitting → Bool → Type 0) where
   pub worked-none : (sessions : ℕ) → Worked attends drives sessions 0 [] [] []

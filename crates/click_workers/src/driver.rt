@@ -94,8 +94,7 @@ fn drive_on<T: Handlers, G: Gate, R: Wait>(
         }
         match take_turn(rt, desk, &mut seat, gate, who, nth + 1) {
             None => return (false, seat),
-            Some(0) => pause.sleep(rt),
-            Some(_) => pause.begin_anew(),
+            Some(count) => pause.rest_after(rt, count),
         }
     }
     (true, seat)

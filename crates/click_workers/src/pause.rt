@@ -25,6 +25,15 @@ impl Pause {
         }
     }
 
+    /// Sleeps where so much was done and that is nothing; else the next sleep is the first again.
+    pub(crate) fn rest_after<R: Wait>(&mut self, rt: &R, done: u64) {
+        if done == 0 {
+            self.sleep(rt);
+        } else {
+            self.begin_anew();
+        }
+    }
+
     /// Sleeps. Nobody wakes it before its time.
     pub(crate) fn sleep<R: Wait>(&mut self, rt: &R) {
         self.parker

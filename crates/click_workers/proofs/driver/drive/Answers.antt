@@ -16,10 +16,10 @@ loop-nth-preserved g c =
     record {
       same = (same.0 ∙ h.same.0, same.1 ∙ h.same.1, same.2 ∙ h.same.2);
       desk = same.0 ∙ h.desk;
-      drives = one-driven g.G.Gate.gives g.G.Gate.told c.args.gate.now c.args.who c.loop-nth.nth c.loop-nth.seat c.take_turn.new.seat h.drives c.if-not-take_turn.ensures.turn;
+      drives = one-driven g.G.Gate.gives g.G.Gate.told c.args.gate.now c.args.who c.loop-nth.nth c.loop-nth.seat c.take_turn.new.seat h.drives c.in-Some.ensures.turn;
     }
 
-pub returns-then-not-take_turn-clause-drives : goal.returns-then-not-take_turn-clause-drives
-returns-then-not-take_turn-clause-drives g c =
+pub returns-in-None-clause-drives : goal.returns-in-None-clause-drives
+returns-in-None-clause-drives g c =
     held-back g.G.Gate.gives g.G.Gate.told c.args.gate.now c.args.who c.loop-nth.nth c.args.rounds c.loop-nth.seat c.take_turn.new.seat c.loop-nth.invariant.drives
-    c.loop-nth-test.true c.if-not-take_turn.ensures.turn
+    c.loop-nth-test.true c.in-None.ensures.turn

@@ -1,0 +1,27 @@
+use Rattle.std.proofs.Common.{refl, ◌∙◌, ◌+◌, arith}
+use Rattle.click_workers.proofs.Driving.{none-driven, one-driven, held-back}
+use Rattle.click_workers.proofs.driver.drive_on.Goals as goal
+
+pub loop-nth-init : goal.loop-nth-init
+loop-nth-init g c = record {
+  same = (refl, refl, refl);
+  desk = c.requires.desk;
+  drives = none-driven g.G.Gate.gives g.G.Gate.told c.args.gate.now c.args.who c.args.seat c.requires.fresh;
+}
+
+pub loop-nth-preserved : goal.loop-nth-preserved
+loop-nth-preserved g c =
+    let h = c.loop-nth.invariant in
+    let same = c.take_turn.ensures.same in
+    record {
+      same = (same.0 ∙ h.same.0, same.1 ∙ h.same.1, same.2 ∙ h.same.2);
+      desk = same.0 ∙ h.desk;
+      drives = one-driven g.G.Gate.gives g.G.Gate.told c.args.gate.now c.args.who c.loop-nth.nth c.loop-nth.seat c.take_turn.new.seat h.drives c.in-Some.ensures.turn;
+    }
+
+pub returns-in-None-clause-drives : goal.returns-in-None-clause-drives
+returns-in-None-clause-drives g c = (
+  c.loop-nth.nth + 1,
+  held-back g.G.Gate.gives g.G.Gate.told c.args.gate.now c.args.who c.loop-nth.nth (c.loop-nth.nth + 1) c.loop-nth.seat c.take_turn.new.seat c.loop-nth.invariant.drives (omega arith)
+      c.in-None.ensures.turn,
+)
