@@ -35,7 +35,7 @@ abbrev pub IsFlag : Option (List ℕ) → Bool → Type 0
 IsFlag value flag = (value ≡ None → flag ≡ false) × (value ≡ Some (codes "true") → flag ≡ true) × (value ≡ Some (codes "false") → flag ≡ false)
 
 -- The options are what clap found: each number is just the one that was given, or the usual one.
-pub record AsksFor (found : Found) (options : Options) : Type 0 where
+pub record Finds (found : Found) (options : Options) : Type 0 where
   pub text : option_map (λ s. s.now) options.text ≡ first_value found (codes "text")
   pub readonly : IsFlag (one_text found (codes "readonly")) options.readonly
   pub port : IsGiven 1 65535 (first_value found (codes "port")) options.port
@@ -45,8 +45,14 @@ pub record AsksFor (found : Found) (options : Options) : Type 0 where
   pub check : option_map (λ s. s.now) options.check ≡ first_value found (codes "check")
   pub book : IsFlag (one_text found (codes "book")) options.book
   pub live : IsFlag (one_text found (codes "live")) options.live
-  -- a router that stays takes no number of rounds, and tells nothing at an end
-  pub stays : options.live ≡ true → (first_value found (codes "number") ≡ None) × (options.check ≡ None) × (options.book ≡ false)
+
+-- a router that stays was given no number of rounds, and nothing that is told at an end
+abbrev pub GoesOn : Found → Options → Type 0
+GoesOn found options = options.live ≡ true → (first_value found (codes "number") ≡ None) × (options.check ≡ None) × (options.book ≡ false)
+
+-- the options are what clap found, and go together
+abbrev pub AsksFor : Found → Options → Type 0
+AsksFor found options = Finds found options × GoesOn found options
 
 -- each number is in its range
 pub record IsInRanges (options : Options) : Type 0 where

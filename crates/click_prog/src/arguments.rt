@@ -1,13 +1,13 @@
 //! The program's command line.
 
-ghost use Rattle.std.specs.Prelude.{◌≡◌, ◌≤◌, IfOk, IfErr, IfSome, IfNone, MatchOption, codes, false, is_some, true, option_map, Some, None};
+ghost use Rattle.std.specs.Prelude.{◌≡◌, ◌≤◌, IfOk, IfErr, IfSome, IfNone, MatchOption, codes, false, is_some, true, option_map};
 ghost use Rattle.std.specs.Char.{is_ascii_digit};
 ghost use Rattle.std.specs.List.{list_all};
 ghost use Rattle.clap.specs.Built.{IsPlainArg, IsParsedFrom, TakesValue};
-ghost use Rattle.clap.specs.Matches.{first_value, found_of, one_text};
+ghost use Rattle.clap.specs.Matches.{first_value, found_of};
 ghost use Rattle.clap.specs.declared.builder.command.Command.{Command};
 ghost use Rattle.clap.specs.declared.parser.matches.ArgMatches.{ArgMatches};
-ghost use Rattle.click_prog.specs.Asked.{AsksFor, IsGiven, IsGivenOr, IsInRanges, IsMistyped, IsNoNumber, IsNumber};
+ghost use Rattle.click_prog.specs.Asked.{AsksFor, Finds, GoesOn, IsGiven, IsGivenOr, IsInRanges, IsMistyped, IsNoNumber, IsNumber};
 
 use clap::{Arg, ArgAction, ArgMatches, Command, Error};
 use std::alloc::Global;
@@ -112,14 +112,21 @@ fn parsed<'a>(alloc: Global, words: &'a [String]) -> Result<ArgMatches<'a>, Erro
     Ok(matches)
 }
 
-/// What was found in the words.
+/// What was found in the words, where that goes together.
 fn options_in<'a>(matches: &ArgMatches<'a>) -> Result<Options<'a>, Refusal<'a>>
     ensures { IfOk result (AsksFor (found_of matches.now)) }
 {
-    let live = matches.get_flag("live");
-    if let (true, Some(option)) = (live, of_an_end(matches)) {
-        return Err(Refusal::NotLive(NotLive { option }));
+    let options = options_found(matches)?;
+    match of_an_end(matches, &options) {
+        Some(option) => Err(Refusal::NotLive(NotLive { option })),
+        None => Ok(options),
     }
+}
+
+/// What was found in the words.
+fn options_found<'a>(matches: &ArgMatches<'a>) -> Result<Options<'a>, Refusal<'a>>
+    ensures { IfOk result (Finds (found_of matches.now)) }
+{
     Ok(Options {
         text: matches.get_str("text"),
         readonly: matches.get_flag("readonly"),
@@ -129,22 +136,24 @@ fn options_in<'a>(matches: &ArgMatches<'a>) -> Result<Options<'a>, Refusal<'a>>
         rounds: number_of(matches, "number", "--rounds <N>", 0, 1_000_000, 1_000)?,
         check: matches.get_str("check"),
         book: matches.get_flag("book"),
-        live,
+        live: matches.get_flag("live"),
     })
 }
 
-/// The first option that was given of those which only a run that ends has.
-fn of_an_end(matches: &ArgMatches) -> Option<&'static str>
-    ensures { IfNone result ((first_value (found_of matches.now) (codes "number") ≡ None) × (first_value (found_of matches.now) (codes "check") ≡ None)
-        × ((one_text (found_of matches.now) (codes "book") ≡ Some (codes "true")) → ⊥)) }
+/// Where the router stays, the first option that was given of those which only a run that ends has.
+fn of_an_end(matches: &ArgMatches, options: &Options) -> Option<&'static str>
+    ensures { IfNone result (GoesOn (found_of matches.now) options.now) }
 {
+    if !options.live {
+        return None;
+    }
     if matches.get_str("number").is_some() {
         return Some("--rounds");
     }
-    if matches.get_str("check").is_some() {
+    if options.check.is_some() {
         return Some("--check");
     }
-    if matches.get_flag("book") {
+    if options.book {
         return Some("--book");
     }
     None

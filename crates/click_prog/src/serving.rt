@@ -15,7 +15,9 @@ use click_control::{InputDevice, OutputDevice, Reading, Sink, Source, Writing};
 use click_desk::Entry;
 use click_handlers::{Table, TakesTable};
 use click_router::{Check, ConfigFault, Handlers};
-use click_workers::{Door, Gate, Listening, OpenGate, RunFault, run, run_live, run_workers};
+use click_workers::{
+    AllRan, Door, Gate, Listening, OpenGate, Ran, RunFault, run, run_live, run_workers,
+};
 use std::alloc::Global;
 use std::io::{self, Stdin, Stdout, Write};
 use std::marker::Model;
@@ -131,10 +133,16 @@ fn serve_text<T: Handlers + Drop, S: Source, W: Sink, E: Write, R: Wait>(
     ensures { RunsTo text.now readonly (S.input reader.old) (S.input reader.new) (W.output writer.old) (W.output writer.new) result }
 {
     match run(rt, alloc, table, reader, writer, text, readonly, end.check) {
-        Ok(ran) => {
-            tell_check(errors, end.check, ran.checked);
-            tell_book(alloc, errors, end.book, ran.book.entries.as_slice());
-            of_end(&ran.ended)
+        Ok(
+            Ran {
+                ended,
+                book,
+                checked,
+            },
+        ) => {
+            tell_check(errors, end.check, checked);
+            tell_book(alloc, errors, end.book, book.entries.as_slice());
+            of_end(&ended)
         }
         Err(fault) => refuse(alloc, errors, &fault),
     }
@@ -164,10 +172,17 @@ pub fn serve_all<T: Handlers + Send + Drop, D: Door, E: Write, R: Threads + Wait
     match run_workers(
         rt, alloc, table, text, readonly, door, sessions, workers, rounds, &OpenGate, end.check,
     ) {
-        Ok(ran) => {
-            tell_check(errors, end.check, ran.checked);
-            tell_book(alloc, errors, end.book, ran.book.entries.as_slice());
-            of_sessions(ran.ended.as_slice())
+        Ok(
+            AllRan {
+                ended,
+                drivers: _,
+                book,
+                checked,
+            },
+        ) => {
+            tell_check(errors, end.check, checked);
+            tell_book(alloc, errors, end.book, book.entries.as_slice());
+            of_sessions(ended.as_slice())
         }
         Err(fault) => refuse(alloc, errors, &fault),
     }
