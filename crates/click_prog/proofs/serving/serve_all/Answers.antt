@@ -5,10 +5,10 @@ use Rattle.click_prog.proofs.serving.serve_all.Goals as goal
 pub returns-in-Ok : goal.returns-in-Ok
 returns-in-Ok g c = rw (← c.plan.view_is) (inl (record {
   gate = _;
-  book = c.in-Ok.book;
+  book = _;
   headline = c.in-Ok.ensures.headline;
-  ended = c.in-Ok.ended.items;
+  ended = _;
   drivers = _;
   worked = c.in-Ok.ensures.worked;
-  is = c.of_sessions.ensures ∙ ap sessions_status c.as_slice-2.ensures.value;
+  is = c.of_sessions.ensures ∙ ap sessions_status c.as_slice-in-Ok.ensures.value;
 }))

@@ -3,9 +3,9 @@ use Rattle.click_prog.proofs.serving.serve_text.Goals as goal
 
 pub returns-in-Ok : goal.returns-in-Ok
 returns-in-Ok g c = inl (record {
-  book = c.in-Ok.book;
+  book = _;
   headline = c.in-Ok.ensures.headline;
-  ended = c.in-Ok.ended;
+  ended = _;
   ran = c.in-Ok.ensures.served;
   is = c.of_end.ensures;
 })
