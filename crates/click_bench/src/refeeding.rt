@@ -197,7 +197,45 @@ fn poll_again<T: Handlers, R: Wait>(
     Ok(())
 }
 
-/// A read, a poll, a write, a swap, a packet that leaves, and a read.
+/// A read, a poll and a write.
+fn work_before<T: Handlers, R: Wait>(
+    rt: &R,
+    host: &HostRuntime,
+    desk: &Desk<T, &R>,
+    seat: &mut Seat<T>,
+    view: &mut View,
+) -> io::Result<()>
+    requires seat { seat.old.desk ≡ desk.now }
+    requires view { view.old.board ≡ desk.now.terms.origin }
+    ensures seat { (seat.new.desk ≡ seat.old.desk) × (seat.new.feeds ≡ seat.old.feeds) }
+    ensures view { view.new.board ≡ view.old.board }
+{
+    let alloc = host.alloc();
+    call_again(rt, host, desk, seat, view, &read(alloc, b"c.count")?)?;
+    poll_again(rt, host, desk, seat, view)?;
+    call_again(rt, host, desk, seat, view, &write(alloc)?)
+}
+
+/// A swap, a packet that leaves, and a read.
+fn work_after<T: Handlers, R: Wait>(
+    rt: &R,
+    host: &HostRuntime,
+    desk: &Desk<T, &R>,
+    seat: &mut Seat<T>,
+    view: &mut View,
+) -> io::Result<()>
+    requires seat { seat.old.desk ≡ desk.now }
+    requires view { view.old.board ≡ desk.now.terms.origin }
+    ensures seat { (seat.new.desk ≡ seat.old.desk) × (seat.new.feeds ≡ seat.old.feeds) }
+    ensures view { view.new.board ≡ view.old.board }
+{
+    let alloc = host.alloc();
+    call_again(rt, host, desk, seat, view, &swap(alloc)?)?;
+    call_again(rt, host, desk, seat, view, &transmit(alloc)?)?;
+    call_again(rt, host, desk, seat, view, &read(alloc, b"q.drops")?)
+}
+
+/// All these calls.
 fn work<T: Handlers, R: Wait>(
     rt: &R,
     host: &HostRuntime,
@@ -209,27 +247,8 @@ fn work<T: Handlers, R: Wait>(
     requires view { view.board ≡ desk.now.terms.origin }
     ensures { IfOk result (λ s. (s.desk ≡ seat.desk) × (s.feeds ≡ seat.feeds)) }
 {
-    let alloc = host.alloc();
-    call_again(
-        rt,
-        host,
-        desk,
-        &mut seat,
-        &mut view,
-        &read(alloc, b"c.count")?,
-    )?;
-    poll_again(rt, host, desk, &mut seat, &mut view)?;
-    call_again(rt, host, desk, &mut seat, &mut view, &write(alloc)?)?;
-    call_again(rt, host, desk, &mut seat, &mut view, &swap(alloc)?)?;
-    call_again(rt, host, desk, &mut seat, &mut view, &transmit(alloc)?)?;
-    call_again(
-        rt,
-        host,
-        desk,
-        &mut seat,
-        &mut view,
-        &read(alloc, b"q.drops")?,
-    )?;
+    work_before(rt, host, desk, &mut seat, &mut view)?;
+    work_after(rt, host, desk, &mut seat, &mut view)?;
     Ok(seat)
 }
 
