@@ -6,6 +6,7 @@ ghost use Rattle.click_rings.specs.Feeds.{are_apart};
 ghost use Rattle.click_router.specs.Polls.{is_poll};
 
 use crate::drivers::{Driver, close_and_settle, count_on, drivers_of, puts};
+use crate::views::last_view_of;
 use click_desk::{Desk, Seat, View};
 use click_handlers::{Table, TakesTable, with_table};
 use click_router::{Call, Check, Handlers, Reply};
@@ -172,19 +173,37 @@ fn closes<T: Drop, R: Wait>(
 }
 
 /// Two seats, a view and a feed of a live desk.
-fn serves<T: Handlers + Drop, R: Wait>(rt: &R, alloc: Global, table: T) -> Option<bool> {
-    let (mut drivers, inlets) = drivers_of(alloc, b"a", 4)?;
-    let opened = Desk::open_live(rt, alloc, table, RUNNING, 2, inlets, 1);
-    let (desk, mut seats, mut views) = opened.ok()?;
+fn serves_at<T: Handlers + Drop, R: Wait>(
+    rt: &R,
+    alloc: Global,
+    desk: Desk<T, &R>,
+    mut seats: Vec<Seat<T>>,
+    views: Vec<View>,
+    mut drivers: Vec<Driver>,
+) -> Option<bool>
+    requires desk { All (λ s. s.desk ≡ desk) seats.items }
+    requires fed { All (λ s. s.feeds ≡ drivers.items) seats.items }
+    requires views { All (λ v. v.board ≡ desk.terms.origin) views.items }
+    requires apart { are_apart drivers.items ≡ true }
+{
     let mut other = seats.pop()?;
     let mut one = seats.pop()?;
-    let mut view = views.pop()?;
+    let (mut view, _) = last_view_of(&desk, views)?;
     let turns = in_turn(rt, alloc, &desk, &mut one, &mut other);
     let put = puts(alloc, &mut drivers) & puts(alloc, &mut drivers);
     let seen = polls_and_swaps(rt, alloc, &desk, &mut other, &mut view);
     let last = puts(alloc, &mut drivers);
     let closed = closes(rt, alloc, desk, one, other, drivers)?;
     Some(turns & put & seen & last & closed)
+}
+
+/// A live desk is opened, serves and is closed.
+fn serves<T: Handlers + Drop, R: Wait>(rt: &R, alloc: Global, table: T) -> Option<bool> {
+    let (drivers, inlets) = drivers_of(alloc, b"a", 4)?;
+    match Desk::open_live(rt, alloc, table, RUNNING, 2, inlets, 1) {
+        Ok((desk, seats, views)) => serves_at(rt, alloc, desk, seats, views, drivers),
+        Err(_refused) => None,
+    }
 }
 
 #[derive(Drop)]
