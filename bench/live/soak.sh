@@ -1,0 +1,38 @@
+#!/usr/bin/env bash
+# A router that stays for a long time: eight clients in C make CALLS calls in all (1,000,000 if not given) over TCP, with swaps among them, beside a driver that
+# always finds work; every ten seconds its memory, and at the end how many Rounds the driver has made by then, by the packets that they gave. PROGRAM is
+# click_prog, if not the one that is built here. Needs cc. It is no part of the gate.
+#
+#   bench/live/soak.sh [CALLS]
+set -eu
+here="$(cd "$(dirname "$0")" && pwd)"
+program=${PROGRAM:-$here/../../crates/click_prog/out/click_prog}
+calls=${1:-1000000}
+work="$(mktemp -d)"
+trap 'kill "$router" 2> /dev/null || true; rm -rf "$work"' EXIT
+cc -O2 -pthread -o "$work/soak" "$here/soak.c"
+text='InfiniteSource(ab, 4294967295, 1) -> c :: Counter -> q :: Queue(100) -> Unqueue -> Discard; Idle -> s :: Switch(0) -> Discard; s [1] -> Discard;'
+other=${text/Queue(100)/Queue(200)}
+port=$((20000 + RANDOM % 20000))
+"$program" -e "$text" -p "$port" -n 8 -w 1 --live < /dev/null &
+router=$!
+sleep 1
+memory() { sed -n 's/^VmRSS:[[:space:]]*//p' "/proc/$router/status"; }
+started=$SECONDS
+"$work/soak" "$port" $((calls / 8)) "$text" "$other" > "$work/said" &
+clients=$!
+while kill -0 "$clients" 2> /dev/null; do
+    echo "$((SECONDS - started)) s: $(memory)"
+    sleep 10
+done
+wait "$clients"
+cat "$work/said"
+echo "$((SECONDS - started)) s, at the end: $(memory)"
+printf 'READ c.count\nQUIT\n' > "$work/last"
+exec 3<> "/dev/tcp/127.0.0.1/$port"
+cat "$work/last" >&3
+# The greeting, the line of the read, and how many bytes its value has.
+for _ in 1 2 3; do read -r line <&3; done
+echo "Rounds made by the driver, a packet each: $(head -c "$(tr -cd 0-9 <<< "$line")" <&3)"
+kill "$router"
+wait "$router" || echo "ended by SIGTERM: status $?"
