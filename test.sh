@@ -19,7 +19,7 @@ took() {
 }
 
 sources=$(sum_of_sources)
-# A check for each processor, where there are 4 GB for each: the tests of click_desk_tests were seen to take 4.7, and most others less than 3. By itself rt
+# A check for each processor, where there are 4 GB for each: the tests of click_desk_tests were seen to take 6.4, and most others less than 3. By itself rt
 # expects them to take several times as much, and leaves processors idle.
 most=$(awk -v most="$(nproc)" '/^MemAvailable:/ { room = int($2 / 4000000); print room < 1 ? 1 : room < most ? room : most }' /proc/meminfo)
 RT_JOBS=${RT_JOBS:-$most} rt ci
