@@ -37,6 +37,8 @@ tools/examples.py
 tools/client.sh
 tools/sessions.sh
 tools/hostile.sh
+tools/udp_links.py
+examples/gateway/run.sh
 tools/links.py
 tools/definitions.py
 tools/swap_faults.sh

@@ -14,6 +14,7 @@ import shlex
 import subprocess
 import sys
 import time
+import xml.etree.ElementTree as xml
 from collections import namedtuple
 
 sys.dont_write_bytecode = True
@@ -109,6 +110,20 @@ def client(row):
         same(b"", router.communicate(timeout=30)[0], f"what the router beside the client of {page} says")
         same(0, router.returncode, f"the status of the router beside the client of {page}")
     return "the client prints what it shows"
+
+
+def script(row):
+    """The page's script in Python, which starts the program itself as ./run.sh, prints the block after `It prints`."""
+    page = row.pages[0]
+    scripts = blocks(page, "```python")
+    same(1, len(scripts), f"the scripts of {page}")
+    lines, _, after = scripts[0]
+    shown = "\n".join(between(after, "It prints$", "## ")).partition("```\n")[2].partition("```")[0]
+    is_there(shown, f"what the script of {page} prints")
+    with in_folder(("run.sh", program("click_prog"))) as folder:
+        came = ran([sys.executable, "-I", "-c", "\n".join(lines)], seconds=20, cwd=folder)
+    answered(came, f"what the script of {page} prints", out=shown.encode())
+    return "the script prints what it shows"
 
 
 def manual_pages():
@@ -319,6 +334,73 @@ def opens(row):
     return f"{len(lines_of(row.pages[0]))} texts served"
 
 
+def flat_form(came):
+    """Of what a session answers to `READ list` and `READ flatconfig`: the names and classes of the elements, in order, and the connections as pairs of names, if it opens."""
+    values, rest = [], came.out
+    while found := re.search(rb"DATA (\d+)\r\n", rest):
+        rest = rest[found.end() :]
+        values.append(rest[: int(found[1])].decode())
+        rest = rest[int(found[1]) :]
+    names = values[0].splitlines()[1:]
+    classes = [re.search(rf"^{re.escape(name)} :: (\w+)", values[1], re.M)[1] for name in names]
+    joined = re.findall(r"^(\S+)(?: \[\d+\])? -> (?:\[\d+\] )?(\S+);$", values[1], re.M)
+    return list(zip(names, classes)), joined
+
+
+def shows(picture, elements, joined, what):
+    """The picture is XML, with a box for each of the elements, in order, and a line for each connection from the lower side of the one's box to the upper side of the other's."""
+    svg, boxes = "{http://www.w3.org/2000/svg}", {}
+    try:
+        top = xml.fromstring(picture)
+    except xml.ParseError as error:
+        fail(f"{what} is no XML: {error}")
+    groups = [it for it in top.iter(f"{svg}g") if it.get("id")]
+    same([f"e{at}" for at in range(len(elements))], [it.get("id") for it in groups], f"the elements of {what}")
+    for (name, named), it in zip(elements, groups):
+        same([name, named], [text.text for text in it.iter(f"{svg}text")], f"a box of {what}")
+        left, upper = map(int, re.fullmatch(r"translate\((\d+),(\d+)\)", it.get("transform")).groups())
+        box = next(it.iter(f"{svg}rect"))
+        boxes[name] = left, upper, left + int(box.get("width")), upper + int(box.get("height"))
+    lines = list(top.iter(f"{svg}polyline"))
+    same([f"c{at}" for at in range(len(joined))], [it.get("id") for it in lines], f"the lines of {what}")
+    for (source, target), it in zip(joined, lines):
+        points = [tuple(map(int, point.split(","))) for point in it.get("points").split()]
+        (x, y), (to_x, to_y), source, target = points[0], points[-1], boxes[source], boxes[target]
+        is_there(source[0] < x < source[2] and y == source[3], f"the beginning of line {it.get('id')} of {what}")
+        is_there(target[0] < to_x < target[2] and to_y == target[1], f"the end of line {it.get('id')} of {what}")
+
+
+def draws(prog, text):
+    """The program draws just what a session lists over the text, or refuses it as a run does; whether it draws it."""
+    what = f"the picture of {text[:200]}"
+    run, drawn = ran([prog, "-e", text], b"READ list\nREAD flatconfig\nQUIT\n"), ran([prog, "--draw", "-e", text], b"READ list\n")
+    if run.status:
+        answered(drawn, what, err=run.err, status=1)
+        return False
+    answered(drawn._replace(out=b""), what)
+    shows(drawn.out, *flat_form(run), what)
+    return True
+
+
+def pictures(row):
+    """The page's command writes just the picture that the page shows; of each example, of each text that opens and of each that does not, `--draw` writes what it
+    should; and a picture that cannot be written is a failed device."""
+    (page, *folders), prog = row.pages, program("click_prog")
+    command = re.search(r"^    (\./run\.sh --draw .* > (\S+\.svg))$", text_of(page), re.M)
+    if not command or f"]({command[2]})" not in text_of(page):
+        fail(f"{page} has no picture with its command")
+    with in_folder(("run.sh", prog), ("examples", f"{TOP}/examples")) as folder:
+        answered(ran(["bash", "-c", command[1]], cwd=folder), f"the command of {page}")
+        with open(f"{folder}/{command[2]}", "rb") as it:
+            same(bytes_of(f"docs/{command[2]}"), it.read(), f"what the command of {page} writes, and what the page shows")
+    texts = [text_of(f"{folder}/{it}.click").rstrip("\n") for folder in folders for it in names_in(folder, ".click")]
+    texts += [*lines_of("examples/opens.txt"), *(it.split("\t", 1)[1] for it in lines_of("examples/faults.txt")), "Idle -> Null;" * 2048, "Idle;" * 4097]
+    drawn = sum(draws(prog, text) for text in texts)
+    with open("/dev/full", "wb") as full:
+        answered(ran([prog, "--draw", "-e", COUNTER], stdout=full), "a picture that cannot be written", status=4)
+    return f"the picture is as it shows; {drawn} texts drawn, {len(texts) - drawn} refused"
+
+
 def wrong_lines(row):
     """A line that is no call ends the program; the calls before it were answered, and those after it are not."""
     calls, text, longest = program("click_calls"), "FromDevice(a) -> q :: Queue -> ToDevice(b);", "00" * 1600
@@ -338,13 +420,15 @@ def wrong_lines(row):
 
 def arguments(row):
     """Each row has a program, the words of its command line, and a line that it writes. It writes on standard error alone, and ends with status 2; where the line
-    is `good`, a session is served."""
+    is `good`, a session is served, and at its end the counts of each link are told."""
     rows = [it.split("\t") for it in lines_of(row.pages[0]) if not it.startswith("#")]
     for name, words, line in rows:
         came = ran([program(name), *(it.encode().decode("unicode_escape").encode("latin-1") for it in shlex.split(words))], b"QUIT\n")
         what = f"{name} {words}"
         if line == "good":
-            answered(came, what, out=GREETING + b"200 Goodbye!\r\n")
+            counts = "received 0, from elsewhere 0, too long 0, no room 0, no memory 0, entered 0, sent 0, failed 0"
+            told = "".join(f"link {device}: {counts}\n" for device in re.findall(r"--link[ =]([^ =]+)=", words))
+            answered(came, what, out=GREETING + b"200 Goodbye!\r\n", err=told.encode())
             continue
         same(b"", came.out, f"standard output of {what}")
         same(2, came.status, f"the status of {what}")
@@ -443,8 +527,10 @@ def commands(row):
     with in_folder(("crates/click_pcap/out/click_pcap", program("click_pcap")), ("examples", f"{TOP}/examples")) as folder:
         answered(ran(["bash", "-c", capture[1]], cwd=folder), f"{page}'s capture", err=says[1].encode() + b"\n")
         is_there(os.path.exists(f"{folder}/out.pcap") and os.path.getsize(f"{folder}/out.pcap"), f"what {page}'s capture writes")
-    version = re.search(r"`rt version` is `([^`]*)`", text)
-    same(ran(["rt", "version"]).out.decode().strip(), version and version[1], f"the toolchain that {page} names")
+    named = re.search(r"`rt version` is `(\S+) (logic \w+)`, or `(\S+)` with the same logic", re.sub(r"\s+", " ", text))
+    here = ran(["rt", "version"]).out.decode().strip()
+    if not named or here not in (f"{named[1]} {named[2]}", f"{named[3]} {named[2]}"):
+        fail(f"{page} does not name the toolchain that is here, {here}")
     return "the first command answers as it shows, and the capture says what it shows"
 
 
@@ -478,6 +564,8 @@ TABLE = (
     Row(["docs/HOTSWAP.md"], ["click_calls"], dialogue),
     Row(["docs/CALLS.md"], ["click_calls"], dialogue),
     Row(["docs/PCAP.md"], ["click_pcap"], captures),
+    Row(["docs/LINKS.md"], ["click_prog"], script),
+    Row(["docs/PICTURE.md", "examples", "examples/calls", "examples/gateway", "examples/pcap"], ["click_prog"], pictures),
     Row(["docs/FEEDS.md", "crates/click_desk_tests/src/drivers.rt"], [], driver),
     Row(["docs/FAULTS.md", "crates/click_router/src/fault.rt"], ["click_prog", "click_bench"], faults),
     Row(["docs/ELEMENTS.md"], ["click_calls"], sections),

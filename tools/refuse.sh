@@ -1,6 +1,6 @@
 #!/usr/bin/env bash
 # Refuses each request for memory of some runs in turn, until a run has none refused: the program's stored session and some others, handlers that are read and written, the
-# preparing and the parsing of some texts, the making of some elements, swaps that are tried again, a capture through a router. The programs must have been built.
+# preparing and the parsing of some texts, the drawing of some, the making of some elements, swaps that are tried again, a capture through a router. The programs must have been built.
 #
 #   tools/refuse.sh [program|calls|pcap|bench]    the runs of click_prog, of click_calls, of click_pcap, or of click_bench, alone
 set -eu
@@ -123,6 +123,14 @@ E
         in_turn "the program with $(basename "$text")" /dev/null "$work/greeting" none 3 "$work/greeting" "$program" -e "$(cat "$text")"
     done
     passed none 'while texts are prepared'
+
+    # A picture is written whole or not at all.
+    : > "$work/nothing"
+    for text in "$top"/tools/texts/*.click; do
+        "$program" --draw -e "$(cat "$text")" > "$work/picture"
+        in_turn "the picture of $(basename "$text")" /dev/null "$work/picture" none 3 "$work/nothing" "$program" --draw -e "$(cat "$text")"
+    done
+    passed none 'while pictures are drawn'
 
     refuse_drivers
 }

@@ -137,6 +137,8 @@ def functions_of(crate, folder, file, text):
     for at, line in enumerate(lines):
         if re.match(r"(unsafe )?impl\b", line):
             inside = path_of(crate, folder, file, line)
+        elif trait := re.match(r"(?:pub(?:\([^)]*\))? )?trait (\w+)", line):
+            inside = f"{module_of(crate, file)}::{trait[1]}"
         elif line == "}":
             inside = None
         marked = re.match(r"\s*#\[cycle\((\w+)\)\]", line)

@@ -124,6 +124,19 @@ wrong_kind arguments 'more than its own line' 'if [ $status = 2 ]; then echo mor
 wrong_kind arguments 'another range' 'if [ $status = 2 ]; then sed -i "s/65535/65536/" "$err"; fi'
 wrong_kind limits 'another status where a device fails' 'if [ $status = 4 ]; then status=3; fi'
 wrong_kind limits 'a line that is never too long' 'sed -i "s/^500 Line too long/200 Goodbye!/" "$out"'
+wrong_kind pictures 'another picture' 'sed -i "s/ class=.pull./ class=\"push\"/" "$out"'
+# Of other pictures than that of the page, which is compared byte by byte: a name, a class, an end, a line, two ids, a box's place, and the two ends of a line.
+for change in 's/>Idle@1</>Idle@2</' 's/>Discard</>Idle</' '$d' '0,/<polyline/ { /<polyline/d }' 's/id="c0"/id="c1"/' 's/id="e1"/id="e0"/' 's/translate(2/translate(72/' \
+    's/points="\([0-9]*\),/points="1\1,/' 's/ \([0-9,]*\)"\/>$/ 1\1"\/>/'; do
+    wrong_kind pictures "the change $change" "if ! grep -q out0 \"\$out\"; then sed -i '$change' \"\$out\"; fi"
+done
+wrong_kind pictures 'no picture' 'if grep -q "^<svg" "$out"; then : > "$out"; fi'
+wrong_kind pictures 'a session behind the picture' 'if grep -q "^<svg" "$out"; then printf "Click::ControlSocket/1.3\r\n" >> "$out"; fi'
+wrong_kind pictures 'a fault on standard output' 'if [ $status = 1 ]; then mv "$err" "$out"; : > "$err"; fi'
+wrong_kind pictures 'a picture beside a fault' 'if [ $status = 1 ]; then echo "<svg></svg>" > "$out"; fi'
+wrong_kind pictures 'a good end at a fault' 'if [ $status = 1 ] && ! grep -q "^Click" "$out"; then status=0; fi'
+wrong_kind pictures 'a good end where it cannot be written' 'if [ $status = 4 ]; then status=0; fi'
+wrong_kind arguments 'a picture whatever else is asked' 'if grep -q "^click_prog: --draw" "$err"; then : > "$err"; echo "<svg></svg>" > "$out"; status=0; fi'
 wrong_kind faults 'a fault without its place' 'sed -i "s/ \(at\|in\) .*//" "$err"'
 wrong_kind readings 'a fault without its place' 'sed -i "s/ \(at\|in\) .*//" "$err"'
 
@@ -164,7 +177,7 @@ case_wrong() {
     shift 3
     { echo '#!/bin/sh'; printf '%s\n' "program='$program'" "$@"; } > "$work/listening"
     chmod +x "$work/listening"
-    PROGRAM=$work/listening SECONDS_TO_WAIT=3 is_refused "a program with $what" "$script" "$case"
+    PROGRAM=$work/listening SECONDS_TO_WAIT=3 is_refused "a program with $what" "$script" ${case:+"$case"}
 }
 sessions_wrong() { case_wrong tools/sessions.sh "$@"; }
 hostile_wrong() { case_wrong tools/hostile.sh "$@"; }
@@ -239,11 +252,118 @@ hostile_wrong readonly 'no drivers' "$(exchanged 2 0)"
 hostile_wrong rounds 'a round less' "$(exchanged 200000 199999)"
 hostile_wrong rounds 'a round more' "$(exchanged 200000 200001)"
 
+# Links. A relay between the peers and the program's own links, with a fault: it lets strangers in (open), keeps them and what is too long out without a count
+# (strict), loses a packet in a thousand (loses), or gives a link up where nobody listens (gives_up). The program stays the process that was started.
+cat > "$work/relay.py" << 'E'
+import os
+import socket
+import sys
+import threading
+import time
+
+fault, program, *words = sys.argv[1:]
+HOST = "127.0.0.1"
+
+
+def bound(port=0):
+    it = socket.socket(socket.AF_INET, socket.SOCK_DGRAM)
+    it.bind((HOST, port))
+    return it
+
+
+def carry(come, go, to, known):
+    for count in range(1, 1 << 40):
+        packet, sender = come.recvfrom(65536)
+        if known and fault != "open" and (sender[1] != known or len(packet) > 1600):
+            continue
+        if fault == "gives_up" and not known:
+            go.send(packet)
+        elif fault != "loses" or count % 1000:
+            go.sendto(packet, to)
+
+
+links = []
+for at, word in enumerate(words):
+    # A peer with an address of its own is left alone.
+    if at and words[at - 1] == "--link" and ":" not in word:
+        device, ports = word.split("=")
+        here, there = map(int, ports.split(","))
+        outer, inner, free = bound(here), bound(), bound()
+        words[at] = f"{device}={free.getsockname()[1]},{inner.getsockname()[1]}"
+        links.append((outer, inner, free.getsockname(), (HOST, there)))
+        free.close()
+main = os.getpid()
+if os.fork():
+    os.execv(program, [program, *words])
+os.closerange(0, 3)
+for outer, inner, own, peer in links:
+    giving = outer
+    if fault == "gives_up":
+        giving = bound()
+        giving.connect(peer)
+    threading.Thread(target=carry, args=(outer, inner, own, peer[1]), daemon=True).start()
+    threading.Thread(target=carry, args=(inner, giving, peer, 0), daemon=True).start()
+while os.getppid() == main:
+    time.sleep(0.1)
+E
+links_wrong() { PACKETS=20000 case_wrong tools/udp_links.py "$@"; }
+relayed() { echo "exec python3 '$work/relay.py' $1 \"\$program\" \"\$@\""; }
+# reworded FROM TO: lines that change the configuration. retold SED: lines that change what it says on standard error.
+reworded() { printf 'for word; do shift; set -- "$@" "$(printf %%s "$word" | sed "s/%s/%s/g")"; done\nexec "$program" "$@"\n' "$1" "$2"; }
+# The program stays the process that was started, so that it ends where that is ended.
+retold() { echo "told=\$(mktemp -u '$work/told.XXXX'); mkfifo \"\$told\"; sed -u '$1' < \"\$told\" >&2 & exec \"\$program\" \"\$@\" 2> \"\$told\""; }
+printf '#!/bin/sh\nexec "%s" "$@"\n' "$program" > "$work/listening"
+PROGRAM=$work/listening PACKETS=20000 ran tools/udp_links.py
+same_status 0 "$status" 'tools/udp_links.py, with a program that changes nothing'
+links_wrong refused 'a good end at wrong arguments' '"$program" "$@"' 'exit 0'
+links_wrong refused 'no line at wrong arguments' 'exec "$program" "$@" 2> /dev/null'
+links_wrong sizes 'an open door' "$(relayed open)"
+links_wrong sizes 'no count of what it keeps out' "$(relayed strict)"
+links_wrong sizes 'a packet less in its counts' "$(retold 's/entered 25/entered 24/')"
+links_wrong sizes 'another device in its lines' "$(retold 's/link b/link c/')"
+links_wrong sizes 'its lines in another order' "$(retold '1 { h; d }; 2 G')"
+links_wrong sizes 'its lines twice' "$(retold 'H; $! d; x; s/.//; h; G')"
+links_wrong sizes 'no lines' "$(retold d)"
+links_wrong sizes 'more than its lines' "$(retold '$ a more')"
+links_wrong sizes 'another status' '"$program" "$@"' 'exit 3'
+links_wrong sizes 'a first byte that is gone' "$(reworded '-> c ' '-> Strip(1) -> c ')"
+links_wrong sizes 'a processor that is never idle' 'exec 3<&0' '"$program" "$@" <&3 &' 'while kill -0 $! 2> /dev/null; do :; done' 'wait $!'
+links_wrong addresses 'a link that is at 127.0.0.1 all the same' "$(reworded '=127\.0\.0\.2' '=127.0.0.1')"
+links_wrong addresses 'a stranger less in its counts' "$(retold '1 s/from elsewhere 1/from elsewhere 0/')"
+links_wrong endless 'no end' '"$program" "$@"' 'exec sleep 30'
+links_wrong endless 'another status' '"$program" "$@"' 'exit 3'
+links_wrong endless 'a source that ends' "$(reworded '(ab)' '(ab, 5000)')"
+links_wrong endless 'a packet less in its counts' "$(retold 's/entered 1/entered 0/')"
+links_wrong nobody 'a link that is given up' "$(relayed gives_up)"
+links_wrong nobody 'no failures in its counts' "$(retold 's/failed 20/failed 0/')"
+links_wrong away 'another count of what found no room' "$(retold 's/no room /&1/')"
+links_wrong telling 'no lines while it runs' "$(exchanged 1 3600)"
+links_wrong telling 'a count that stays' "$(retold 's/received 1[0-9]/received 10/')"
+links_wrong telling 'a deaf ear at SIGTERM' "trap '' TERM" 'exec "$program" "$@"'
+links_wrong unread 'an end of all packets' '(sleep 2; kill -STOP $$) &' 'exec "$program" "$@"'
+links_wrong flood 'sessions that wait' '(sleep 1.5; kill -STOP $$; sleep 3.5; kill -CONT $$) &' 'exec "$program" "$@"'
+links_wrong flood 'a configuration that is no work' "$(reworded 'Tee(240)' 'Switch(0)')"
+links_wrong flood 'more in its counts than entered' "$(retold 's/entered /&1/')"
+links_wrong carrying 'each packet twice' "$(reworded '-> qb ' '-> t :: Tee -> qb; t [1] -> qb ')"
+links_wrong carrying 'another order' \
+    "$(reworded '-> qb :: Queue(1000) ' '-> r :: RoundRobinSwitch; r -> Queue -> [1] s :: PrioSched; r [1] -> qb :: Queue -> s ')"
+links_wrong carrying 'other bytes' "$(reworded '-> qb ' '-> Strip(1) -> qb ')"
+links_wrong carrying 'a packet in a thousand that is lost' "$(relayed loses)"
+# The gateway between two networks, where it is to be had.
+gateway_wrong() { case_wrong examples/gateway/run.sh '' "$@"; }
+if [ "$(examples/gateway/run.sh | tail -n 1)" = passed ]; then
+    gateway_wrong 'a time to live that stays' "$(reworded DecIPTTL Null)"
+    gateway_wrong 'a way back that is missing' "$(reworded '10\.1\.0\.0\/16 0, ' '10.3.0.0\/16 0, ')"
+    gateway_wrong 'nothing to tell' "$(exchanged 1 3600)"
+fi
+
 # Memory.
 wrong F 'another answer where memory runs out' 'sed -i "s/^520 .*/511 No handler named '"'c.count'"'\r/" "$out"'
 wrong F 'a fault where memory runs out' 'if [ $status = 3 ]; then echo "click_prog: 16 TooMany" > "$err"; status=1; fi'
 wrong F 'a line where memory runs out' 'if [ $status = 3 ]; then echo "click_prog: 7 NoMemory" > "$err"; fi'
 wrong F 'junk where memory runs out' 'if [ $status = 3 ]; then echo junk >> "$out"; fi'
+wrong F 'a piece of a picture where memory runs out' 'if [ "$1" = --draw ] && [ $status = 3 ]; then echo "<svg>" > "$out"; fi'
+wrong F 'a good end where there is no memory for a picture' 'if [ "$1" = --draw ] && [ $status = 3 ]; then status=0; fi'
 
 # click_bench.
 wrong_bench LAF 'no answer' ': > "$out"'
@@ -419,7 +539,7 @@ wrong_example() {
 }
 PROGRAM=$program wrong_example commands README.md '/^    \.\/run\.sh/d' 's/^    \.\/run\.sh -e/    .\/run.sh -x/' '/^which answers/d' \
     '/^    DATA 1/d' 's/^    200 Read/    201 Read/' 's/^    0200/    200/' '/^    crates\/click_pcap/d' '/^which says/d' 's/^which says `read 3/which says `read 4/' \
-    's/--in eth0/--in eth1/' 's/rattle-kit-[0-9]*[a-z]/rattle-kit-0/'
+    's/--in eth0/--in eth1/' 's/rattle-kit-[0-9]*[a-z]/rattle-kit-0/g' 's/`rattle-kit-[^`]* logic ./&0/'
 wrong_example tries README.md '/^    rt try/d' '/^    cd crates/d' 's/^    cd crates\/click_prog/    cd crates\/click_text/' '/^which answers/d' \
     's/^    0200/    200/'
 wrong_example dialogue docs/CONTROL.md '/^An example, with/d' 's/^    > QUIT/    > STOP/' 's/^    510/    511/' '/^    DATA 1/d'
@@ -427,6 +547,9 @@ wrong_example client docs/CONTROL.md '/^With `\.\/run\.sh/d' 's/^READ c.none \["
 wrong_example dialogue docs/HOTSWAP.md '/^An example, with/d' 's/^    > QUIT/    > STOP/' 's/^    520 31/    520 32/' 's/^    2> /    3> /' 's/^    >   ->/    > ->/' \
     's/^      ->/     ->/' '/^An example of calls, with/d' 's/^    value 36/    value 30/' 's/^    value 31/    value 30/' 's/^    value 30/    value 31/' '/^    > arrive a 0708/d'
 wrong_example dialogue docs/CALLS.md '/^An example of calls, with/d' 's/^    > transmit b/    > transmit a/' 's/^    value 32/    value 33/' '/^    sent none/d'
+wrong_example pictures docs/PICTURE.md '/^    \.\/run\.sh --draw/d' 's/^    \.\/run\.sh --draw/    .\/run.sh/' 's/calls\/ip_router\.click/calls\/priorities.click/' 's/](ip_router\.svg)/](router.svg)/'
+wrong_example script docs/LINKS.md 's/^```python/```/' 's/^It prints$/It says/' 's/entered 1, sent 0/entered 2, sent 0/' "s/^b'a packet'/b'packet'/" \
+    's/Queue(64) ->/Strip(1) -> &/' 's/b"QUIT/b"STOP/'
 wrong_example driver docs/FEEDS.md 's/self.count >= packets/self.count > packets/' '/thread::yield_now/d' '/^    /d'
 wrong_example driver crates/click_desk_tests/src/drivers.rt '/thread::yield_now/d'
 QUICK=1 wrong_example captures docs/PCAP.md '/^An example/d' 's/^    read 3/    read 4/' 's/--in eth0/--in eth1/' \

@@ -1,3 +1,4 @@
 -- What the code keeps on its way; no public contract cites it.
 pub mod Going
 pub mod Lines
+pub mod Shown

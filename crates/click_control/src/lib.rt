@@ -13,6 +13,7 @@ mod reply;
 mod said;
 mod serving;
 mod session;
+mod shown;
 mod start;
 mod turns;
 mod way;

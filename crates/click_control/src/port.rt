@@ -1,6 +1,6 @@
 //! Where a session's calls go.
 
-use click_router::{Call, Reply};
+use click_router::{Call, Recorded, Reply};
 use std::alloc::Global;
 use thiserror::Error;
 
@@ -25,8 +25,19 @@ pub trait Port {
     /// What an ask does: the port before it, the call, the answer, and the port after it.
     ghost asks: { Self → Call → Result Reply AskFault → Self → Type 0 };
 
+    /// Answers one call, which is no poll, with the reply as a history keeps it, which is small.
+    fn record(&mut self, alloc: Global, call: Call) -> Result<Recorded, AskFault>
+        requires { is_poll call ≡ false }
+        ensures { asks self.old call result self.new };
+
     /// Answers one call, which is no poll.
     fn ask(&mut self, alloc: Global, call: Call) -> Result<Reply, AskFault>
         requires { is_poll call ≡ false }
-        ensures { asks self.old call result self.new };
+        ensures { asks self.old call result self.new }
+    {
+        match self.record(alloc, call) {
+            Ok(reply) => Ok(reply.into_reply()),
+            Err(fault) => Err(fault),
+        }
+    }
 }

@@ -4,11 +4,13 @@ ghost use Rattle.std.specs.Prelude.{◌≡◌, ◌++◌, IfOk, codes};
 ghost use Rattle.std.specs.List.{before_last};
 ghost use Rattle.click_router.specs.One.{is_dot};
 ghost use Rattle.click_control.specs.ReplyText.{text_of, read_text, done_text, good_text, refused_text, failed_text, denied_text, naming, data_text, error_text};
+ghost use Rattle.click_control.specs.kept.Shown.{shown_reply, refusal_of};
 
 use crate::command::{Answer, Command};
 use crate::port::AskFault;
+use crate::shown::{Cause, Shown, shown_of, shown_of_recorded};
 use crate::way::Way;
-use click_router::{Refusal, Reply};
+use click_router::Recorded;
 use itoa::Buffer;
 use memchr::memrchr;
 use std::alloc::{AllocError, Global};
@@ -18,7 +20,7 @@ pub fn reply_text(alloc: Global, command: &Command, answer: &Answer) -> Result<V
     ensures { IfOk result (λ text. text.items ≡ text_of command.now answer.now) }
 {
     match answer {
-        Answer::Replied(reply) => replied_text(alloc, command, reply),
+        Answer::Replied(reply) => shown_text(alloc, command, shown_of(reply)),
         Answer::Failed(fault) => unreplied_text(alloc, command, *fault),
         Answer::NoCall => uncalled_text(alloc, command),
     }
@@ -28,15 +30,22 @@ pub fn reply_text(alloc: Global, command: &Command, answer: &Answer) -> Result<V
 pub(crate) fn replied_text(
     alloc: Global,
     command: &Command,
-    reply: &Reply,
+    reply: &Recorded,
 ) -> Result<Vec<u8>, AllocError>
     ensures { IfOk result (λ text. text.items ≡ text_of command.now (Answer.Replied reply.now)) }
 {
+    shown_text(alloc, command, shown_of_recorded(reply))
+}
+
+/// The lines for a command of whose reply this is shown.
+fn shown_text(alloc: Global, command: &Command, shown: Shown) -> Result<Vec<u8>, AllocError>
+    ensures { IfOk result (λ text. text.items ≡ text_of command.now (Answer.Replied (shown_reply shown.entry))) }
+{
     match command {
-        Command::Read { handler, .. } => read_text(alloc, handler.as_slice(), reply),
-        Command::CheckRead { handler } => done_text(alloc, Way::Read, handler.as_slice(), reply),
+        Command::Read { handler, .. } => read_text(alloc, handler.as_slice(), shown),
+        Command::CheckRead { handler } => done_text(alloc, Way::Read, handler.as_slice(), shown),
         Command::Write { handler, .. } | Command::CheckWrite { handler } => {
-            done_text(alloc, Way::Write, handler.as_slice(), reply)
+            done_text(alloc, Way::Write, handler.as_slice(), shown)
         }
         Command::Quit
         | Command::Syntax
@@ -89,27 +98,24 @@ pub(crate) fn uncalled_text(alloc: Global, command: &Command) -> Result<Vec<u8>,
 }
 
 /// The reply to a read of a handler.
-fn read_text(alloc: Global, handler: &[u8], reply: &Reply) -> Result<Vec<u8>, AllocError>
-    ensures { IfOk result (λ text. text.items ≡ read_text handler.now (Answer.Replied reply.now)) }
+fn read_text(alloc: Global, handler: &[u8], shown: Shown) -> Result<Vec<u8>, AllocError>
+    ensures { IfOk result (λ text. text.items ≡ read_text handler.now (Answer.Replied (shown_reply shown.entry))) }
 {
-    match reply {
-        Reply::Value(bytes) => value_text(alloc, handler, bytes.as_slice()),
-        Reply::Refused(why) => refused_text(alloc, Way::Read, handler, why),
-        Reply::Done | Reply::Entered(_) | Reply::Worked(_) | Reply::Sent(_) | Reply::NoDevice => {
-            Ok(Vec::new(alloc))
-        }
+    match shown {
+        Shown::Value(bytes) => value_text(alloc, handler, bytes),
+        Shown::Refused(why) => refused_text(alloc, Way::Read, handler, why),
+        Shown::Done | Shown::Nothing => Ok(Vec::new(alloc)),
     }
 }
 
 /// The reply to a write, and to the question whether a handler can be used that way.
-fn done_text(alloc: Global, way: Way, handler: &[u8], reply: &Reply) -> Result<Vec<u8>, AllocError>
-    ensures { IfOk result (λ text. text.items ≡ done_text way handler.now (Answer.Replied reply.now)) }
+fn done_text(alloc: Global, way: Way, handler: &[u8], shown: Shown) -> Result<Vec<u8>, AllocError>
+    ensures { IfOk result (λ text. text.items ≡ done_text way handler.now (Answer.Replied (shown_reply shown.entry))) }
 {
-    match reply {
-        Reply::Done => good_text(alloc, way, handler),
-        Reply::Refused(why) => refused_text(alloc, way, handler, why),
-        Reply::Value(_) | Reply::Entered(_) | Reply::Worked(_) | Reply::Sent(_) | Reply::NoDevice =>
-            Ok(Vec::new(alloc)),
+    match shown {
+        Shown::Done => good_text(alloc, way, handler),
+        Shown::Refused(why) => refused_text(alloc, way, handler, why),
+        Shown::Value(_) | Shown::Nothing => Ok(Vec::new(alloc)),
     }
 }
 
@@ -141,20 +147,15 @@ fn value_text(alloc: Global, handler: &[u8], bytes: &[u8]) -> Result<Vec<u8>, Al
 }
 
 /// Why a read or a write was refused.
-fn refused_text(
-    alloc: Global,
-    way: Way,
-    handler: &[u8],
-    why: &Refusal,
-) -> Result<Vec<u8>, AllocError>
-    ensures { IfOk result (λ text. text.items ≡ refused_text way handler.now why.now) }
+fn refused_text(alloc: Global, way: Way, handler: &[u8], why: Cause) -> Result<Vec<u8>, AllocError>
+    ensures { IfOk result (λ text. text.items ≡ refused_text way handler.now (refusal_of why.entry)) }
 {
     match why {
-        Refusal::NoElement => naming(alloc, b"510 No element named ", element_of(handler), b""),
-        Refusal::NoHandler => naming(alloc, b"511 No handler named ", handler, b""),
-        Refusal::WrongWay => wrong_way_text(alloc, way, handler),
-        Refusal::Handler(fault) => error_text(alloc, way, handler, fault.text()),
-        Refusal::Config(fault) => {
+        Cause::NoElement => naming(alloc, b"510 No element named ", element_of(handler), b""),
+        Cause::NoHandler => naming(alloc, b"511 No handler named ", handler, b""),
+        Cause::WrongWay => wrong_way_text(alloc, way, handler),
+        Cause::Handler(fault) => error_text(alloc, way, handler, fault.text()),
+        Cause::Config(fault) => {
             let text = fault.text(alloc)?;
             error_text(alloc, way, handler, &text)
         }
@@ -163,7 +164,7 @@ fn refused_text(
 
 /// A handler is for the other way alone.
 fn wrong_way_text(alloc: Global, way: Way, handler: &[u8]) -> Result<Vec<u8>, AllocError>
-    ensures { IfOk result (λ text. text.items ≡ refused_text way handler.now Refusal.WrongWay) }
+    ensures { IfOk result (λ text. text.items ≡ refused_text way handler.now (refusal_of Cause.WrongWay)) }
 {
     match way {
         Way::Read => naming(alloc, b"530 Handler ", handler, b" write-only"),

@@ -255,7 +255,7 @@ fn copy(alloc: Global, bytes: &Sequence<u8>) -> Result<Sequence<u8>, AllocError>
     Ok(Sequence::of(Vec::from_slice(alloc, bytes.as_slice())?))
 }
 
-/// Asks the port, where there is a call, and writes the reply to the command in full. The port's reply stays where it is: it may be as large as a packet.
+/// Asks the port, where there is a call, and writes the reply to the command in full.
 fn ask_and_reply<W: Sink, P: Port>(
     alloc: Global,
     writer: &mut W,
@@ -270,8 +270,8 @@ fn ask_and_reply<W: Sink, P: Port>(
     match call {
         None => reply(writer, uncalled_text(alloc, command)),
         Some(call) => {
-            let asked = port.ask(alloc, call);
-            match &asked {
+            let recorded = port.record(alloc, call);
+            match &recorded {
                 Ok(answer) => reply(writer, replied_text(alloc, command, answer)),
                 Err(fault) => reply(writer, unreplied_text(alloc, command, *fault)),
             }

@@ -1,5 +1,5 @@
 -- Laws of bounds.
-use Rattle.std.proofs.Common.{◌≡◌, ℕ, ◌≤◌, Option, Some, None, ap, sym, subst, arith}
+use Rattle.std.proofs.Common.{◌≡◌, ℕ, Option, Some, None, ap, sym, subst, arith}
 use Rattle.click_desk.specs.Bounds.{IsWithin, IsFull}
 
 pub within_none : (room : Option ℕ) → IsWithin room 0

@@ -2,7 +2,9 @@
 use Rattle.std.proofs.Common.{◌≡◌, ◌↔◌, ℕ, List, [], ◌∷◌, ◌++◌, length, ◌<◌, ◌≤◌, Result, Ok, Err, Some, IfOk, IfErr, OnErr, sym, refl, ap, ◌∙◌, subst, arith, append-nil, length-append}
 use Rattle.atomic_table.specs.Seated.{TableId}
 use Rattle.click_router.specs.declared.call.Call.{Call}
+use Rattle.click_router.specs.declared.call.Call.TheVariants as call
 use Rattle.click_router.specs.declared.call.Reply.{Reply}
+use Rattle.click_router.specs.declared.call.Reply.TheVariants as reply
 use Rattle.click_desk.specs.Booking.{Booking}
 use Rattle.click_desk.specs.Bounds.{IsWithin, IsFull}
 use Rattle.click_desk.specs.declared.booked.DeskFault.{DeskFault}
@@ -187,3 +189,39 @@ polls table table2 n calls v v1 v2 b b2 calls2 device limit (Ok reply) is made t
       may = subst (λ (t : Charter). MayTake t.feeds device limit some.2.0 reply) (sym terms) some.2.2;
       calls = subst (λ (x : Call). HasCalled (sitting table n calls v) (sitting table2 n calls2 v2) x reply) some.2.1 all;
     }
+
+-- what an entering of a Round says
+pub record EntersRound (b b2 : Booking) (n : ℕ) (calls calls2 : List (Call × Reply)) (result : Result ℕ DeskFault) : Type 0 where
+  pub terms : b2.terms ≡ b.terms
+  pub legal : Legal b2.terms.opening b2.entries b2.state
+  pub ok : IfOk result (λ count. (b2.entries ≡ b.entries ++ entry n call.Round (reply.Worked count) ∷ []) × (calls2 ≡ calls ++ (call.Round, reply.Worked count) ∷ []) × IsWithin b2.terms.room (length b2.entries))
+  pub err : OnErr result ((b2 ≡ b) × (calls2 ≡ calls))
+  pub full : (result ≡ Err HistoryFull) ↔ IsFull b.terms.room (length b.entries)
+
+-- the reply of a Round
+abbrev pub worked : Result ℕ DeskFault → Result Reply DeskFault
+worked (Ok count) = Ok (reply.Worked count)
+worked (Err fault) = Err fault
+
+-- it is the entering of that call
+pub as_round : (b b2 : Booking) (n : ℕ) (calls calls2 : List (Call × Reply)) (result : Result ℕ DeskFault)
+    → EntersRound b b2 n calls calls2 result → Enters b b2 n calls calls2 call.Round (worked result)
+as_round b b2 n calls calls2 (Ok count) e = record { terms = e.terms; legal = e.legal; ok = e.ok; err = e.err; full = (λ is. absurd cc, λ full. let is = e.full.1 full in absurd cc) }
+as_round b b2 n calls calls2 (Err fault) e = record {
+  terms = e.terms;
+  legal = e.legal;
+  ok = e.ok;
+  err = e.err;
+  full = (
+    λ is. let same : fault ≡ HistoryFull = cc in e.full.0 (ap (λ f. Err f) same),
+    λ full. let is = e.full.1 full in let same : fault ≡ HistoryFull = cc in ap (λ f. Err f) same,
+  );
+}
+
+pub on_worked : (result : Result ℕ DeskFault) (P : Reply → Type 0) → IfOk (worked result) P → IfOk result (λ count. P (reply.Worked count))
+on_worked (Ok count) P h = h
+on_worked (Err fault) P h = tt
+
+pub on_refused : (result : Result ℕ DeskFault) (P : DeskFault → Type 0) → IfErr (worked result) P → IfErr result P
+on_refused (Ok count) P h = tt
+on_refused (Err fault) P h = h

@@ -10,6 +10,7 @@ ghost use Rattle.click_desk.specs.Bounds.{IsWithin, IsFull};
 ghost use Rattle.click_desk.specs.Charters.{charter_of};
 ghost use Rattle.click_router.specs.One.{Answers};
 ghost use Rattle.click_router.specs.Swap.{Swaps};
+ghost use Rattle.click_router.specs.declared.call.Reply.{Reply};
 ghost use Rattle.click_desk.specs.History.{entry, Legal, asked, installed, installs, text_if_done};
 ghost use Rattle.click_desk.specs.Polls.{IsPolled};
 
@@ -285,32 +286,35 @@ impl<T: Handlers> Booked<T> {
         if self.is_full() {
             return Err(DeskFault::HistoryFull);
         }
-        // What drivers call all the time needs none of the places that other calls need, and each of these costs what it holds, used or not.
-        match call {
-            Call::Round => self.enter_round(number, calls),
-            call => self.enter_any(rt, alloc, number, calls, call),
-        }
+        self.enter_any(rt, alloc, number, calls, call)
     }
 
-    /// A Round as `enter` makes it. It takes no memory but for its places in both lists, where they are kept.
-    fn enter_round(
+    /// A Round, as `enter` makes it, and how many packets its tasks gave or pulled. It takes no memory but for its places in both lists, where they are kept.
+    pub fn enter_round(
         &mut self,
         number: usize,
         calls: &mut Trail<(Call, Recorded)>,
-    ) -> Result<Recorded, DeskFault>
+    ) -> Result<u64, DeskFault>
         requires { calls.old.keeps ≡ is_some self.old.terms.room }
         ensures terms { self.new.terms ≡ self.old.terms }
         ensures legal { Legal self.new.terms.opening self.new.entries self.new.state }
         ensures polled { IsPolled self.new.entries self.new.taps }
-        ensures ok { IfOk result (λ reply. (self.new.entries ≡ self.old.entries ++ entry number Call.Round reply ∷ []) × (calls.new.items ≡ calls.old.items ++ (Call.Round, reply) ∷ [])) }
+        ensures ok { IfOk result (λ count. (self.new.entries ≡ self.old.entries ++ entry number Call.Round (Reply.Worked count) ∷ []) × (calls.new.items ≡ calls.old.items ++ (Call.Round, Reply.Worked count) ∷ []) × IsWithin self.new.terms.room (length self.new.entries)) }
         ensures err { OnErr result ((self.new ≡ self.old) × (calls.new.items ≡ calls.old.items)) }
         ensures keeps { calls.new.keeps ≡ calls.old.keeps }
-        ensures fault { IfErr result (λ fault. fault ≡ DeskFault.NoMemory) }
+        ensures full { (result ≡ Err DeskFault.HistoryFull) ↔ IsFull self.old.terms.room (length self.old.entries) }
     {
+        // What the type keeps is known where one of its fields is named.
+        let _ = &self.ledger;
+        if self.is_full() {
+            return Err(DeskFault::HistoryFull);
+        }
         let ledger = &mut *self.ledger;
         if !ledger.entries.keeps() {
-            let reply = Recorded::worked(self.router.round());
-            return Ok(note(&mut ledger.entries, calls, number, Call::Round, reply));
+            let worked = self.router.round();
+            let reply = Recorded::worked(worked);
+            let _ = note(&mut ledger.entries, calls, number, Call::Round, reply);
+            return Ok(worked);
         }
         if ledger.entries.reserve().is_err() || calls.reserve().is_err() {
             return Err(DeskFault::NoMemory);
@@ -322,7 +326,7 @@ impl<T: Handlers> Booked<T> {
             reply: Recorded::worked(worked),
         });
         calls.add((Call::Round, Recorded::worked(worked)));
-        Ok(Recorded::worked(worked))
+        Ok(worked)
     }
 
     /// A call as `enter` makes it, which may send a packet and may take memory.
@@ -410,7 +414,6 @@ impl<T: Handlers> Booked<T> {
     }
 
     /// A call of which nothing is kept. It takes no memory but what its step takes and its reply holds.
-    #[inline(never)]
     fn enter_noted<R: Wait>(
         &mut self,
         rt: &R,

@@ -17,6 +17,7 @@ use crate::rule::{Agent, DeskPass, Meeting, Queue};
 use crate::seat::Seat;
 use crate::terms::Terms;
 use std::sync::Wait;
+use std::sync::atomic::AtomicU32;
 use thiserror::Error;
 
 /// Why a desk was not closed.
@@ -93,7 +94,12 @@ fn audit_all<T>(queue: &Queue<T>, seats: &mut [Seat<T>], mut agent: DeskPass<T>)
 }
 
 /// Takes the booked router for good, and holds its history against what each seat knows.
-fn take_last<T, R: Wait>(rt: &R, queue: &Queue<T>, seats: &mut [Seat<T>]) -> Booked<T>
+fn take_last<T, R: Wait>(
+    rt: &R,
+    queue: &Queue<T>,
+    waiting: &AtomicU32,
+    seats: &mut [Seat<T>],
+) -> Booked<T>
     requires some { 0 < length seats.old }
     requires seats { All (λ s. s.desk.table ≡ queue.now.table.shared.table_id) seats.old }
     ensures same { seats.new ≡ seats.old }
@@ -104,7 +110,7 @@ fn take_last<T, R: Wait>(rt: &R, queue: &Queue<T>, seats: &mut [Seat<T>]) -> Boo
     ensures within { IsWithin result.terms.room (length result.entries) }
 {
     let mut agent = agent(queue, &mut seats[0]);
-    let booked = take(rt, queue, &mut agent);
+    let booked = take(rt, queue, waiting, &mut agent);
     audit_all(queue, seats, agent);
     booked
 }
@@ -127,7 +133,7 @@ impl<T: Drop, R: Wait + Drop> Desk<T, R> {
                 fault: CloseFault::SeatsMissing,
             });
         }
-        let booked = take_last(rt, &self.queue, seats.as_mut_slice());
+        let booked = take_last(rt, &self.queue, &self.waiting, seats.as_mut_slice());
         let (terms, entries, router, taps, published) = booked.into_parts();
         let Terms { opening, .. } = terms;
         Ok(Book {

@@ -17,6 +17,7 @@ use click_views::Bell;
 use std::alloc::Global;
 use std::marker::Model;
 use std::sync::Wait;
+use std::sync::atomic::{AtomicU32, Ordering};
 use std::thread;
 
 /// A router with its history, which seats share. Where it has views, they hear of each swap by a bell, which keeps the runtime `R` that it waits by.
@@ -24,6 +25,8 @@ use std::thread;
 pub struct Desk<T, R: Wait + Drop> {
     pub(crate) alloc: Global,
     pub(crate) queue: Queue<T>,
+    /// How many found the booked router taken, and look for it again and again.
+    pub(crate) waiting: AtomicU32,
     pub(crate) terms: Terms,
     pub(crate) bell: Option<Bell<R>>,
 }
@@ -42,7 +45,7 @@ impl<T, R: Wait + Drop> Model for Desk<T, R> {
 }
 
 /// How often a call yields its core at most, before it looks again for a booked router that another has.
-const MOST_YIELDS: u32 = 64;
+const MOST_YIELDS: u32 = 4;
 
 fn yield_times(times: u32) {
     for _ in 0..times {
@@ -50,8 +53,11 @@ fn yield_times(times: u32) {
     }
 }
 
-/// Takes the booked router. It tries again until it finds it, and after each try that failed it yields for longer, since who looks slows down who has it.
-pub(crate) fn take<T, R: Wait>(rt: &R, queue: &Queue<T>, pass: &mut DeskPass<T>) -> Booked<T>
+/// Takes the booked router, which another has. It tries again until it finds it, and after each try that failed it yields for longer, since who looks slows down who
+/// has it.
+#[cold]
+#[inline(never)]
+fn wait_for<T, R: Wait>(rt: &R, queue: &Queue<T>, pass: &mut DeskPass<T>) -> Booked<T>
     requires queue { IsPassOf queue.now pass.old }
     requires opened { (view pass.old).opened ≡ true }
     ensures queue { IsPassOf queue.now pass.new }
@@ -59,13 +65,38 @@ pub(crate) fn take<T, R: Wait>(rt: &R, queue: &Queue<T>, pass: &mut DeskPass<T>)
 {
     let mut yields: u32 = 1;
     for _ in rt.forever() {
+        yield_times(yields);
         match queue.try_pop_as::<Take>(pass) {
             Some(booked) => return booked,
-            None => yield_times(yields),
+            None => yields = yields.saturating_mul(2).min(MOST_YIELDS),
         }
-        yields = yields.saturating_mul(2).min(MOST_YIELDS);
     }
     unreachable!()
+}
+
+/// Takes the booked router. Who comes while others wait for it yields its core once first, so that one thread that calls and calls does not keep it from them.
+#[inline(always)]
+pub(crate) fn take<T, R: Wait>(
+    rt: &R,
+    queue: &Queue<T>,
+    waiting: &AtomicU32,
+    pass: &mut DeskPass<T>,
+) -> Booked<T>
+    requires queue { IsPassOf queue.now pass.old }
+    requires opened { (view pass.old).opened ≡ true }
+    ensures queue { IsPassOf queue.now pass.new }
+    ensures taken { Takes (view pass.old) result (view pass.new) }
+{
+    if waiting.load(Ordering::Relaxed) > 0 {
+        thread::yield_now();
+    }
+    if let Some(booked) = queue.try_pop_as::<Take>(pass) {
+        return booked;
+    }
+    waiting.fetch_add(1, Ordering::Relaxed);
+    let booked = wait_for(rt, queue, pass);
+    waiting.fetch_sub(1, Ordering::Relaxed);
+    booked
 }
 
 /// Gives the booked router back. The queue is empty.
@@ -125,14 +156,29 @@ impl<T: Handlers, R: Wait + Drop> Desk<T, R> {
         ensures ok { IfOk result (λ reply. Calls seat.old seat.new call reply) }
         ensures err { IfErr result (λ fault. IsRefused seat.old seat.new fault) }
     {
-        let swaps = call.swap_text().is_some();
-        let mut booked = take(rt, &self.queue, &mut seat.pass);
+        let rings = self.bell.is_some() && call.swap_text().is_some();
+        let mut booked = take(rt, &self.queue, &self.waiting, &mut seat.pass);
         let result = booked.enter(rt, self.alloc, seat.number, &mut seat.calls, call);
         seat.notice = booked.notice();
-        if swaps {
+        if rings {
             self.ring(rt, &seat.notice);
         }
         give(rt, &self.queue, &mut seat.pass, booked);
+        result
+    }
+
+    /// One Round of a seat, as `record` makes it, and how many packets its tasks gave or pulled. Drivers make nothing else, so it moves neither a call nor a reply.
+    pub fn round<S: Wait>(&self, rt: &S, seat: &mut Seat<T>) -> Result<u64, DeskFault>
+        requires { seat.old.desk ≡ self.now }
+        ensures seat { (seat.new.desk ≡ seat.old.desk) × (seat.new.feeds ≡ seat.old.feeds) × (seat.new.number ≡ seat.old.number) }
+        ensures ok { IfOk result (λ count. Calls seat.old seat.new Call.Round (Reply.Worked count)) }
+        ensures err { IfErr result (λ fault. IsRefused seat.old seat.new fault) }
+    {
+        let mut booked = take(rt, &self.queue, &self.waiting, &mut seat.pass);
+        let result = booked.enter_round(seat.number, &mut seat.calls);
+        let notice = booked.notice();
+        give(rt, &self.queue, &mut seat.pass, booked);
+        seat.notice = notice;
         result
     }
 
@@ -150,7 +196,7 @@ impl<T: Handlers, R: Wait + Drop> Desk<T, R> {
         ensures ok { IfOk result (λ reply. Polls seat.old seat.new device.now most reply) }
         ensures err { IfErr result (λ fault. IsRefused seat.old seat.new fault) }
     {
-        let mut booked = take(rt, &self.queue, &mut seat.pass);
+        let mut booked = take(rt, &self.queue, &self.waiting, &mut seat.pass);
         let result = booked.enter_poll(self.alloc, seat.number, &mut seat.calls, device, most);
         let notice = booked.notice();
         give(rt, &self.queue, &mut seat.pass, booked);

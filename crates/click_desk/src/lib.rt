@@ -3,6 +3,7 @@
 
 mod book;
 mod booked;
+mod boxed_table;
 mod charter;
 mod close;
 mod desk;
@@ -18,6 +19,7 @@ mod watch;
 
 pub use book::{Book, SettleFault, SettleRefused};
 pub use booked::DeskFault;
+pub use boxed_table::BoxedTable;
 pub use close::{CloseFault, CloseRefused};
 pub use desk::Desk;
 pub use entry::Entry;

@@ -23,6 +23,7 @@ use click_trail::Trail;
 use click_views::{Bell, Publisher};
 use std::alloc::{AllocError, Global};
 use std::sync::Wait;
+use std::sync::atomic::AtomicU32;
 use thiserror::Error;
 
 /// The most seats of a desk.
@@ -415,6 +416,7 @@ impl<'a, T: Drop, R: Wait> Desk<T, &'a R> {
         let desk = Desk {
             alloc,
             queue,
+            waiting: AtomicU32::new(0),
             terms: beside,
             bell,
         };

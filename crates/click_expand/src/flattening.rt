@@ -13,14 +13,14 @@ ghost use Rattle.click_expand.specs.kept.Answered.{IsExpandedOr, IsRefused, IsRe
 ghost use Rattle.click_expand.specs.kept.KnownInstances.{KnownInstance, AreInstances};
 ghost use Rattle.click_scopes.specs.kept.FirstFault.{AreShort};
 
-use crate::elements::elements_of;
+use crate::connections::wiring::connections_of;
 use crate::fault::{ExpandFault, FaultKind, kind_of};
 use crate::final_checks::{first_broken, first_repeated};
 use crate::flat::{Flat, FlatElement};
 use crate::flat_writing::push_name;
-use crate::instances::{Instances, instances_of};
-use crate::sizes::{MOST_ELEMENTS, MOST_PATHS, size_of};
-use crate::wiring::connections_of;
+use crate::instances::sizes::{MOST_ELEMENTS, MOST_PATHS, size_of};
+use crate::instances::tree::{Instances, instances_of};
+use crate::texts::elements::elements_of;
 use click_scopes::{Local, ScopeFault, Tables, analyze, first_token};
 use click_text::sequence::Sequence;
 use click_text::syntax::{Config, Head, Span};

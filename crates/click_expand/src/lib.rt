@@ -1,25 +1,15 @@
 //! Compounds, parameters and synonyms of a configuration are expanded to its flat form.
 #![tactic(auto)]
 
-mod connection_index;
-mod elements;
+mod connections;
 mod fault;
 mod final_checks;
 mod flat;
-mod flat_elements;
-mod flat_names;
 mod flat_writing;
 mod flattening;
 mod instances;
 pub mod laws;
-mod order;
-mod parameter_values;
-mod parameters;
-mod passthrough;
-mod sizes;
-mod text_buffer;
 mod texts;
-mod wiring;
 
 pub use fault::{ExpandFault, FaultKind};
 pub use flat::{Connection, Flat, FlatElement};

@@ -1,18 +1,18 @@
 -- What the words of a command line ask for.
-use Rattle.std.specs.Prelude.{◌≡◌, ℕ, ◌≤◌, List, Bool, true, false, Option, Some, None, codes, option_map}
-use Rattle.std.specs.Str.Parse.{IsNumeral, digits_value}
-use Rattle.clap.specs.Matches.{first_value, one_text}
+use Rattle.std.specs.Prelude.{◌≡◌, ℕ, ◌≤◌, ◌⊎◌, List, [], length, Bool, true, false, Option, Some, None, codes, option_map}
+use Rattle.std.specs.Option.{option_map_or}
+use Rattle.clap.specs.Matches.{first_value, found_of, matched_of, one_text, raw_values}
 use Rattle.clap.specs.declared.parser.matches.Found.{Found}
+use Rattle.clap.specs.Built.{IsParsedFrom}
+use Rattle.clap.specs.declared.builder.command.Command.{Command}
+use Rattle.clap.specs.declared.parser.matches.ArgMatches.{ArgMatches}
+use Rattle.click_prog.specs.declared.arguments.NoNumber.{NoNumber}
 use Rattle.click_prog.specs.declared.arguments.Options.{Options}
+use Rattle.click_prog.specs.declared.arguments.Refusal.{Refusal}
+use Rattle.click_prog.specs.declared.arguments.Refusal.TheVariants as why
+use Rattle.click_prog.specs.Links.{AreLinks, IsLinkFault}
+use Rattle.click_prog.specs.Numbers.{IsNoNumber, IsNumber}
 use Rattle.click_prog.specs.Running.{Planned}
-
--- the text has decimal digits alone, one at least, and they write this number, which lies in the range
-abbrev pub IsNumber : ℕ → ℕ → List ℕ → ℕ → Type 0
-IsNumber least most text n = IsNumeral 10 text × (digits_value 10 text ≡ n) × (least ≤ n) × (n ≤ most)
-
--- the text is no such number
-abbrev pub IsNoNumber : ℕ → ℕ → List ℕ → Type 0
-IsNoNumber least most text = (n : ℕ) → IsNumber least most text n → ⊥
 
 -- the number of an option that has this value, if it was given
 abbrev pub IsGiven : ℕ → ℕ → Option (List ℕ) → Option ℕ → Type 0
@@ -25,14 +25,17 @@ abbrev pub IsGivenOr : ℕ → ℕ → ℕ → Option (List ℕ) → ℕ → Typ
 IsGivenOr least most usual None n = n ≡ usual
 IsGivenOr least most usual (Some text) n = IsNumber least most text n
 
--- the option was given with a value that is no number of the range
-abbrev pub IsMistyped : ℕ → ℕ → Option (List ℕ) → Type 0
-IsMistyped least most None = ⊥
-IsMistyped least most (Some text) = IsNoNumber least most text
+-- the option of this id, which takes numbers of this range, has a value that is none
+abbrev pub IsMistyped : Found → List ℕ → ℕ → ℕ → NoNumber → Type 0
+IsMistyped found id least most n = (first_value found id ≡ Some n.text.now) × (n.least ≡ least) × (n.most ≡ most) × IsNoNumber least most n.text.now
 
 -- the flag of this value, as clap keeps it
 abbrev pub IsFlag : Option (List ℕ) → Bool → Type 0
 IsFlag value flag = (value ≡ None → flag ≡ false) × (value ≡ Some (codes "true") → flag ≡ true) × (value ≡ Some (codes "false") → flag ≡ false)
+
+-- the values of an option that may be given several times, in order
+abbrev pub values_of : Found → List ℕ → List (List ℕ)
+values_of found id = option_map_or raw_values (matched_of found id) []
 
 -- The options are what clap found: each number is just the one that was given, or the usual one.
 pub record Finds (found : Found) (options : Options) : Type 0 where
@@ -45,14 +48,51 @@ pub record Finds (found : Found) (options : Options) : Type 0 where
   pub check : option_map (λ s. s.now) options.check ≡ first_value found (codes "check")
   pub book : IsFlag (one_text found (codes "book")) options.book
   pub live : IsFlag (one_text found (codes "live")) options.live
+  pub links : AreLinks (values_of found (codes "device")) options.links.items
+  pub tell : IsGivenOr 0 86400 0 (first_value found (codes "every")) options.tell
+  pub draw : IsFlag (one_text found (codes "image")) options.draw
+
+-- none of the numbers was given that only a run has
+abbrev pub HasNoNumber : Found → Type 0
+HasNoNumber found = (first_value found (codes "port") ≡ None) × (first_value found (codes "sessions") ≡ None) × (first_value found (codes "workers") ≡ None)
+    × (first_value found (codes "number") ≡ None) × (first_value found (codes "every") ≡ None)
+
+-- nor any other option
+abbrev pub HasNoWord : Options → Type 0
+HasNoWord options =
+    (options.readonly ≡ false) × (options.check ≡ None) × (options.book ≡ false) × (options.live ≡ false) × (options.links.items ≡ [])
+
+-- where a picture is asked for, nothing was given that only a run has
+abbrev pub DrawsAlone : Found → Options → Type 0
+DrawsAlone found options = options.draw ≡ true → HasNoNumber found × HasNoWord options
 
 -- a router that stays was given no number of rounds, and nothing that is told at an end
 abbrev pub GoesOn : Found → Options → Type 0
 GoesOn found options = options.live ≡ true → (first_value found (codes "number") ≡ None) × (options.check ≡ None) × (options.book ≡ false)
 
+-- a router that ends was given no link, and no time after which it tells its counts
+abbrev pub Ends : Found → Options → Type 0
+Ends found options = options.live ≡ false → (options.links.items ≡ []) × (first_value found (codes "every") ≡ None)
+
 -- the options are what clap found, and go together
 abbrev pub AsksFor : Found → Options → Type 0
-AsksFor found options = Finds found options × GoesOn found options
+AsksFor found options = Finds found options × DrawsAlone found options × GoesOn found options × Ends found options
+
+-- What was found is refused: a value is none of what its option takes, or what was given does not go together. What clap says is its own.
+abbrev pub IsRefusedFor : Found → Refusal → Type 0
+IsRefusedFor found (why.Clap error) = Unit {0}
+IsRefusedFor found (why.NoNumber n) =
+    IsMistyped found (codes "port") 1 65535 n ⊎ (IsMistyped found (codes "sessions") 1 64 n ⊎ (IsMistyped found (codes "workers") 0 16 n
+    ⊎ (IsMistyped found (codes "number") 0 1000000 n ⊎ IsMistyped found (codes "every") 0 86400 n)))
+IsRefusedFor found (why.NotDrawn option) = (options : Options) × Finds found options × (DrawsAlone found options → ⊥)
+IsRefusedFor found (why.NotLive option) = (options : Options) × Finds found options × (GoesOn found options → ⊥)
+IsRefusedFor found (why.OnlyLive option) = (options : Options) × Finds found options × (Ends found options → ⊥)
+IsRefusedFor found (why.Link fault) = IsLinkFault (values_of found (codes "device")) fault
+
+-- a refusal that is not clap's own is for what some parse found
+abbrev pub IsRefused : Refusal → Type 0
+IsRefused (why.Clap error) = Unit {0}
+IsRefused refusal = (command : Command) × (matches : ArgMatches) × IsParsedFrom command matches × IsRefusedFor (found_of matches) refusal
 
 -- each number is in its range
 pub record IsInRanges (options : Options) : Type 0 where
@@ -60,6 +100,8 @@ pub record IsInRanges (options : Options) : Type 0 where
   pub sessions : options.sessions ≤ 64
   pub workers : options.workers ≤ 16
   pub rounds : options.rounds ≤ 1000000
+  pub links : length options.links.items ≤ 16
+  pub tell : options.tell ≤ 86400
 
 -- how many sessions come: one where there is no port
 abbrev pub sessions_at : Option ℕ → ℕ → ℕ

@@ -11,6 +11,8 @@ use Rattle.click_control.specs.declared.serving.Ended.{Ended}
 use Rattle.click_control.specs.declared.serving.Ended.TheVariants as ended
 use Rattle.click_control.specs.declared.serving.ServeFault.{ServeFault}
 use Rattle.click_control.specs.declared.serving.ServeFault.TheVariants as serve
+use Rattle.click_desk.specs.declared.open.OpenFault.{OpenFault}
+use Rattle.click_desk.specs.declared.open.OpenFault.TheVariants as opening
 use Rattle.click_workers.specs.declared.runs.RunFault.{RunFault}
 use Rattle.click_workers.specs.declared.runs.RunFault.TheVariants as fault
 use Rattle.click_workers.specs.declared.session.SessionEnd.{SessionEnd}
@@ -52,6 +54,12 @@ fault_status (fault.Config f) = config_status f.kind
 fault_status fault.NoMemory = status.NoMemory
 fault_status (fault.Close number) = status.Refused
 fault_status fault.NoView = status.Refused
+
+-- where a desk with links was not opened
+abbrev pub opening_status : OpenFault → Status
+opening_status (opening.Config f) = config_status f.kind
+opening_status opening.NoMemory = status.NoMemory
+opening_status _ = status.Refused
 
 -- by one of several sessions; one that could not come in is as one whose device failed
 abbrev pub session_status : SessionEnd → Status

@@ -1,19 +1,20 @@
 //! The program's command line.
 
-ghost use Rattle.std.specs.Prelude.{◌≡◌, ◌≤◌, IfOk, IfErr, IfSome, IfNone, MatchOption, codes, false, is_some, true, option_map};
-ghost use Rattle.std.specs.Char.{is_ascii_digit};
-ghost use Rattle.std.specs.List.{list_all};
+ghost use Rattle.std.specs.Prelude.{◌≡◌, ◌≤◌, IfOk, IfErr, IfSome, MatchOption, codes, false, is_some, true, option_map};
 ghost use Rattle.clap.specs.Built.{IsPlainArg, IsParsedFrom, TakesValue};
 ghost use Rattle.clap.specs.Matches.{first_value, found_of};
 ghost use Rattle.clap.specs.declared.builder.command.Command.{Command};
 ghost use Rattle.clap.specs.declared.parser.matches.ArgMatches.{ArgMatches};
-ghost use Rattle.click_prog.specs.Asked.{AsksFor, Finds, GoesOn, IsGiven, IsGivenOr, IsInRanges, IsMistyped, IsNoNumber, IsNumber};
+ghost use Rattle.click_prog.specs.Asked.{AsksFor, DrawsAlone, Ends, Finds, GoesOn, HasNoNumber, HasNoWord, IsGiven, IsGivenOr, IsInRanges, IsMistyped, IsRefused, IsRefusedFor, values_of};
+ghost use Rattle.click_prog.specs.Links.{AreLinks, IsLinkFault};
 
+use crate::link::{Link, LinkFault, links_of};
+use crate::number::number_in;
 use clap::{Arg, ArgAction, ArgMatches, Command, Error};
 use std::alloc::Global;
 
 /// What the words of a command line ask for.
-#[derive(Clone, Copy, Debug)]
+#[derive(Debug, Drop)]
 pub struct Options<'a> {
     /// The configuration.
     pub text: Option<&'a str>,
@@ -33,6 +34,12 @@ pub struct Options<'a> {
     pub book: bool,
     /// Whether the router stays: it keeps no book, and serves until the process ends.
     pub live: bool,
+    /// The links, each of a device of its own, 16 at most; none where the router ends.
+    pub links: Vec<Link<'a>>,
+    /// After how many seconds each it tells its counts; 0: never, and so where the router ends.
+    pub tell: u64,
+    /// Whether a picture is drawn, and nothing served.
+    pub draw: bool,
 }
 
 /// Why a command line is refused.
@@ -41,13 +48,52 @@ pub enum Refusal<'a> {
     /// What clap has to say of it; help is asked for so too.
     Clap(Error),
     NoNumber(NoNumber<'a>),
+    NotDrawn(NotDrawn),
     NotLive(NotLive),
+    OnlyLive(OnlyLive),
+    Link(LinkFault<'a>),
+}
+
+impl<'a> From<NoNumber<'a>> for Refusal<'a> {
+    ghost use Rattle.std.specs.Prelude.{◌≡◌};
+    ghost use Rattle.click_prog.specs.declared.arguments.Refusal.TheVariants as why;
+
+    ghost from_gives = { λ number refusal. refusal ≡ why.NoNumber number };
+
+    fn from(number: NoNumber<'a>) -> Self {
+        Refusal::NoNumber(number)
+    }
+}
+
+impl<'a> From<LinkFault<'a>> for Refusal<'a> {
+    ghost use Rattle.std.specs.Prelude.{◌≡◌};
+    ghost use Rattle.click_prog.specs.declared.arguments.Refusal.TheVariants as why;
+
+    ghost from_gives = { λ fault refusal. refusal ≡ why.Link fault };
+
+    fn from(fault: LinkFault<'a>) -> Self {
+        Refusal::Link(fault)
+    }
+}
+
+/// What a picture has no use for: there is no run.
+#[derive(Clone, Copy, Debug, Drop, thiserror::Error)]
+#[error("--draw takes no {option}")]
+pub struct NotDrawn {
+    option: &'static str,
 }
 
 /// What a router that stays has no use for: its drivers go on, and nothing is told at an end.
 #[derive(Clone, Copy, Debug, Drop, thiserror::Error)]
 #[error("--live takes no {option}")]
 pub struct NotLive {
+    option: &'static str,
+}
+
+/// What only a router that stays has: links, and counts that are told while it runs.
+#[derive(Clone, Copy, Debug, Drop, thiserror::Error)]
+#[error("{option} needs --live")]
+pub struct OnlyLive {
     option: &'static str,
 }
 
@@ -68,9 +114,10 @@ pub fn options_of<'a>(alloc: Global, words: &'a [String]) -> Result<Options<'a>,
     ensures port { IfOk result (λ options. IfSome options.port (λ port. 1 ≤ port)) }
     ensures ranges { IfOk result IsInRanges }
     ensures asked { IfOk result (λ options. (command : Command) × (matches : ArgMatches) × IsParsedFrom command matches × AsksFor (found_of matches) options) }
+    ensures refused { IfErr result IsRefused }
 {
     match parsed(alloc, words) {
-        Ok(matches) => options_in(&matches),
+        Ok(matches) => options_in(alloc, &matches),
         Err(error) => Err(Refusal::Clap(error)),
     }
 }
@@ -89,9 +136,12 @@ fn parsed<'a>(alloc: Global, words: &'a [String]) -> Result<ArgMatches<'a>, Erro
     let workers = number(alloc, "workers", "WORKERS").short('w').help(
         "How many workers drive the router (0 to 16; 0 if not given)",
     );
-    // Its id has a first letter of its own, by which the proof tells the ids apart.
+    // Its id has a first letter of its own, by which the proof tells the ids apart; so has that of `tell`.
     let rounds = number(alloc, "number", "N").long("rounds").help(
         "How many rounds each worker makes (0 to 1000000; 1000 if not given)",
+    );
+    let tell = number(alloc, "every", "SECONDS").long("tell").help(
+        "With --live tells its counts on standard error each so many seconds (0 to 86400; 0, never, if not given)",
     );
     let command = Command::new(alloc, "click_prog")
         .version("1")
@@ -107,25 +157,36 @@ fn parsed<'a>(alloc: Global, words: &'a [String]) -> Result<ArgMatches<'a>, Erro
         .arg(readonly_argument(alloc))?
         .arg(check_argument(alloc))?
         .arg(book_argument(alloc))?
-        .arg(live_argument(alloc))?;
+        .arg(live_argument(alloc))?
+        .arg(link_argument(alloc))?
+        .arg(tell)?
+        .arg(draw_argument(alloc))?;
     let matches = command.try_get_matches_from(words)?;
     Ok(matches)
 }
 
 /// What was found in the words, where that goes together.
-fn options_in<'a>(matches: &ArgMatches<'a>) -> Result<Options<'a>, Refusal<'a>>
-    ensures { IfOk result (AsksFor (found_of matches.now)) }
+fn options_in<'a>(alloc: Global, matches: &ArgMatches<'a>) -> Result<Options<'a>, Refusal<'a>>
+    ensures asked { IfOk result (AsksFor (found_of matches.now)) }
+    ensures refused { IfErr result (IsRefusedFor (found_of matches.now)) }
 {
-    let options = options_found(matches)?;
-    match of_an_end(matches, &options) {
-        Some(option) => Err(Refusal::NotLive(NotLive { option })),
+    let options = options_found(alloc, matches)?;
+    if let Some(option) = of_a_run(matches, &options) {
+        return Err(Refusal::NotDrawn(NotDrawn { option }));
+    }
+    if let Some(option) = of_an_end(matches, &options) {
+        return Err(Refusal::NotLive(NotLive { option }));
+    }
+    match of_a_stay(matches, &options) {
+        Some(option) => Err(Refusal::OnlyLive(OnlyLive { option })),
         None => Ok(options),
     }
 }
 
 /// What was found in the words.
-fn options_found<'a>(matches: &ArgMatches<'a>) -> Result<Options<'a>, Refusal<'a>>
-    ensures { IfOk result (Finds (found_of matches.now)) }
+fn options_found<'a>(alloc: Global, matches: &ArgMatches<'a>) -> Result<Options<'a>, Refusal<'a>>
+    ensures found { IfOk result (Finds (found_of matches.now)) }
+    ensures refused { IfErr result (IsRefusedFor (found_of matches.now)) }
 {
     Ok(Options {
         text: matches.get_str("text"),
@@ -137,12 +198,83 @@ fn options_found<'a>(matches: &ArgMatches<'a>) -> Result<Options<'a>, Refusal<'a
         check: matches.get_str("check"),
         book: matches.get_flag("book"),
         live: matches.get_flag("live"),
+        links: links_found(alloc, matches)?,
+        tell: number_of(matches, "every", "--tell <SECONDS>", 0, 86_400, 0)?,
+        draw: matches.get_flag("image"),
     })
+}
+
+/// The links that were given.
+fn links_found<'a>(alloc: Global, matches: &ArgMatches<'a>) -> Result<Vec<Link<'a>>, LinkFault<'a>>
+    ensures links { IfOk result (λ links. AreLinks (values_of (found_of matches.now) (codes "device")) links.items) }
+    ensures refused { IfErr result (IsLinkFault (values_of (found_of matches.now) (codes "device"))) }
+{
+    match matches.get_strs("device") {
+        Some(values) => links_of(alloc, values),
+        None => Ok(Vec::new(alloc)),
+    }
+}
+
+/// Where a picture is drawn, the first option that was given of those which only a run has.
+fn of_a_run(matches: &ArgMatches, options: &Options) -> Option<&'static str>
+    ensures { MatchOption result (DrawsAlone (found_of matches.now) options.now) (λ _. DrawsAlone (found_of matches.now) options.now → ⊥) }
+{
+    if !options.draw {
+        return None;
+    }
+    match number_of_a_run(matches) {
+        Some(option) => Some(option),
+        None => word_of_a_run(options),
+    }
+}
+
+/// The first number that was given of those which only a run has.
+fn number_of_a_run(matches: &ArgMatches) -> Option<&'static str>
+    ensures { MatchOption result (HasNoNumber (found_of matches.now)) (λ _. HasNoNumber (found_of matches.now) → ⊥) }
+{
+    if matches.get_str("port").is_some() {
+        return Some("-p");
+    }
+    if matches.get_str("sessions").is_some() {
+        return Some("-n");
+    }
+    if matches.get_str("workers").is_some() {
+        return Some("-w");
+    }
+    if matches.get_str("number").is_some() {
+        return Some("--rounds");
+    }
+    if matches.get_str("every").is_some() {
+        return Some("--tell");
+    }
+    None
+}
+
+/// The first option that was given of those which only a run has and which are no numbers.
+fn word_of_a_run(found: &Options) -> Option<&'static str>
+    ensures { MatchOption result (HasNoWord found.now) (λ _. HasNoWord found.now → ⊥) }
+{
+    if found.readonly {
+        return Some("--readonly");
+    }
+    if found.check.is_some() {
+        return Some("--check");
+    }
+    if found.book {
+        return Some("--book");
+    }
+    if found.live {
+        return Some("--live");
+    }
+    if !found.links.is_empty() {
+        return Some("--link");
+    }
+    None
 }
 
 /// Where the router stays, the first option that was given of those which only a run that ends has.
 fn of_an_end(matches: &ArgMatches, options: &Options) -> Option<&'static str>
-    ensures { IfNone result (GoesOn (found_of matches.now) options.now) }
+    ensures { MatchOption result (GoesOn (found_of matches.now) options.now) (λ _. GoesOn (found_of matches.now) options.now → ⊥) }
 {
     if !options.live {
         return None;
@@ -155,6 +287,22 @@ fn of_an_end(matches: &ArgMatches, options: &Options) -> Option<&'static str>
     }
     if options.book {
         return Some("--book");
+    }
+    None
+}
+
+/// Where the router ends, the first option that was given of those which only one that stays has.
+fn of_a_stay(matches: &ArgMatches, options: &Options) -> Option<&'static str>
+    ensures { MatchOption result (Ends (found_of matches.now) options.now) (λ _. Ends (found_of matches.now) options.now → ⊥) }
+{
+    if options.live {
+        return None;
+    }
+    if !options.links.is_empty() {
+        return Some("--link");
+    }
+    if matches.get_str("every").is_some() {
+        return Some("--tell");
     }
     None
 }
@@ -218,6 +366,31 @@ fn live_argument<'a>(alloc: Global) -> Arg<'a>
         .action(ArgAction::SetTrue)
 }
 
+/// The option of links, one each time that it is given.
+fn link_argument<'a>(alloc: Global) -> Arg<'a>
+    ensures { (result.id.now ≡ codes "device") × IsPlainArg result × (result.global ≡ false) }
+{
+    Arg::new(alloc, "device")
+        .long("link")
+        .value_name("DEVICE=HERE,THERE")
+        .help(
+            "With --live carries the device's packets as UDP datagrams between two places, each PORT (of 127.0.0.1) or ADDRESS:PORT; up to 16 times",
+        )
+        .action(ArgAction::Append)
+}
+
+/// The flag of a picture.
+fn draw_argument<'a>(alloc: Global) -> Arg<'a>
+    ensures { (result.id.now ≡ codes "image") × IsPlainArg result × (result.global ≡ false) }
+{
+    Arg::new(alloc, "image")
+        .long("draw")
+        .help(
+            "Writes a picture of the configuration to standard output, as SVG, and serves nothing",
+        )
+        .action(ArgAction::SetTrue)
+}
+
 /// An option that takes a number. Clap takes any text, `-1` too, and which number that is, if it is one, is looked at after it (`given`).
 fn number<'a>(alloc: Global, id: &'a str, name: &'a str) -> Arg<'a>
     ensures { (result.id.now ≡ id.entry.now) × IsPlainArg result × (result.global ≡ false) }
@@ -229,9 +402,9 @@ fn number<'a>(alloc: Global, id: &'a str, name: &'a str) -> Arg<'a>
 }
 
 /// The port to listen on, if one was given.
-fn port_of<'a>(matches: &ArgMatches<'a>) -> Result<Option<u16>, Refusal<'a>>
+fn port_of<'a>(matches: &ArgMatches<'a>) -> Result<Option<u16>, NoNumber<'a>>
     ensures given { IfOk result (IsGiven 1 65535 (first_value (found_of matches.now) (codes "port"))) }
-    ensures mistyped { IfErr result (λ _. IsMistyped 1 65535 (first_value (found_of matches.now) (codes "port"))) }
+    ensures mistyped { IfErr result (IsMistyped (found_of matches.now) (codes "port") 1 65535) }
 {
     match given(matches, "port", "-p <PORT>", 1, 65_535)? {
         Some(port) => Ok(Some(port as u16)),
@@ -247,11 +420,11 @@ fn number_of<'a>(
     least: u64,
     most: u64,
     usual: u64,
-) -> Result<u64, Refusal<'a>>
+) -> Result<u64, NoNumber<'a>>
     requires { (least ≤ usual) × (usual ≤ most) }
     ensures range { IfOk result (λ n. (least ≤ n) × (n ≤ most)) }
     ensures given { IfOk result (IsGivenOr least most usual (first_value (found_of matches.now) id.now)) }
-    ensures mistyped { IfErr result (λ _. IsMistyped least most (first_value (found_of matches.now) id.now)) }
+    ensures mistyped { IfErr result (IsMistyped (found_of matches.now) id.now least most) }
 {
     match given(matches, id, option, least, most)? {
         Some(number) => Ok(number),
@@ -266,40 +439,20 @@ fn given<'a>(
     option: &'static str,
     least: u64,
     most: u64,
-) -> Result<Option<u64>, Refusal<'a>>
+) -> Result<Option<u64>, NoNumber<'a>>
     ensures given { IfOk result (IsGiven least most (first_value (found_of matches.now) id.now)) }
-    ensures mistyped { IfErr result (λ _. IsMistyped least most (first_value (found_of matches.now) id.now)) }
+    ensures mistyped { IfErr result (IsMistyped (found_of matches.now) id.now least most) }
 {
     let Some(text) = matches.get_str(id) else {
         return Ok(None);
     };
     match number_in(text, least, most) {
         Some(number) => Ok(Some(number)),
-        None => Err(Refusal::NoNumber(NoNumber {
+        None => Err(NoNumber {
             option,
             text,
             least,
             most,
-        })),
+        }),
     }
-}
-
-/// The number of the range that a text is, in decimal digits alone.
-fn number_in(text: &str, least: u64, most: u64) -> Option<u64>
-    ensures { MatchOption result (IsNoNumber least most text.now) (IsNumber least most text.now) }
-{
-    if !are_digits(text.as_bytes()) {
-        return None;
-    }
-    match text.parse::<u64>() {
-        Ok(number) if least <= number && number <= most => Some(number),
-        _ => None,
-    }
-}
-
-/// The bytes are all decimal digits.
-fn are_digits(bytes: &[u8]) -> bool
-    ensures { result ≡ list_all is_ascii_digit bytes.now }
-{
-    bytes.iter().all(|byte| byte.is_ascii_digit())
 }

@@ -1,4 +1,4 @@
-//! The router as a program: control sessions, on standard input and output or over TCP, with drivers beside them.
+//! The router as a program: control sessions, on standard input and output or over TCP, with drivers beside them; or a picture of its configuration.
 #![tactic(auto)]
 
 ghost use Rattle.std.specs.Prelude.{◌≡◌, ◌∷◌, []};
@@ -6,15 +6,27 @@ ghost use Rattle.std.specs.Net.Addr.{ipv4_octets};
 
 mod arguments;
 mod booked;
+mod counts;
 mod doors;
+mod drawing;
+mod link;
+mod linking;
+mod number;
 mod serving;
+mod sockets;
 mod status;
 
 use arguments::{Refusal, options_of};
 use clap::error::ErrorKind;
 use click_handlers::with_table;
-use serving::{AtEnd, Comes, Plan, Serving, plan_of};
-use status::{Status, of_unread};
+use click_router::prepare;
+use drawing::draw;
+use link::{Link, LinkFault};
+use linking::Wired;
+use serving::{AtEnd, Comes, Plan, Serving, plan_of, tell};
+use sockets::{SocketFault, open_sockets};
+use status::{Status, of_config, of_unread};
+use std::alloc::Global;
 use std::net::{Ipv4Addr, Net, TcpListener, TcpStream};
 use std::process::ExitCode;
 use std::sync::Wait;
@@ -39,6 +51,12 @@ fn program<R: Threads + Wait + Net<Listener = TcpListener, Stream = TcpStream> +
         return Status::NoMemory;
     };
     match options_of(alloc, words.as_slice()) {
+        Ok(options) if options.draw => draw(
+            alloc,
+            &mut host.stdout(),
+            &mut host.stderr(),
+            options.text.unwrap().as_bytes(),
+        ),
         Ok(options) => serve(
             rt,
             host,
@@ -49,6 +67,8 @@ fn program<R: Threads + Wait + Net<Listener = TcpListener, Stream = TcpStream> +
                 book: options.book,
             },
             options.port,
+            options.links.as_slice(),
+            options.tell,
         ),
         Err(refusal) => refused(host, &refusal),
     }
@@ -62,7 +82,13 @@ fn serve<R: Threads + Wait + Net<Listener = TcpListener, Stream = TcpStream> + S
     plan: Plan,
     end: AtEnd,
     port: Option<u16>,
+    links: &[Link],
+    tell: u64,
 ) -> Status {
+    let links = match wired(rt, host.alloc(), links, tell) {
+        Ok(links) => links,
+        Err(fault) => return unlinked(host, text, &fault),
+    };
     let comes = match port {
         None => Comes::Standard,
         Some(port) => match TcpListener::bind(rt, address_of(port)) {
@@ -76,10 +102,40 @@ fn serve<R: Threads + Wait + Net<Listener = TcpListener, Stream = TcpStream> + S
         plan,
         end,
         comes,
+        links,
     };
     match with_table(rt, host.alloc(), serving) {
         Ok(status) => status,
         Err(_) => Status::NoMemory,
+    }
+}
+
+/// The links with their sockets, where there are any.
+fn wired<'a, R: Net>(
+    rt: &R,
+    alloc: Global,
+    links: &[Link<'a>],
+    tell: u64,
+) -> Result<Option<Wired>, SocketFault<'a>> {
+    if links.is_empty() {
+        return Ok(None);
+    }
+    let sockets = open_sockets(rt, alloc, links)?;
+    Ok(Some(Wired { sockets, tell }))
+}
+
+/// Tells why there are no links; where the configuration is faulty, that, as where it cannot listen.
+fn unlinked(host: &HostRuntime, text: &[u8], fault: &SocketFault) -> Status {
+    let alloc = host.alloc();
+    if let Err(fault) = prepare(alloc, text) {
+        tell(alloc, &mut host.stderr(), &fault);
+        return of_config(&fault);
+    }
+    // A failed write changes nothing of the status.
+    let _ = eprintln!(host; "click_prog: {fault}");
+    match fault {
+        SocketFault::NoMemory => Status::NoMemory,
+        SocketFault::Place { .. } => Status::DeviceFailed,
     }
 }
 
@@ -98,14 +154,24 @@ fn refused(host: &HostRuntime, refusal: &Refusal) -> Status {
         Refusal::Clap(error) if error.kind() == ErrorKind::OutOfMemory => {
             return Status::NoMemory;
         }
+        Refusal::Link(LinkFault::NoMemory) => return Status::NoMemory,
         Refusal::Clap(error) => {
             let _ = host.eprint(error);
         }
         Refusal::NoNumber(number) => {
             let _ = eprintln!(host; "click_prog: {number}");
         }
+        Refusal::NotDrawn(option) => {
+            let _ = eprintln!(host; "click_prog: {option}");
+        }
         Refusal::NotLive(option) => {
             let _ = eprintln!(host; "click_prog: {option}");
+        }
+        Refusal::OnlyLive(option) => {
+            let _ = eprintln!(host; "click_prog: {option}");
+        }
+        Refusal::Link(fault) => {
+            let _ = eprintln!(host; "click_prog: {fault}");
         }
     }
     Status::WrongArguments

@@ -10,9 +10,10 @@ ghost use Rattle.click_prog.specs.Statuses.{fault_status, check_line, check_word
 use crate::arguments::Options;
 use crate::booked::write_book;
 use crate::doors::{Shut, Standard};
+use crate::linking::{Wired, linked_plan};
 use crate::status::{Status, of_end, of_fault, of_sessions};
 use click_control::{InputDevice, OutputDevice, Reading, Sink, Source, Writing};
-use click_desk::Entry;
+use click_desk::{BoxedTable, Entry};
 use click_handlers::{Table, TakesTable};
 use click_router::{Check, ConfigFault, Handlers};
 use click_workers::{
@@ -28,10 +29,10 @@ use std::thread::Threads;
 /// How many sessions (1 to 64) and drivers (at most 16) there are, how many rounds each driver makes, whether sessions may only read, and whether the router stays.
 #[derive(Drop)]
 pub struct Plan {
-    sessions: usize,
-    workers: usize,
+    pub(crate) sessions: usize,
+    pub(crate) workers: usize,
     rounds: u64,
-    readonly: bool,
+    pub(crate) readonly: bool,
     live: bool,
 }
 
@@ -230,7 +231,7 @@ fn refuse<E: Write>(alloc: Global, errors: &mut E, fault: &RunFault) -> Status
 }
 
 /// Writes why a configuration is refused.
-fn tell<E: Write>(alloc: Global, errors: &mut E, fault: &ConfigFault) {
+pub fn tell<E: Write>(alloc: Global, errors: &mut E, fault: &ConfigFault) {
     // A failed write changes nothing of the status.
     let _ = match fault.text(alloc) {
         Ok(text) => told(errors, text.as_slice()),
@@ -305,6 +306,7 @@ pub struct Serving<'a> {
     pub plan: Plan,
     pub end: AtEnd<'a>,
     pub comes: Comes,
+    pub links: Option<Wired>,
 }
 
 impl<'a> TakesTable for Serving<'a> {
@@ -317,11 +319,16 @@ impl<'a> TakesTable for Serving<'a> {
             plan,
             end,
             comes,
+            links,
         } = self;
-        if plan.live {
-            live_plan(rt, host, table, text, plan, comes)
-        } else {
-            serve_plan(rt, host, table, text, plan, end, comes)
+        let Ok(table) = Box::new(host.alloc(), table) else {
+            return Status::NoMemory;
+        };
+        let table = BoxedTable { table };
+        match links {
+            Some(wired) => linked_plan(rt, host, table, text, plan, comes, wired),
+            None if plan.live => live_plan(rt, host, table, text, plan, comes),
+            None => serve_plan(rt, host, table, text, plan, end, comes),
         }
     }
 }

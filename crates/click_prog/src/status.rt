@@ -5,6 +5,7 @@ ghost use Rattle.std.specs.List.{list_any};
 ghost use Rattle.click_prog.specs.Statuses as spec;
 
 use click_control::{Ended, ServeFault};
+use click_desk::OpenFault;
 use click_router::{ConfigFault, FaultKind};
 use click_workers::{RunFault, SessionEnd};
 use std::io;
@@ -60,7 +61,23 @@ pub fn of_fault(fault: &RunFault) -> Status
     }
 }
 
-fn of_config(fault: &ConfigFault) -> Status
+/// The status where a desk with links was not opened.
+pub fn of_opening(fault: &OpenFault) -> Status
+    ensures { result ≡ spec.opening_status fault.now }
+{
+    match fault {
+        OpenFault::Config(fault) => of_config(fault),
+        OpenFault::NoMemory => Status::NoMemory,
+        OpenFault::SeatCount
+        | OpenFault::DeviceTwice
+        | OpenFault::InletCount
+        | OpenFault::ViewCount
+        | OpenFault::NoView => Status::Refused,
+    }
+}
+
+/// The status of a faulty configuration.
+pub fn of_config(fault: &ConfigFault) -> Status
     ensures { result ≡ spec.config_status fault.now.kind }
 {
     match fault.kind {

@@ -9,8 +9,8 @@ use Rattle.click_classes.specs.declared.state.State.{State}
 use Rattle.click_expand.specs.declared.flat.FlatElement.{FlatElement}
 use Rattle.click_expand.specs.declared.flat.Flat.{Flat}
 use Rattle.click_scopes.proofs.Nesting.{spelled-nested}
-use Rattle.click_expand.proofs.FlatOnce.{flat-no-fault}
-use Rattle.click_expand.proofs.FaultOnce.{spelled-fault-once}
+use Rattle.click_expand.proofs.Once.FlatOnce.{flat-no-fault}
+use Rattle.click_expand.proofs.Once.FaultOnce.{spelled-fault-once}
 use Rattle.click_ports.specs.Breaches.{IsFirstBreach}
 use Rattle.click_ports.specs.Net.{net_of}
 use Rattle.click_ports.proofs.Lawfulness.{one-first}

@@ -7,7 +7,7 @@ use Rattle.click_text.proofs.Given.{spells_once}
 use Rattle.click_expand.specs.declared.flat.Flat.{Flat}
 use Rattle.click_expand.specs.Flat.{IsFlat}
 use Rattle.click_scopes.proofs.Nesting.{spelled-nested}
-use Rattle.click_expand.proofs.FlatOnce.{flat-once, flat-no-fault}
+use Rattle.click_expand.proofs.Once.FlatOnce.{flat-once, flat-no-fault}
 use Rattle.click_engine.specs.Plant.{Plant, IsStarted}
 use Rattle.click_ports.specs.Net.{net_of}
 use Rattle.click_ports.proofs.Lawfulness.{lawful-none}

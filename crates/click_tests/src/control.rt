@@ -4,7 +4,7 @@ use click_control::{
     AskFault, Command, Ended, Failed, Port, Reading, ServeFault, Session, Writing, serve,
 };
 use click_handlers::HandlerFault;
-use click_router::{Call, Refusal, Reply};
+use click_router::{Call, Kept, Recorded};
 use click_text::sequence::Sequence;
 use std::alloc::{AllocError, Global};
 use std::cell::Cell;
@@ -22,14 +22,14 @@ pub struct OneCounter {
 }
 
 /// The value of some bytes.
-fn value(bytes: Result<Vec<u8>, AllocError>) -> Result<Reply, AskFault> {
+fn value(bytes: Result<Vec<u8>, AllocError>) -> Result<Recorded, AskFault> {
     match bytes {
-        Ok(bytes) => Ok(Reply::Value(Sequence::of(bytes))),
+        Ok(bytes) => Ok(Recorded::of(Kept::Value(Sequence::of(bytes)))),
         Err(_) => Err(AskFault::NoMemory),
     }
 }
 
-fn read_of(alloc: Global, name: &[u8], text: &[u8]) -> Result<Reply, AskFault> {
+fn read_of(alloc: Global, name: &[u8], text: &[u8]) -> Result<Recorded, AskFault> {
     if name == b"c.count".as_slice() {
         value(Vec::from_slice(alloc, b"0"))
     } else if name == b"c.echo".as_slice() {
@@ -39,42 +39,45 @@ fn read_of(alloc: Global, name: &[u8], text: &[u8]) -> Result<Reply, AskFault> {
     } else if name == b"c.late".as_slice() {
         Err(AskFault::HistoryFull)
     } else if name == b"c.reset_counts".as_slice() {
-        Ok(Reply::Refused(Refusal::WrongWay))
+        Ok(Recorded::of(Kept::WrongWay))
     } else if name == b"c.none".as_slice() {
-        Ok(Reply::Refused(Refusal::NoHandler))
+        Ok(Recorded::of(Kept::NoHandler))
     } else {
-        Ok(Reply::Refused(Refusal::NoElement))
+        Ok(Recorded::of(Kept::NoElement))
     }
 }
 
-fn write_of(name: &[u8], text: &[u8]) -> Reply {
+fn write_of(name: &[u8], text: &[u8]) -> Recorded {
     if name == b"c.count".as_slice() {
-        Reply::Refused(Refusal::WrongWay)
+        Recorded::of(Kept::WrongWay)
     } else if name == b"c.two".as_slice() && text.len() != 2 {
-        Reply::Refused(Refusal::Handler(HandlerFault::OutOfRange))
+        Recorded::of(Kept::Handler(HandlerFault::OutOfRange))
     } else {
-        Reply::Done
+        Recorded::of(Kept::Done)
     }
 }
 
 impl Port for OneCounter {
     ghost asks = { λ _ _ _ _. Unit {0} };
 
-    fn ask(&mut self, alloc: Global, call: Call) -> Result<Reply, AskFault> {
+    fn record(&mut self, alloc: Global, call: Call) -> Result<Recorded, AskFault> {
         self.calls = self.calls.saturating_add(1);
         match call {
             Call::Read { name, text } => read_of(alloc, name.as_slice(), text.as_slice()),
-            Call::CheckRead { name } => match read_of(alloc, name.as_slice(), b"") {
-                Ok(Reply::Value(_)) => Ok(Reply::Done),
-                reply => reply,
-            },
+            Call::CheckRead { name } => {
+                let reply = read_of(alloc, name.as_slice(), b"")?;
+                Ok(match reply.kept() {
+                    Kept::Value(_) => Recorded::of(Kept::Done),
+                    _ => reply,
+                })
+            }
             Call::Write { name, text } => Ok(write_of(name.as_slice(), text.as_slice())),
             Call::CheckWrite { name } => Ok(write_of(name.as_slice(), b"ab")),
             Call::Swap { .. }
             | Call::Arrive { .. }
             | Call::Poll { .. }
             | Call::Round
-            | Call::Transmit { .. } => Ok(Reply::NoDevice),
+            | Call::Transmit { .. } => Ok(Recorded::of(Kept::NoDevice)),
         }
     }
 }

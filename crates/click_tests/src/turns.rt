@@ -4,7 +4,7 @@ use crate::control::{Narrow, OneCounter, Trickle, reader_of, replies, writer_of}
 use click_control::{
     AskFault, Ended, Open, Port, Reading, ServeFault, Turns, Writing, serve_turns,
 };
-use click_router::{Call, Reply};
+use click_router::{Call, Recorded};
 use std::alloc::Global;
 use std::cell::Cell;
 use std::io::{self, Read, Write};
@@ -74,9 +74,9 @@ struct Watched<'a> {
 impl Port for Watched<'_> {
     ghost asks = { λ _ _ _ _. Unit {0} };
 
-    fn ask(&mut self, alloc: Global, call: Call) -> Result<Reply, AskFault> {
+    fn record(&mut self, alloc: Global, call: Call) -> Result<Recorded, AskFault> {
         self.done.calls.set(self.done.calls.get().saturating_add(1));
-        self.port.ask(alloc, call)
+        self.port.record(alloc, call)
     }
 }
 

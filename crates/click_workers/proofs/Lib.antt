@@ -5,3 +5,5 @@ pub mod Driving
 pub mod Gating
 pub mod Entering
 pub mod ShownAtEnd
+pub mod Linking
+pub mod Sending

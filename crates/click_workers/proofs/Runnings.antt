@@ -10,29 +10,29 @@ use Rattle.click_desk.specs.History.{Legal, entries, entry}
 use Rattle.click_desk.specs.Openings.{IsViewFault}
 use Rattle.click_desk.specs.Closing.{IsEntered, IsEachOnce, Closes}
 use Rattle.click_desk.specs.Sittings.{DeskName, Sitting, new_seat}
-use Rattle.click_rings.specs.Feeds.{Drawing, name_of}
+use Rattle.click_rings.specs.Feeds.{Drawing, FeedName, name_of}
 use Rattle.click_workers.specs.Seats.{IsOf}
 use Rattle.click_desk.specs.declared.entry.Entry.{Entry}
 use Rattle.click_desk.specs.declared.open.OpenFault.{OpenFault}
 use Rattle.click_desk.specs.declared.open.OpenFault.TheVariants as told
 use Rattle.click_workers.specs.declared.runs.RunFault.{RunFault}
 use Rattle.click_workers.specs.declared.runs.RunFault.TheVariants as run
-use Rattle.click_workers.specs.Runs.{Headline, HeadlineFor, IsOpenedFor, IsTrueFault, IsLate, entries_of}
+use Rattle.click_workers.specs.Runs.{Headline, HeadlineWith, IsOpenedFor, IsTrueFault, IsLate, entries_of}
 
 none-named : (taps : List Drawing) → map name_of taps ≡ [] → taps ≡ []
 none-named [] e = refl
 none-named (t ∷ taps) e = absurd (let n : length (map name_of (t ∷ taps)) ≡ 0 = ap length e in omega arith)
 
 -- the book of a desk whose seats have no feeds has none
-no-feeds : (desk : DeskName) (seats : List Sitting) (book : Booklet) → 0 < length seats → All (IsOf desk) seats → Closes desk seats book → book.taps ≡ []
-no-feeds desk seats book some all closes =
+no-feeds : (desk : DeskName) (feeds : List FeedName) (seats : List Sitting) (book : Booklet) → 0 < length seats → All (IsOf desk feeds) seats → Closes desk seats book → feeds ≡ [] → book.taps ≡ []
+no-feeds desk feeds seats book some all closes none =
     let blank : Sitting = new_seat desk [] 0 in
-    none-named book.taps (sym (closes.feeds blank) ∙ (all 0 blank some).1)
+    none-named book.taps (sym (closes.feeds blank) ∙ (all 0 blank some).1 ∙ none)
 
 -- what a closed desk's book says of the text that it was opened with
-pub headline-of : (room : Option ℕ) (text : List ℕ) (n : ℕ) (desk : DeskName) (seats : List Sitting) (book : Booklet) → IsOpenedFor room text n desk → 0 < length seats → All (IsOf desk) seats
-    → IsEachOnce desk.terms.seats seats → Closes desk seats book → HeadlineFor room text n book
-headline-of room text n desk seats book terms some all once closes = record {
+pub headline-of : (feeds : List FeedName) (room : Option ℕ) (text : List ℕ) (n : ℕ) (desk : DeskName) (seats : List Sitting) (book : Booklet) → IsOpenedFor room text n desk → 0 < length seats
+    → All (IsOf desk feeds) seats → IsEachOnce desk.terms.seats seats → Closes desk seats book → HeadlineWith feeds room text n book
+headline-of feeds room text n desk seats book terms some all once closes = record {
   opening = closes.opening ∙ terms.0;
   kept = closes.kept ∙ ap (λ (r : Option ℕ). is_some r) terms.1;
   replayed = closes.replayed;
@@ -41,9 +41,9 @@ headline-of room text n desk seats book terms some all once closes = record {
   once = subst (λ m. IsEachOnce m book.seats) terms.2
       (subst (λ (l : List Sitting). IsEachOnce desk.terms.seats l) (sym closes.seats_are) once);
   numbered = subst (λ (l : List Sitting). All (λ e. count_by (λ s. s.number == e.seat) l ≡ 1) book.entries) (sym closes.seats_are) closes.numbered;
-  no_feeds = no-feeds desk seats book some all closes;
-  terms = subst (λ (l : List Sitting). All (λ (s : Sitting). IsOpenedFor room text n s.desk) l) (sym closes.seats_are)
-      (λ k s below. subst (λ (d : DeskName). IsOpenedFor room text n d) (sym (all k s below).0) terms);
+  no_feeds = no-feeds desk feeds seats book some all closes;
+  terms = subst (λ (l : List Sitting). All (λ (s : Sitting). IsOpenedFor room text n s.desk × (s.feeds ≡ feeds)) l) (sym closes.seats_are)
+      (λ k s below. (subst (λ (d : DeskName). IsOpenedFor room text n d) (sym (all k s below).0) terms, (all k s below).1));
 }
 
 -- a fault that the opening told is the text's first, also as the run tells it

@@ -30,7 +30,7 @@ which true c e = inl refl
 which false c e = inr (omega (arith, e))
 
 -- a seat of this number, of which holds what holds of all
-seat-of : (P : Sitting → Type 0) (n : ℕ) (seats : List Sitting) → All P seats → count_by (λ (s : Sitting). s.number == n) seats ≡ 1 → (s : Sitting) × (s.number ≡ n) × P s
+pub seat-of : (P : Sitting → Type 0) (n : ℕ) (seats : List Sitting) → All P seats → count_by (λ (s : Sitting). s.number == n) seats ≡ 1 → (s : Sitting) × (s.number ≡ n) × P s
 seat-of P n [] all one = absurd (omega (arith, one))
 seat-of P n (s ∷ ss) all one =
     elim (which (s.number == n) (count_by (λ (t : Sitting). t.number == n) ss) (sym (sum_by-cons (λ (t : Sitting). cond (t.number == n) 1 0) s ss) ∙ one)) [

@@ -2,12 +2,15 @@
 use Rattle.std.proofs.Common.{◌≡◌, ℕ, zero, suc, ◌+◌, ◌≤◌, ◌-◌, min, Bool, List, [], ◌∷◌, ◌++◌, length, map, Option, Some, None, IfSome, MatchOption, refl, sym, ap, ◌∙◌, subst, append_assoc, append-nil, length-append, arith}
 use Rattle.std.specs.Prelude.{option_to_list}
 use Rattle.std.specs.List.{All}
+use Rattle.std.proofs.lemmas.List.Elements.{All-nil, All-cons, All-head, All-tail, All-push}
+use Rattle.click_rings.specs.Feeds.{FeedName}
 use Rattle.click_router.specs.declared.call.Call.TheVariants as call
 use Rattle.click_desk.specs.Closing.{IsEachOnce}
 use Rattle.click_desk.proofs.Books.{new_once, same_once}
 use Rattle.click_desk.specs.Sittings.{DeskName, Sitting, new_seat, seats_below}
 use Rattle.click_control.specs.Peers.{Input, Output}
 use Rattle.click_workers.specs.declared.session.SessionEnd.{SessionEnd}
+use Rattle.click_workers.specs.Seats.{IsOf}
 use Rattle.click_workers.specs.Work.{Attends, AttendedInTurn, DrivesFor, DroveFor, InTurn, SideBySide, Ready, Worked, numbers_below}
 
 snoc-inj : (xs ys : List Sitting) (x y : Sitting) → xs ++ x ∷ [] ≡ ys ++ y ∷ [] → (xs ≡ ys) × (x ≡ y)
@@ -21,18 +24,20 @@ snoc-inj (a ∷ xs) (b ∷ ys) x y e =
     (ap (λ z. z ∷ xs) head ∙ ap (λ l. b ∷ l) k.0, k.1)
 
 -- the last of the new seats, and those before it
-pub last-new : (desk : DeskName) (m n : ℕ) (seats front : List Sitting) (x : Sitting) → seats ≡ seats_below desk [] n → seats ≡ front ++ x ∷ [] → n ≡ suc m
-    → (front ≡ seats_below desk [] m) × (x ≡ new_seat desk [] m)
-last-new desk m n seats front x all cut is =
-    snoc-inj front (seats_below desk [] m) x (new_seat desk [] m) (sym cut ∙ all ∙ ap (seats_below desk []) is)
+pub last-new : (desk : DeskName) (feeds : List FeedName) (m n : ℕ) (seats front : List Sitting) (x : Sitting) → seats ≡ seats_below desk feeds n → seats ≡ front ++ x ∷ [] → n ≡ suc m
+    → (front ≡ seats_below desk feeds m) × (x ≡ new_seat desk feeds m)
+last-new desk feeds m n seats front x all cut is =
+    snoc-inj front (seats_below desk feeds m) x (new_seat desk feeds m) (sym cut ∙ all ∙ ap (seats_below desk feeds) is)
 
-pairs-push : {X Y : Type 0} (R : X → Y → Type 0) (xs : List X) (ys : List Y) (x : X) (y : Y) → SideBySide R xs ys → R x y → SideBySide R (xs ++ x ∷ []) (ys ++ y ∷ [])
+-- one pair more
+pub pairs-push : {X Y : Type 0} (R : X → Y → Type 0) (xs : List X) (ys : List Y) (x : X) (y : Y) → SideBySide R xs ys → R x y → SideBySide R (xs ++ x ∷ []) (ys ++ y ∷ [])
 pairs-push R [] [] x y h r = (r, tt)
 pairs-push R [] (b ∷ ys) x y h r = absurd h
 pairs-push R (a ∷ xs) [] x y h r = absurd h
 pairs-push R (a ∷ xs) (b ∷ ys) x y h r = (h.0, pairs-push R xs ys x y h.1 r)
 
-map-push : (xs : List Sitting) (x : Sitting) → map (λ (s : Sitting). s.number) (xs ++ x ∷ []) ≡ map (λ (s : Sitting). s.number) xs ++ x.number ∷ []
+-- the numbers of seats, with one more
+pub map-push : (xs : List Sitting) (x : Sitting) → map (λ (s : Sitting). s.number) (xs ++ x ∷ []) ≡ map (λ (s : Sitting). s.number) xs ++ x.number ∷ []
 map-push [] x = refl
 map-push (y ∷ xs) x = ap (λ l. y.number ∷ l) (map-push xs x)
 
@@ -41,13 +46,25 @@ empty-of [] e = refl
 empty-of (x ∷ xs) e = absurd (omega arith)
 
 -- the numbers of new seats
-pub new-numbers : (desk : DeskName) (n : ℕ) → map (λ (s : Sitting). s.number) (seats_below desk [] n) ≡ numbers_below n
-new-numbers desk zero = refl
-new-numbers desk (suc n) = map-push (seats_below desk [] n) (new_seat desk [] n) ∙ ap (λ l. l ++ n ∷ []) (new-numbers desk n)
+pub new-numbers : (desk : DeskName) (feeds : List FeedName) (n : ℕ) → map (λ (s : Sitting). s.number) (seats_below desk feeds n) ≡ numbers_below n
+new-numbers desk feeds zero = refl
+new-numbers desk feeds (suc n) = map-push (seats_below desk feeds n) (new_seat desk feeds n) ∙ ap (λ l. l ++ n ∷ []) (new-numbers desk feeds n)
 
-pub seats-many : (desk : DeskName) (n : ℕ) → length (seats_below desk [] n) ≡ n
-seats-many desk zero = refl
-seats-many desk (suc n) = omega (arith, length-append (seats_below desk [] n) (new_seat desk [] n ∷ []), seats-many desk n)
+pub seats-many : (desk : DeskName) (feeds : List FeedName) (n : ℕ) → length (seats_below desk feeds n) ≡ n
+seats-many desk feeds zero = refl
+seats-many desk feeds (suc n) = omega (arith, length-append (seats_below desk feeds n) (new_seat desk feeds n ∷ []), seats-many desk feeds n)
+
+-- new seats are of their desk, with its feeds
+pub new-of : (desk : DeskName) (feeds : List FeedName) (n : ℕ) → All (IsOf desk feeds) (seats_below desk feeds n)
+new-of desk feeds zero = All-nil (IsOf desk feeds)
+new-of desk feeds (suc n) = All-push (IsOf desk feeds) (seats_below desk feeds n) (new_seat desk feeds n) (new-of desk feeds n) (refl, refl)
+
+-- what holds of all seats holds of those before the last, and of that
+pub front-and-last : (P : Sitting → Type 0) (xs : List Sitting) (x : Sitting) → All P (xs ++ x ∷ []) → All P xs × P x
+front-and-last P [] x h = (All-nil P, All-head P x [] h)
+front-and-last P (y ∷ xs) x h =
+    let k = front-and-last P xs x (All-tail P y (xs ++ x ∷ []) h) in
+    (All-cons P y xs (All-head P y (xs ++ x ∷ []) h) k.0, k.1)
 
 -- by the number of its seat
 pub driven-by : {G : Type 0} (gives : G → ℕ → ℕ → Bool → Type 0) (told : G → ℕ → ℕ → Type 0) (gate : G) (who : ℕ) (rounds : Option ℕ) (s : Sitting) (all : Bool) → who ≡ suc s.number
@@ -55,10 +72,10 @@ pub driven-by : {G : Type 0} (gives : G → ℕ → ℕ → Bool → Type 0) (to
 driven-by gives told gate who rounds s all is h = subst (λ w. DrivesFor gives told gate w rounds s all) is h
 
 pub attended-by : {D Rd Wr G : Type 0} (lets_in : D → ℕ → Option (Rd × Wr) → Type 0) (input : Rd → Input) (output : Wr → Output) (gives : G → ℕ → ℕ → Bool → Type 0) (told : G → ℕ → ℕ → Type 0)
-    (door : D) (gate : G) (readonly : Bool) (who turns : ℕ) (seat s : Sitting) (e : SessionEnd) → who ≡ suc s.number → seat ≡ new_seat s.desk [] s.number
+    (door : D) (gate : G) (readonly : Bool) (who turns : ℕ) (seat s : Sitting) (e : SessionEnd) → who ≡ suc s.number → seat ≡ new_seat s.desk s.feeds s.number
     → InTurn (Attends lets_in input output gives told door gate readonly who) turns seat s e → AttendedInTurn lets_in input output gives told door gate readonly turns s e
 attended-by lets_in input output gives told door gate readonly who turns seat s e is fresh h =
-    subst (λ w. InTurn (Attends lets_in input output gives told door gate readonly w) turns (new_seat s.desk [] s.number) s e) is
+    subst (λ w. InTurn (Attends lets_in input output gives told door gate readonly w) turns (new_seat s.desk s.feeds s.number) s e) is
     (subst (λ o. InTurn (Attends lets_in input output gives told door gate readonly who) turns o s e) fresh h)
 
 -- however many Rounds it was to make
@@ -121,13 +138,13 @@ module _ (attends : Sitting → SessionEnd → Type 0) (drives : Sitting → Boo
       }
 
 pub once-of : (desk : DeskName) (n : ℕ) (seats : List Sitting) → map (λ (s : Sitting). s.number) seats ≡ numbers_below n → IsEachOnce n seats
-once-of desk n seats h = same_once n (seats_below desk [] n) seats (new-numbers desk n ∙ sym h) (new_once desk [] n)
+once-of desk n seats h = same_once n (seats_below desk [] n) seats (new-numbers desk [] n ∙ sym h) (new_once desk [] n)
 
-pub ready-first : (desk : DeskName) (sessions workers len : ℕ) (seats : List Sitting) (ended : List SessionEnd) (drivers : List Bool) (e d : ℕ)
-    → seats ≡ seats_below desk [] (sessions + workers) → len ≡ sessions + workers → ended ≡ [] → drivers ≡ [] → e ≡ sessions → d ≡ workers
+pub ready-first : (desk : DeskName) (feeds : List FeedName) (sessions workers len : ℕ) (seats : List Sitting) (ended : List SessionEnd) (drivers : List Bool) (e d : ℕ)
+    → seats ≡ seats_below desk feeds (sessions + workers) → len ≡ sessions + workers → ended ≡ [] → drivers ≡ [] → e ≡ sessions → d ≡ workers
     → Ready desk sessions len seats ended drivers e d
-ready-first desk sessions workers len seats ended drivers e d new many none_ended none_driven ended_room drivers_room = record {
-  fresh = new ∙ ap (seats_below desk []) (sym many);
+ready-first desk feeds sessions workers len seats ended drivers e d new many none_ended none_driven ended_room drivers_room = record {
+  fresh = (feeds, new ∙ ap (seats_below desk feeds) (sym many));
   none_ended = none_ended;
   none_driven = none_driven;
   room_ended = omega (arith, ended_room);
@@ -135,17 +152,17 @@ ready-first desk sessions workers len seats ended drivers e d new many none_ende
 }
 
 -- what a pop of the new seats gives and leaves
-pub last-taken : (desk : DeskName) (n m : ℕ) (seats front : List Sitting) (r : Option Sitting) → seats ≡ seats_below desk [] n → seats ≡ front ++ option_to_list r
-    → MatchOption r ((n ≡ 0) × (m ≡ 0)) (λ _. m + 1 ≡ n) → IfSome r (λ s. (s ≡ new_seat desk [] m) × (n ≡ m + 1)) × (front ≡ seats_below desk [] m)
-last-taken desk n m seats front None all cut h = (tt, sym (append-nil front) ∙ sym cut ∙ all ∙ ap (seats_below desk []) (h.0 ∙ sym h.1))
-last-taken desk n m seats front (Some x) all cut h =
-    let k = last-new desk m n seats front x all cut (omega arith) in
-    ((k.1, omega arith), k.0)
+pub last-taken : (desk : DeskName) (feeds : List FeedName) (n m : ℕ) (seats front : List Sitting) (r : Option Sitting) → seats ≡ seats_below desk feeds n → seats ≡ front ++ option_to_list r
+    → MatchOption r ((n ≡ 0) × (m ≡ 0)) (λ _. m + 1 ≡ n) → IfSome r (λ s. (s ≡ new_seat desk s.feeds m) × (n ≡ m + 1) × (seats ≡ front ++ s ∷ [])) × (front ≡ seats_below desk feeds m)
+last-taken desk feeds n m seats front None all cut h = (tt, sym (append-nil front) ∙ sym cut ∙ all ∙ ap (seats_below desk feeds) (h.0 ∙ sym h.1))
+last-taken desk feeds n m seats front (Some x) all cut h =
+    let k = last-new desk feeds m n seats front x all cut (omega arith) in
+    ((k.1 ∙ ap (λ f. new_seat desk f m) (sym (ap (λ (s : Sitting). s.feeds) k.1)), omega arith, cut), k.0)
 
-pub ready-taken : (desk : DeskName) (sessions n m : ℕ) (seats front : List Sitting) (ended : List SessionEnd) (drivers : List Bool) (e d : ℕ)
-    → Ready desk sessions n seats ended drivers e d → m ≤ n → front ≡ seats_below desk [] m → Ready desk sessions m front ended drivers e d
-ready-taken desk sessions n m seats front ended drivers e d r less fresh = record {
-  fresh = fresh;
+pub ready-taken : (desk : DeskName) (sessions n m : ℕ) (seats front : List Sitting) (ended : List SessionEnd) (drivers : List Bool) (e d : ℕ) (feeds : List FeedName)
+    → Ready desk sessions n seats ended drivers e d → m ≤ n → front ≡ seats_below desk feeds m → Ready desk sessions m front ended drivers e d
+ready-taken desk sessions n m seats front ended drivers e d feeds r less fresh = record {
+  fresh = (feeds, fresh);
   none_ended = r.none_ended;
   none_driven = r.none_driven;
   room_ended = omega (arith, r.room_ended, less);

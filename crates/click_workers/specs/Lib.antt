@@ -2,3 +2,4 @@ pub mod Gates
 pub mod Seats
 pub mod Work
 pub mod Runs
+pub mod Linked

@@ -1,6 +1,7 @@
 -- What whole runs leave.
 use Rattle.std.specs.Prelude.{◌≡◌, ◌==◌, count_by, ℕ, List, [], ◌∷◌, map, drop, Bool, Option, Some, None, is_some, Result}
 use Rattle.std.specs.List.{All}
+use Rattle.click_rings.specs.Feeds.{FeedName}
 use Rattle.click_router.specs.Opened.{IsFirstFault}
 use Rattle.click_router.specs.One.{Listing, IsListing, check}
 use Rattle.click_router.specs.declared.call.Call.{Call}
@@ -35,8 +36,9 @@ IsOpenedWith text n desk = IsOpenedFor (Some 1048576) text n desk
 
 -- The book is a history of one thread from this text, of so many seats: made one after another from what the text opens, its calls get just their replies and
 -- lead to its router, and every configuration that was installed is lawful. It has of each seat just the calls that the seat made, in their order and with
--- the replies that it got, each number is that of one seat, and each entry is of one of them. Its entries are kept where the room has a bound. It has no feeds. Every seat's desk was opened with this text, this room and so many seats.
-pub record HeadlineFor (room : Option ℕ) (text : List ℕ) (n : ℕ) (book : Booklet) : Type 0 where
+-- the replies that it got, each number is that of one seat, and each entry is of one of them. Its entries are kept where the room has a bound. Every seat's desk was opened with this text, this room and so many seats, and with these feeds;
+-- where there are none the book has none.
+pub record HeadlineWith (feeds : List FeedName) (room : Option ℕ) (text : List ℕ) (n : ℕ) (book : Booklet) : Type 0 where
   pub opening : book.opening ≡ text
   pub kept : book.keeps ≡ is_some room
   pub replayed : Legal book.opening book.entries book.router
@@ -44,8 +46,12 @@ pub record HeadlineFor (room : Option ℕ) (text : List ℕ) (n : ℕ) (book : B
   pub entered : All (IsEntered book.entries) book.seats
   pub once : IsEachOnce n book.seats
   pub numbered : All (λ e. count_by (λ s. s.number == e.seat) book.seats ≡ 1) book.entries
-  pub no_feeds : book.taps ≡ []
-  pub terms : All (λ s. IsOpenedFor room text n s.desk) book.seats
+  pub no_feeds : feeds ≡ [] → book.taps ≡ []
+  pub terms : All (λ s. IsOpenedFor room text n s.desk × (s.feeds ≡ feeds)) book.seats
+
+-- the same of a desk without feeds
+abbrev pub HeadlineFor : Option ℕ → List ℕ → ℕ → Booklet → Type 0
+HeadlineFor room text n book = HeadlineWith [] room text n book
 
 -- the same of a run whose history is kept
 abbrev pub Headline : List ℕ → ℕ → Booklet → Type 0

@@ -1,5 +1,6 @@
 -- What asks and sessions do to a seat.
 use Rattle.std.specs.Prelude.{◌≡◌, ℕ, List, [], ◌∷◌, ◌++◌, Bool, Option, Some, None, Result, Ok, Err}
+use Rattle.click_rings.specs.Feeds.{FeedName}
 use Rattle.click_router.specs.declared.call.Call.{Call}
 use Rattle.click_router.specs.declared.call.Reply.{Reply}
 use Rattle.click_desk.specs.declared.booked.DeskFault.{DeskFault}
@@ -19,9 +20,9 @@ use Rattle.click_control.specs.Serving.{call_of, Course, ServesSo}
 abbrev pub SameSeat : Sitting → Sitting → Type 0
 SameSeat old new = (new.desk ≡ old.desk) × (new.number ≡ old.number) × (new.feeds ≡ old.feeds)
 
--- a seat of this desk, which has no feeds
-abbrev pub IsOf : DeskName → Sitting → Type 0
-IsOf desk s = (s.desk ≡ desk) × (s.feeds ≡ [])
+-- a seat of this desk, which has these feeds
+abbrev pub IsOf : DeskName → List FeedName → Sitting → Type 0
+IsOf desk feeds s = (s.desk ≡ desk) × (s.feeds ≡ feeds)
 
 abbrev pub refusal_of : AskFault → DeskFault
 refusal_of ask.NoMemory = desk.NoMemory

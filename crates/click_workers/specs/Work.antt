@@ -1,6 +1,7 @@
 -- What sessions and drivers did to their seats.
 use Rattle.std.specs.Prelude.{◌≡◌, ◌⊎◌, ◌↔◌, ℕ, zero, suc, ◌+◌, ◌≤◌, ◌-◌, List, [], ◌∷◌, ◌++◌, length, map, min, Bool, true, false, Option, Some, None}
 use Rattle.std.specs.List.{All}
+use Rattle.click_rings.specs.Feeds.{FeedName}
 use Rattle.click_router.specs.declared.call.Call.TheVariants as call
 use Rattle.click_router.specs.declared.call.Reply.{Reply}
 use Rattle.click_desk.specs.declared.booked.DeskFault.{DeskFault}
@@ -46,7 +47,7 @@ Attends {D} {Rd} {Wr} {G} lets_in input output gives told door gate readonly who
 abbrev pub Attended : {D Rd Wr G : Type 0} → (D → ℕ → Option (Rd × Wr) → Type 0) → (Rd → Input) → (Wr → Output) → (G → ℕ → ℕ → Bool → Type 0) → (G → ℕ → ℕ → Type 0)
     → D → G → Bool → Sitting → SessionEnd → Type 0
 Attended lets_in input output gives told door gate readonly s e =
-    Attends lets_in input output gives told door gate readonly (suc s.number) (new_seat s.desk [] s.number) s e
+    Attends lets_in input output gives told door gate readonly (suc s.number) (new_seat s.desk s.feeds s.number) s e
 
 -- drivers are counted on after the sessions, and each had the seat of the number before it
 abbrev pub Drove : {G : Type 0} → (G → ℕ → ℕ → Bool → Type 0) → (G → ℕ → ℕ → Type 0) → G → ℕ → Sitting → Bool → Type 0
@@ -62,7 +63,7 @@ InTurn attends (suc (suc n)) old new last = (between : Sitting) × (before : Ses
 abbrev pub AttendedInTurn : {D Rd Wr G : Type 0} → (D → ℕ → Option (Rd × Wr) → Type 0) → (Rd → Input) → (Wr → Output) → (G → ℕ → ℕ → Bool → Type 0) → (G → ℕ → ℕ → Type 0)
     → D → G → Bool → ℕ → Sitting → SessionEnd → Type 0
 AttendedInTurn lets_in input output gives told door gate readonly turns s e =
-    InTurn (Attends lets_in input output gives told door gate readonly (suc s.number)) turns (new_seat s.desk [] s.number) s e
+    InTurn (Attends lets_in input output gives told door gate readonly (suc s.number)) turns (new_seat s.desk s.feeds s.number) s e
 
 -- A driver that is to make so many Rounds, or, where it goes on as long as anybody may be served, as many as it came to.
 abbrev pub DrivesFor : {G : Type 0} → (G → ℕ → ℕ → Bool → Type 0) → (G → ℕ → ℕ → Type 0) → G → ℕ → Option ℕ → Sitting → Bool → Type 0
@@ -98,7 +99,7 @@ pub record Worked (attends : Sitting → SessionEnd → Type 0) (drives : Sittin
 
 -- New seats of a desk, with room for what comes of each, and nothing yet.
 pub record Ready (desk : DeskName) (sessions n : ℕ) (seats : List Sitting) (ended : List SessionEnd) (drivers : List Bool) (ended_room drivers_room : ℕ) : Type 0 where
-  pub fresh : seats ≡ seats_below desk [] n
+  pub fresh : (feeds : List FeedName) × (seats ≡ seats_below desk feeds n)
   pub none_ended : ended ≡ []
   pub none_driven : drivers ≡ []
   pub room_ended : min n sessions ≤ ended_room

@@ -31,7 +31,7 @@ fn learn_all<T>(view: &mut View, seats: &[Seat<T>])
 }
 
 /// Closes a desk with all its seats.
-fn close_all<T: Drop, R: Wait>(rt: &R, desk: Desk<T, &R>, seats: Vec<Seat<T>>) -> Book<T>
+pub(crate) fn close_all<T: Drop, R: Wait>(rt: &R, desk: Desk<T, &R>, seats: Vec<Seat<T>>) -> Book<T>
     requires seats { All (λ s. s.desk ≡ desk) seats.items }
     requires once { IsEachOnce desk.terms.seats seats.items }
     ensures { Closes desk.entry seats.items result }

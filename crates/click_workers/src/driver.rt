@@ -8,21 +8,11 @@ use crate::gate::Gate;
 use crate::pause::Pause;
 use crate::places::Places;
 use click_desk::{Desk, Seat};
-use click_router::{Call, Handlers, Kept, Recorded, Reply};
+use click_router::Handlers;
 use std::sync::Wait;
 
 /// How long a driver that finds no work sleeps at most, in microseconds.
 const LONGEST: u64 = 1_000;
-
-/// How many packets the tasks of a Round gave or pulled, by its reply.
-fn count_of(reply: &Recorded) -> u64
-    ensures { (count : ℕ) → reply.now ≡ Reply.Worked count → result ≡ count }
-{
-    match reply.kept() {
-        Kept::Worked(count) => *count,
-        _ => 0,
-    }
-}
 
 /// Makes one Round, where the gate gives the turn and the desk does not refuse it. Says how many packets its tasks gave or pulled, or that it was not made.
 fn take_turn<T: Handlers, G: Gate, R: Wait>(
@@ -40,10 +30,10 @@ fn take_turn<T: Handlers, G: Gate, R: Wait>(
     if !gate.before(who, nth) {
         return None;
     }
-    match desk.record(rt, seat, Call::Round) {
-        Ok(reply) => {
+    match desk.round(rt, seat) {
+        Ok(worked) => {
             gate.after(who, nth);
-            Some(count_of(&reply))
+            Some(worked)
         }
         Err(_) => None,
     }

@@ -7,6 +7,7 @@ mod driver;
 mod extent;
 mod gate;
 pub mod laws;
+mod linked;
 mod listening;
 mod pause;
 mod places;
@@ -17,6 +18,7 @@ mod work;
 
 pub use door::Door;
 pub use gate::{Gate, OpenGate};
+pub use linked::{Clients, LinkEnd, LinkedRan, run_linked};
 pub use listening::Listening;
 pub use runs::{AllRan, Ran, RunFault, run, run_live, run_workers};
 pub use seated::Seated;

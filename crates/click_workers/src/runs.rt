@@ -5,8 +5,10 @@ ghost use Rattle.boxcar.specs.Table.{Shelves};
 ghost use Rattle.std.specs.List.{All};
 ghost use Rattle.click_desk.specs.Openings.{IsViewFault};
 ghost use Rattle.click_desk.specs.Sittings.{seats_below};
+ghost use Rattle.click_rings.specs.Feeds.{FeedName};
+ghost use Rattle.click_workers.specs.Seats.{IsOf};
 ghost use Rattle.click_workers.specs.Work.{Attended, AttendedInTurn, Drove, DroveFor, Ready, Worked};
-ghost use Rattle.click_workers.specs.Runs.{Headline, HeadlineFor, IsOpenedFor, IsOpenedWith, DriversRound, RanOver, IsChecked, IsTrueFault, IsNoClose, IsViewAsked, IsLate, views_for};
+ghost use Rattle.click_workers.specs.Runs.{Headline, HeadlineFor, HeadlineWith, IsOpenedFor, IsOpenedWith, DriversRound, RanOver, IsChecked, IsTrueFault, IsNoClose, IsViewAsked, IsLate, views_for};
 
 use crate::checking::{Asked, close_and_check};
 use crate::door::Door;
@@ -184,6 +186,7 @@ fn begin_work<'a, 'b, T: Drop, R: Wait>(
     ensures desk { IfOk result (λ b. IsOpenedFor room text.now (sessions + workers) b.desk) }
     ensures many { IfOk result (λ b. b.desk.terms.seats ≡ vec_len b.work.seats) }
     ensures count { IfOk result (λ b. sessions + workers ≡ vec_len b.work.seats) }
+    ensures of { IfOk result (λ b. All (IsOf b.desk []) b.work.seats.items) }
     ensures ready { IfOk result (λ b. Ready b.desk sessions (vec_len b.work.seats) b.work.seats.items b.work.ended.items b.work.drivers.items (vec_capacity b.work.ended) (vec_capacity b.work.drivers)) }
     ensures name { IfOk result (λ b. option_map (λ a. a.name.now) b.asked ≡ option_map (λ n. n.now) check.entry) }
     ensures view { IfOk result (λ b. IfSome b.asked (λ a. a.view.board ≡ b.desk.terms.origin)) }
@@ -259,7 +262,8 @@ fn work_and_close<T: Handlers + Send + Drop, D: Door, G: Gate, R: Threads + Wait
     requires turns { 0 < extent.turns }
     requires ready { Ready desk sessions (vec_len work.seats) work.seats.items work.ended.items work.drivers.items (vec_capacity work.ended) (vec_capacity work.drivers) }
     requires view { IfSome asked (λ a. a.view.board ≡ desk.terms.origin) }
-    ensures headline { (room : Option ℕ) (text : List ℕ) (n : ℕ) → n ≡ vec_len work.seats → IsOpenedFor room text n desk.entry → HeadlineFor room text n result.book }
+    ensures headline { (feeds : List FeedName) (room : Option ℕ) (text : List ℕ) (n : ℕ) → n ≡ vec_len work.seats → All (IsOf desk.entry feeds) work.seats.items
+        → IsOpenedFor room text n desk.entry → HeadlineWith feeds room text n result.book }
     ensures worked { (n : ℕ) → n ≡ vec_len work.seats
         → Worked (AttendedInTurn D.lets_in D.Reader.input D.Writer.output G.gives G.told door.now gate.now readonly extent.turns) (DroveFor G.gives G.told gate.now extent.rounds)
         sessions n result.book.seats result.ended.items result.drivers.items }

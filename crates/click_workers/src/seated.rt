@@ -4,7 +4,7 @@ ghost use Rattle.std.specs.Prelude.{◌≡◌, MatchResult};
 
 use click_control::{AskFault, Port};
 use click_desk::{Desk, DeskFault, Seat};
-use click_router::{Call, Handlers, Reply};
+use click_router::{Call, Handlers, Recorded};
 use std::alloc::Global;
 use std::marker::Model;
 use std::sync::Wait;
@@ -54,9 +54,9 @@ impl<'a, T: Handlers, R: Wait, B: Wait + Drop> Port for Seated<'a, T, R, B> {
 
     ghost asks = { SeatAsks };
 
-    fn ask(&mut self, _alloc: Global, call: Call) -> Result<Reply, AskFault> {
+    fn record(&mut self, _alloc: Global, call: Call) -> Result<Recorded, AskFault> {
         match self.desk.record(self.rt, &mut self.seat, call) {
-            Ok(reply) => Ok(reply.into_reply()),
+            Ok(reply) => Ok(reply),
             Err(DeskFault::NoMemory) => Err(AskFault::NoMemory),
             Err(DeskFault::HistoryFull) => Err(AskFault::HistoryFull),
         }

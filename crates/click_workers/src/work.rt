@@ -1,8 +1,9 @@
 //! Sessions and drivers, each in a thread of its own.
 
-ghost use Rattle.std.specs.Prelude.{◌≡◌, ◌≤◌, ◌<◌, ◌+◌, [], IfSome, IfNone, vec_len, vec_capacity};
+ghost use Rattle.std.specs.Prelude.{◌≡◌, ◌≤◌, ◌<◌, ◌+◌, ◌++◌, ◌∷◌, List, [], IfSome, IfNone, vec_len, vec_capacity};
 ghost use Rattle.std.specs.List.{All};
 ghost use Rattle.std.specs.Thread.{IsSend, IsSync};
+ghost use Rattle.click_rings.specs.Feeds.{FeedName};
 ghost use Rattle.click_desk.specs.Sittings.{new_seat};
 ghost use Rattle.click_workers.specs.Seats.{SameSeat, IsOf};
 ghost use Rattle.click_workers.specs.Work.{Attends, AttendedInTurn, DrivesFor, DroveFor, InTurn, Ready, Worked};
@@ -35,8 +36,8 @@ fn last_of<T, B: Wait + Drop>(
     work: Work<T>,
 ) -> (Option<Seat<T>>, Work<T>)
     requires { Ready desk.now sessions (vec_len work.seats) work.seats.items work.ended.items work.drivers.items (vec_capacity work.ended) (vec_capacity work.drivers) }
-    ensures some { IfSome result.0 (λ s. (s ≡ new_seat desk.now [] (vec_len result.1.seats)) × (vec_len work.seats ≡ vec_len result.1.seats + 1)) }
-    ensures none { IfNone result.0 ((vec_len work.seats ≡ 0) × (vec_len result.1.seats ≡ 0)) }
+    ensures some { IfSome result.0 (λ s. (s ≡ new_seat desk.now s.feeds (vec_len result.1.seats)) × (vec_len work.seats ≡ vec_len result.1.seats + 1) × (work.seats.items ≡ result.1.seats.items ++ s ∷ [])) }
+    ensures none { IfNone result.0 ((vec_len work.seats ≡ 0) × (vec_len result.1.seats ≡ 0) × (work.seats.items ≡ result.1.seats.items)) }
     ensures ready { Ready desk.now sessions (vec_len result.1.seats) result.1.seats.items result.1.ended.items result.1.drivers.items (vec_capacity result.1.ended) (vec_capacity result.1.drivers) }
     ensures room { (vec_capacity work.seats ≡ vec_capacity result.1.seats) × (vec_capacity work.ended ≡ vec_capacity result.1.ended) × (vec_capacity work.drivers ≡ vec_capacity result.1.drivers) }
 {
@@ -69,7 +70,7 @@ pub(crate) fn work_all<T: Handlers + Send + Drop, D: Door, G: Gate, R: Threads +
 ) -> Work<T>
     requires ready { Ready desk.now sessions (vec_len work.seats) work.seats.items work.ended.items work.drivers.items (vec_capacity work.ended) (vec_capacity work.drivers) }
     requires some { 0 < extent.turns }
-    ensures desk { All (IsOf desk.now) result.seats.items }
+    ensures desk { (feeds : List FeedName) → All (IsOf desk.now feeds) work.seats.items → All (IsOf desk.now feeds) result.seats.items }
     ensures worked { Worked (AttendedInTurn D.lets_in D.Reader.input D.Writer.output G.gives G.told door.now gate.now readonly extent.turns) (DroveFor G.gives G.told gate.now extent.rounds)
         sessions (vec_len work.seats) result.seats.items result.ended.items result.drivers.items }
     ensures room { (vec_capacity work.seats ≤ vec_capacity result.seats) × (vec_capacity work.ended ≤ vec_capacity result.ended) × (vec_capacity work.drivers ≤ vec_capacity result.drivers) }
@@ -88,7 +89,7 @@ pub(crate) fn work_all<T: Handlers + Send + Drop, D: Door, G: Gate, R: Threads +
             { drive_for(rt, desk, seat, gate, who, extent.rounds, places) },
             move || -> Work<T>
                 requires { IsSync R.row × IsSync D.row × IsSync G.row × IsSend T.row × Ready desk.now sessions (vec_len rest.seats) rest.seats.items rest.ended.items rest.drivers.items (vec_capacity rest.ended) (vec_capacity rest.drivers) × (0 < extent.turns) }
-                ensures { All (IsOf desk.entry.now) result.seats.items
+                ensures { ((feeds : List FeedName) → All (IsOf desk.entry.now feeds) rest.seats.items → All (IsOf desk.entry.now feeds) result.seats.items)
                     × Worked (AttendedInTurn D.lets_in D.Reader.input D.Writer.output G.gives G.told door.entry.now gate.entry.now readonly extent.turns) (DroveFor G.gives G.told gate.entry.now extent.rounds)
                     sessions (vec_len rest.seats) result.seats.items result.ended.items result.drivers.items
                     × (vec_capacity rest.seats ≤ vec_capacity result.seats) × (vec_capacity rest.ended ≤ vec_capacity result.ended) × (vec_capacity rest.drivers ≤ vec_capacity result.drivers) }
@@ -123,7 +124,7 @@ pub(crate) fn work_all<T: Handlers + Send + Drop, D: Door, G: Gate, R: Threads +
             },
             move || -> Work<T>
                 requires { IsSync R.row × IsSync D.row × IsSync G.row × IsSend T.row × Ready desk.now sessions (vec_len rest.seats) rest.seats.items rest.ended.items rest.drivers.items (vec_capacity rest.ended) (vec_capacity rest.drivers) × (0 < extent.turns) }
-                ensures { All (IsOf desk.entry.now) result.seats.items
+                ensures { ((feeds : List FeedName) → All (IsOf desk.entry.now feeds) rest.seats.items → All (IsOf desk.entry.now feeds) result.seats.items)
                     × Worked (AttendedInTurn D.lets_in D.Reader.input D.Writer.output G.gives G.told door.entry.now gate.entry.now readonly extent.turns) (DroveFor G.gives G.told gate.entry.now extent.rounds)
                     sessions (vec_len rest.seats) result.seats.items result.ended.items result.drivers.items
                     × (vec_capacity rest.seats ≤ vec_capacity result.seats) × (vec_capacity rest.ended ≤ vec_capacity result.ended) × (vec_capacity rest.drivers ≤ vec_capacity result.drivers) }

@@ -11,8 +11,8 @@ use Rattle.click_expand.specs.declared.fault.ExpandFault.{ExpandFault}
 use Rattle.click_scopes.specs.declared.analysis.ScopeFault.{ScopeFault}
 use Rattle.click_scopes.specs.declared.analysis.ScopeFault.TheVariants as scope_fault
 use Rattle.click_scopes.specs.declared.scope_elements.Local.{Local as LocalKept}
-use Rattle.click_expand.specs.declared.instances.Place.{Place}
-use Rattle.click_expand.specs.declared.instances.Instance.{Instance as InstanceKept}
+use Rattle.click_expand.specs.declared.instances.tree.Place.{Place}
+use Rattle.click_expand.specs.declared.instances.tree.Instance.{Instance as InstanceKept}
 use Rattle.click_expand.specs.declared.flattening.Refusal.{Refusal}
 use Rattle.click_expand.specs.declared.flattening.Refusal.TheVariants as refused
 

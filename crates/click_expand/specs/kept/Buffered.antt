@@ -7,13 +7,13 @@ use Rattle.click_text.specs.Spans.{bytes_at}
 use Rattle.click_expand.specs.Instances.{Leaf}
 use Rattle.click_expand.specs.kept.KnownInstances.{KnownInstance, AreInstances}
 use Rattle.click_expand.specs.kept.ParameterValues.{IsRead, IsOwn}
-use Rattle.click_expand.specs.declared.instances.Place.{Place}
-use Rattle.click_expand.specs.declared.instances.Instance.{Instance as InstanceKept}
-use Rattle.click_expand.specs.declared.parameter_values.Argument.{Argument}
-use Rattle.click_expand.specs.declared.parameter_values.UnreadText.{UnreadText}
-use Rattle.click_expand.specs.declared.texts.TextStep.{TextStep}
-use Rattle.click_expand.specs.declared.texts.TextStep.TheVariants as step
-use Rattle.click_expand.specs.declared.text_buffer.TextBuffer.{TextBuffer}
+use Rattle.click_expand.specs.declared.instances.tree.Place.{Place}
+use Rattle.click_expand.specs.declared.instances.tree.Instance.{Instance as InstanceKept}
+use Rattle.click_expand.specs.declared.texts.parameter_values.Argument.{Argument}
+use Rattle.click_expand.specs.declared.texts.parameter_values.UnreadText.{UnreadText}
+use Rattle.click_expand.specs.declared.texts.writing.TextStep.{TextStep}
+use Rattle.click_expand.specs.declared.texts.writing.TextStep.TheVariants as step
+use Rattle.click_expand.specs.declared.texts.text_buffer.TextBuffer.{TextBuffer}
 
 abbrev pub same_argument : Argument → Argument → Bool
 same_argument a b = nat_eq a.within b.within && nat_eq a.place b.place

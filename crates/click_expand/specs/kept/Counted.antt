@@ -4,7 +4,7 @@ use Rattle.click_expand.specs.Flat.{most_elements, most_paths}
 use Rattle.click_scopes.specs.declared.classes.ClassOf.{ClassOf}
 use Rattle.click_scopes.specs.declared.classes.ClassOf.TheVariants as class
 use Rattle.click_scopes.specs.declared.scope_elements.Local.{Local}
-use Rattle.click_expand.specs.declared.sizes.Size.{Size}
+use Rattle.click_expand.specs.declared.instances.sizes.Size.{Size}
 
 -- the size of a scope that may not be there
 abbrev pub size_or : Option Size → Size

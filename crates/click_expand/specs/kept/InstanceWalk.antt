@@ -5,13 +5,13 @@ use Rattle.click_scopes.specs.declared.classes.ClassOf.{ClassOf}
 use Rattle.click_scopes.specs.declared.classes.ClassOf.TheVariants as class
 use Rattle.click_scopes.specs.declared.scope_elements.Local.{Local}
 use Rattle.click_scopes.specs.declared.scopes.Scope.{Scope}
-use Rattle.click_expand.specs.declared.instances.InstancePart.{InstancePart}
-use Rattle.click_expand.specs.declared.instances.InstancePart.TheVariants as part
-use Rattle.click_expand.specs.declared.instances.Place.{Place}
-use Rattle.click_expand.specs.declared.instances.Instance.{Instance}
-use Rattle.click_expand.specs.declared.instances.NextElement.{NextElement}
-use Rattle.click_expand.specs.declared.instances.NextElement.TheVariants as next
-use Rattle.click_expand.specs.declared.instances.Walk.{Walk}
+use Rattle.click_expand.specs.declared.instances.tree.InstancePart.{InstancePart}
+use Rattle.click_expand.specs.declared.instances.tree.InstancePart.TheVariants as part
+use Rattle.click_expand.specs.declared.instances.tree.Place.{Place}
+use Rattle.click_expand.specs.declared.instances.tree.Instance.{Instance}
+use Rattle.click_expand.specs.declared.instances.tree.NextElement.{NextElement}
+use Rattle.click_expand.specs.declared.instances.tree.NextElement.TheVariants as next
+use Rattle.click_expand.specs.declared.instances.tree.Walk.{Walk}
 
 -- what stands next among the elements of a scope
 abbrev pub next_class : Option ClassOf → NextElement

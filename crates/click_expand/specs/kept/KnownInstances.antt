@@ -11,10 +11,10 @@ use Rattle.click_scopes.specs.Faults.{scope_locals, first_token}
 use Rattle.click_expand.specs.Parameters.{Bindings, value_in, IsReplaced}
 use Rattle.click_expand.specs.Instances.{Leaf, AreValues, LeadsTo}
 use Rattle.click_scopes.specs.kept.Scoped.{table_place}
-use Rattle.click_expand.specs.declared.instances.InstancePart.{InstancePart}
-use Rattle.click_expand.specs.declared.instances.InstancePart.TheVariants as part
-use Rattle.click_expand.specs.declared.instances.Place.{Place}
-use Rattle.click_expand.specs.declared.instances.Instance.{Instance as InstanceKept}
+use Rattle.click_expand.specs.declared.instances.tree.InstancePart.{InstancePart}
+use Rattle.click_expand.specs.declared.instances.tree.InstancePart.TheVariants as part
+use Rattle.click_expand.specs.declared.instances.tree.Place.{Place}
+use Rattle.click_expand.specs.declared.instances.tree.Instance.{Instance as InstanceKept}
 
 -- An instance of a scope in the words of the definitions: its scope, what is visible before it and the scopes around it, the local names on the way to it,
 -- and the arguments of the bodies on the way.

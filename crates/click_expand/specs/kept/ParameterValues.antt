@@ -7,9 +7,9 @@ use Rattle.click_scopes.specs.Elements.{string_or_empty}
 use Rattle.click_expand.specs.Parameters.{Bindings, IsReplaced}
 use Rattle.click_expand.specs.kept.KnownInstances.{KnownInstance}
 use Rattle.click_scopes.specs.declared.scope_elements.Local.{Local as LocalKept}
-use Rattle.click_expand.specs.declared.parameter_values.UnreadText.{UnreadText}
-use Rattle.click_expand.specs.declared.parameter_values.Argument.{Argument}
-use Rattle.click_expand.specs.declared.parameter_values.ParameterValue.{ParameterValue}
+use Rattle.click_expand.specs.declared.texts.parameter_values.UnreadText.{UnreadText}
+use Rattle.click_expand.specs.declared.texts.parameter_values.Argument.{Argument}
+use Rattle.click_expand.specs.declared.texts.parameter_values.ParameterValue.{ParameterValue}
 
 -- where the arguments of an element stand: nowhere, where there is none
 abbrev pub spans_by : Option (List Span) → List Span

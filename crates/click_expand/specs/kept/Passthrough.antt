@@ -6,13 +6,13 @@ use Rattle.click_scopes.specs.declared.classes.ClassOf.{ClassOf}
 use Rattle.click_scopes.specs.declared.classes.ClassOf.TheVariants as class
 use Rattle.click_scopes.specs.declared.scope_elements.Local.{Local as LocalKept}
 use Rattle.click_scopes.specs.declared.written_connections.Owner.TheVariants as owner
-use Rattle.click_expand.specs.declared.connection_index.ScopePort.{ScopePort}
-use Rattle.click_expand.specs.declared.connection_index.ConnectionIndex.{ConnectionIndex}
-use Rattle.click_expand.specs.declared.instances.InstancePart.TheVariants as part
-use Rattle.click_expand.specs.declared.instances.Place.{Place}
-use Rattle.click_expand.specs.declared.instances.Instance.{Instance}
-use Rattle.click_expand.specs.declared.passthrough.Shortcut.{Shortcut}
-use Rattle.click_expand.specs.declared.passthrough.ScopeShortcuts.{ScopeShortcuts}
+use Rattle.click_expand.specs.declared.connections.connection_index.ScopePort.{ScopePort}
+use Rattle.click_expand.specs.declared.connections.connection_index.ConnectionIndex.{ConnectionIndex}
+use Rattle.click_expand.specs.declared.instances.tree.InstancePart.TheVariants as part
+use Rattle.click_expand.specs.declared.instances.tree.Place.{Place}
+use Rattle.click_expand.specs.declared.instances.tree.Instance.{Instance}
+use Rattle.click_expand.specs.declared.connections.passthrough.Shortcut.{Shortcut}
+use Rattle.click_expand.specs.declared.connections.passthrough.ScopeShortcuts.{ScopeShortcuts}
 use Rattle.click_expand.specs.kept.Wiring.{scope_port, same_port, ends_in, Gains, HasAll}
 
 -- the body that a class stands for

@@ -3,7 +3,7 @@ use Rattle.std.specs.Prelude.{◌≡◌, ℕ, ◌+◌, List, length, min}
 use Rattle.click_text.specs.declared.syntax.Config.{Config}
 use Rattle.click_expand.specs.Instances.{Leaf, LeavesOf}
 use Rattle.click_expand.specs.Flat.{most_elements, most_paths}
-use Rattle.click_expand.specs.declared.sizes.Size.{Size}
+use Rattle.click_expand.specs.declared.instances.sizes.Size.{Size}
 
 -- the numbers of leaves and of paths, or one more than the limit of each
 pub record IsSize (leaves : List Leaf) (paths : ℕ) (size : Size) : Type 0 where

@@ -4,8 +4,8 @@ use Rattle.click_text.specs.declared.syntax.Config.{Config}
 use Rattle.click_expand.specs.Parameters.{IsReplaced}
 use Rattle.click_expand.specs.kept.KnownInstances.{KnownInstance}
 use Rattle.click_expand.specs.kept.ParameterValues.{IsRead, IsOwn}
-use Rattle.click_expand.specs.declared.texts.TextPart.{TextPart}
-use Rattle.click_expand.specs.declared.texts.TextPart.TheVariants as part
+use Rattle.click_expand.specs.declared.texts.writing.TextPart.{TextPart}
+use Rattle.click_expand.specs.declared.texts.writing.TextPart.TheVariants as part
 
 -- the same for plain bytes
 abbrev pub IsReadAt : Config → List KnownInstance → ℕ → List ℕ → List ℕ → Type 0

@@ -4,7 +4,7 @@ use Rattle.std.specs.List.{prefix_len}
 use Rattle.click_text.specs.Pieces.{name_byte}
 use Rattle.click_text.specs.Spans.{bytes_at}
 use Rattle.click_expand.specs.Parameters.{Formal}
-use Rattle.click_expand.specs.declared.parameters.Parameter.{Parameter}
+use Rattle.click_expand.specs.declared.texts.parameters.Parameter.{Parameter}
 
 -- a parameter that begins the text
 abbrev pub formal_of : List ℕ → Parameter → Formal

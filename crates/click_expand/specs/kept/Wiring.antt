@@ -5,16 +5,16 @@ use Rattle.std.specs.Map.{lookup}
 use Rattle.click_scopes.specs.declared.written_connections.Owner.{Owner}
 use Rattle.click_scopes.specs.declared.written_connections.Owner.TheVariants as owner
 use Rattle.click_scopes.specs.declared.written_connections.WrittenConnection.{WrittenConnection}
-use Rattle.click_expand.specs.declared.instances.InstancePart.{InstancePart}
-use Rattle.click_expand.specs.declared.instances.InstancePart.TheVariants as part
-use Rattle.click_expand.specs.declared.instances.Place.{Place}
-use Rattle.click_expand.specs.declared.instances.Instance.{Instance}
-use Rattle.click_expand.specs.declared.connection_index.ScopePort.{ScopePort}
-use Rattle.click_expand.specs.declared.connection_index.InstancePort.{InstancePort}
-use Rattle.click_expand.specs.declared.connection_index.FlatInput.{FlatInput}
-use Rattle.click_expand.specs.declared.connection_index.Reached.{Reached}
-use Rattle.click_expand.specs.declared.connection_index.Reached.TheVariants as next
-use Rattle.click_expand.specs.declared.connection_index.ConnectionIndex.{ConnectionIndex}
+use Rattle.click_expand.specs.declared.instances.tree.InstancePart.{InstancePart}
+use Rattle.click_expand.specs.declared.instances.tree.InstancePart.TheVariants as part
+use Rattle.click_expand.specs.declared.instances.tree.Place.{Place}
+use Rattle.click_expand.specs.declared.instances.tree.Instance.{Instance}
+use Rattle.click_expand.specs.declared.connections.connection_index.ScopePort.{ScopePort}
+use Rattle.click_expand.specs.declared.connections.connection_index.InstancePort.{InstancePort}
+use Rattle.click_expand.specs.declared.connections.connection_index.FlatInput.{FlatInput}
+use Rattle.click_expand.specs.declared.connections.connection_index.Reached.{Reached}
+use Rattle.click_expand.specs.declared.connections.connection_index.Reached.TheVariants as next
+use Rattle.click_expand.specs.declared.connections.connection_index.ConnectionIndex.{ConnectionIndex}
 use Rattle.click_expand.specs.declared.flat.Connection.{Connection}
 
 abbrev pub scope_port : Owner → ℕ → ScopePort

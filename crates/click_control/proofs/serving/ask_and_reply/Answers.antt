@@ -8,13 +8,13 @@ use Rattle.click_control.proofs.serving.ask_and_reply.Goals as goal
 pub returns-in-Ok : goal.returns-in-Ok
 returns-in-Ok g c =
     let told = answer.Replied c.in-Ok.answer in
-    let asked = subst (λ (k : Option Call). Answered g.P.Port.asks c.args.port.now k told c.ask-asked.new.self) (sym c.in-Some.is)
-    (c.ask-asked.result, c.ask-asked.ensures, sym (ap answer_of c.in-Ok.is)) in
+    let asked = subst (λ (k : Option Call). Answered g.P.Port.asks c.args.port.now k told c.record-recorded.new.self) (sym c.in-Some.is)
+    (c.record-recorded.result, c.record-recorded.ensures, sym (ap answer_of c.in-Ok.is)) in
     (told, asked, c.reply-in-Ok.ensures (text_of c.args.command.now told) c.replied_text.ensures)
 
 pub returns : goal.returns
 returns g c =
     let told = answer.Failed c.in-Err.fault in
-    let asked = subst (λ (k : Option Call). Answered g.P.Port.asks c.args.port.now k told c.ask-asked.new.self) (sym c.in-Some.is)
-    (c.ask-asked.result, c.ask-asked.ensures, sym (ap answer_of c.in-Err.is)) in
+    let asked = subst (λ (k : Option Call). Answered g.P.Port.asks c.args.port.now k told c.record-recorded.new.self) (sym c.in-Some.is)
+    (c.record-recorded.result, c.record-recorded.ensures, sym (ap answer_of c.in-Err.is)) in
     (told, asked, c.reply-in-Err.ensures (text_of c.args.command.now told) c.unreplied_text.ensures)

@@ -1,7 +1,7 @@
 use Rattle.std.proofs.Common.{sym, subst}
 use Rattle.click_scopes.specs.kept.ScopeElements.{AreAllLocals}
 use Rattle.click_expand.specs.Flat.{much_text}
-use Rattle.click_expand.proofs.Ways.{match-none, match-some, more-connections, joined-up}
+use Rattle.click_expand.proofs.OfAnswers.Ways.{match-none, match-some, more-connections, joined-up}
 use Rattle.click_expand.proofs.flattening.expanded.Goals as goal
 
 pub elements_of-requires-clause-locals : goal.elements_of-requires-clause-locals

@@ -1,7 +1,7 @@
 use Rattle.std.proofs.Common.{ap, ◌∙◌, ◌++◌}
 use Rattle.click_expand.specs.FlatText.{name_or_empty, name_at_place}
-use Rattle.click_expand.proofs.Ways.{match-none, match-some}
-use Rattle.click_expand.proofs.Tokens.{repeated-in, broken-in, nothing-in}
+use Rattle.click_expand.proofs.OfAnswers.Ways.{match-none, match-some}
+use Rattle.click_expand.proofs.OfAnswers.Tokens.{repeated-in, broken-in, nothing-in}
 use Rattle.click_expand.proofs.flattening.refused_of.Goals as goal
 
 pub returns-in-Some : goal.returns-in-Some

@@ -1,7 +1,7 @@
 use Rattle.std.proofs.Common.{inl, inr, sym, subst, ◌∙◌}
 use Rattle.click_scopes.specs.kept.ScopeElements.{AreAllLocals}
 use Rattle.click_expand.specs.kept.Answered.{IsExpanded, IsExpandedOr, IsRefusedOf}
-use Rattle.click_expand.proofs.Answering.{too-many-elements, too-many-paths, counted, too-many, answered, refused-by}
+use Rattle.click_expand.proofs.OfAnswers.Answering.{too-many-elements, too-many-paths, counted, too-many, answered, refused-by}
 use Rattle.click_expand.proofs.flattening.sound_flat.Goals as goal
 
 pub size_of-requires-clause-locals : goal.size_of-requires-clause-locals

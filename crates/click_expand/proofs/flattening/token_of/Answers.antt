@@ -1,7 +1,7 @@
 use Rattle.std.proofs.Common.{sym, ap, ◌∙◌}
 use Rattle.std.proofs.lemmas.Option.{same_Some, none-some}
 use Rattle.click_scopes.specs.kept.FirstFault.{first_in}
-use Rattle.click_expand.proofs.Tokens.{leaf-head, same-first}
+use Rattle.click_expand.proofs.OfAnswers.Tokens.{leaf-head, same-first}
 use Rattle.click_expand.proofs.flattening.token_of.Goals as goal
 
 pub returns-in-Some : goal.returns-in-Some

@@ -1,4 +1,4 @@
-use Rattle.click_expand.proofs.OwnElements.{ordered-at}
+use Rattle.click_expand.proofs.OfLaws.OwnElements.{ordered-at}
 use Rattle.click_expand.proofs.laws.connections_are_ordered.Goals as goal
 
 pub returns : goal.returns

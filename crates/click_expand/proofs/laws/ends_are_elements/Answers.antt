@@ -1,4 +1,4 @@
-use Rattle.click_expand.proofs.OwnElements.{ends-within}
+use Rattle.click_expand.proofs.OfLaws.OwnElements.{ends-within}
 use Rattle.click_expand.proofs.laws.ends_are_elements.Goals as goal
 
 pub returns : goal.returns

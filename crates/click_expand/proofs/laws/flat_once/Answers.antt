@@ -1,6 +1,6 @@
 use Rattle.click_scopes.proofs.Nesting.{spelled-nested}
-use Rattle.click_expand.proofs.FlatOnce.{flat-once, flat-no-fault}
-use Rattle.click_expand.proofs.FaultOnce.{spelled-fault-once}
+use Rattle.click_expand.proofs.Once.FlatOnce.{flat-once, flat-no-fault}
+use Rattle.click_expand.proofs.Once.FaultOnce.{spelled-fault-once}
 use Rattle.click_expand.proofs.laws.flat_once.Goals as goal
 
 pub returns-clause-flat : goal.returns-clause-flat

@@ -1,5 +1,5 @@
-use Rattle.click_expand.proofs.OwnElements.{own-elements}
-use Rattle.click_expand.proofs.WrittenConnections.{written-of, all-written}
+use Rattle.click_expand.proofs.OfLaws.OwnElements.{own-elements}
+use Rattle.click_expand.proofs.OfLaws.WrittenConnections.{written-of, all-written}
 use Rattle.click_expand.proofs.laws.flat_without_compounds.Goals as goal
 
 pub returns-clause-elements : goal.returns-clause-elements

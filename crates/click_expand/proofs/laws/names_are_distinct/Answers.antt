@@ -1,4 +1,4 @@
-use Rattle.click_expand.proofs.OwnElements.{distinct-names}
+use Rattle.click_expand.proofs.OfLaws.OwnElements.{distinct-names}
 use Rattle.click_expand.proofs.laws.names_are_distinct.Goals as goal
 
 pub returns : goal.returns

@@ -1,8 +1,8 @@
-use Rattle.std.proofs.Common.{arith, [], ◌≡◌, List, suc, sym, subst, refl, ap, ◌∙◌, vec_len}
+use Rattle.std.proofs.Common.{arith, ◌≡◌, List, suc, sym, subst, refl, ap, ◌∙◌, vec_len}
 use Rattle.std.specs.List.{All}
 use Rattle.std.proofs.lemmas.List.Elements.{All-push}
 use Rattle.click_desk.specs.Sittings.{Sitting, new_seat}
-use Rattle.click_workers.proofs.Workings.{ended-many, drivers-many, worked-driver, worked-session, worked-as, attended-by, driven-by}
+use Rattle.click_workers.proofs.Workings.{front-and-last, ended-many, drivers-many, worked-driver, worked-session, worked-as, attended-by, driven-by}
 use Rattle.click_workers.specs.Seats.{IsOf}
 use Rattle.click_workers.specs.Work.{AttendedInTurn, DroveFor}
 use Rattle.click_workers.proofs.work.+fn-work_all-join+arg3+fn-work_all-join+arg3+2+work_all.Goals as goal
@@ -26,11 +26,12 @@ push_reserved-requires-else-who-sessions-2 g t c =
     omega (arith, many, c.join-seat.result.1.ended.ok.0, rest.3, c.last_of-last.ensures.room.1, c.requires.ready.room_ended, is.1, c.if-who-sessions.false, c.len-who.ensures)
 
 pub returns-then-who-sessions-clause-desk : goal.returns-then-who-sessions-clause-desk
-returns-then-who-sessions-clause-desk g t c =
+returns-then-who-sessions-clause-desk g t c = λ feeds all.
     let is = rw c.in-Some.is at c.last_of-last.ensures.some in
-    subst (λ (l : List Sitting). All (IsOf c.args.desk.now) l) (sym c.push_reserved.ensures.items)
-    (All-push (IsOf c.args.desk.now) c.join-all.result.1.seats.items c.join-all.result.0.1 c.join-all.ensures.second.0
-    (c.join-all.ensures.first.0.0 ∙ ap (λ (s : Sitting). s.desk) is.0, c.join-all.ensures.first.0.2 ∙ ap (λ (s : Sitting). s.feeds) is.0))
+    let parts = front-and-last (IsOf c.args.desk.now feeds) _ c.in-Some.seat (subst (λ (l : List Sitting). All (IsOf c.args.desk.now feeds) l) is.2 all) in
+    subst (λ (l : List Sitting). All (IsOf c.args.desk.now feeds) l) (sym c.push_reserved.ensures.items)
+    (All-push (IsOf c.args.desk.now feeds) c.join-all.result.1.seats.items c.join-all.result.0.1 (c.join-all.ensures.second.0 feeds parts.0)
+    (c.join-all.ensures.first.0.0 ∙ parts.1.0, c.join-all.ensures.first.0.2 ∙ parts.1.1))
 
 pub returns-then-who-sessions-clause-worked : goal.returns-then-who-sessions-clause-worked
 returns-then-who-sessions-clause-worked g t c =
@@ -48,11 +49,12 @@ returns-then-who-sessions-clause-worked g t c =
     (omega (arith, c.len-who.ensures, number)) c.join-all.ensures.first.1))
 
 pub returns-else-who-sessions-clause-desk : goal.returns-else-who-sessions-clause-desk
-returns-else-who-sessions-clause-desk g t c =
+returns-else-who-sessions-clause-desk g t c = λ feeds all.
     let is = rw c.in-Some.is at c.last_of-last.ensures.some in
-    subst (λ (l : List Sitting). All (IsOf c.args.desk.now) l) (sym c.push_reserved-else-who-sessions.ensures.items)
-    (All-push (IsOf c.args.desk.now) c.join-seat.result.1.seats.items c.join-seat.result.0.1 c.join-seat.ensures.second.0
-    (c.join-seat.ensures.first.0.0 ∙ ap (λ (s : Sitting). s.desk) is.0, c.join-seat.ensures.first.0.2 ∙ ap (λ (s : Sitting). s.feeds) is.0))
+    let parts = front-and-last (IsOf c.args.desk.now feeds) _ c.in-Some.seat (subst (λ (l : List Sitting). All (IsOf c.args.desk.now feeds) l) is.2 all) in
+    subst (λ (l : List Sitting). All (IsOf c.args.desk.now feeds) l) (sym c.push_reserved-else-who-sessions.ensures.items)
+    (All-push (IsOf c.args.desk.now feeds) c.join-seat.result.1.seats.items c.join-seat.result.0.1 (c.join-seat.ensures.second.0 feeds parts.0)
+    (c.join-seat.ensures.first.0.0 ∙ parts.1.0, c.join-seat.ensures.first.0.2 ∙ parts.1.1))
 
 pub returns-else-who-sessions-clause-worked : goal.returns-else-who-sessions-clause-worked
 returns-else-who-sessions-clause-worked g t c =
@@ -64,7 +66,9 @@ returns-else-who-sessions-clause-worked g t c =
     let desk = c.join-seat.ensures.first.0.0 ∙ ap (λ (s : Sitting). s.desk) is.0 in
     let number = c.join-seat.ensures.first.0.1 ∙ ap (λ (s : Sitting). s.number) is.0 in
     let next : vec_len c.args.work.seats ≡ suc m = omega (arith, is.1) in
-    let fresh : c.in-Some.seat ≡ new_seat s.desk [] s.number = is.0 ∙ ap (λ d. new_seat d [] m) (sym desk) ∙ ap (λ k. new_seat s.desk [] k) (sym number) in
+    let feeds : s.feeds ≡ c.in-Some.seat.feeds = c.join-seat.ensures.first.0.2 in
+    let fresh : c.in-Some.seat ≡ new_seat s.desk s.feeds s.number =
+    is.0 ∙ ap (λ d. new_seat d c.in-Some.seat.feeds m) (sym desk) ∙ ap (λ f. new_seat s.desk f m) (sym feeds) ∙ ap (λ k. new_seat s.desk s.feeds k) (sym number) in
     worked-as attends drives c.args.sessions _ _ _ _ _ _ _ _
     next c.push_reserved-else-who-sessions.ensures.items c.push_reserved-else-who-sessions-2.ensures.items refl
     (worked-session attends drives c.args.sessions m _ _ _ s c.join-seat.result.0.0

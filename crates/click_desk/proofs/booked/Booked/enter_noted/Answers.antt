@@ -1,9 +1,9 @@
-use Rattle.std.proofs.Common.{◌≡◌, ◌++◌, ◌∷◌, [], true, is_some, List, map, ◌∙◌, ap, subst, sym}
+use Rattle.std.proofs.Common.{◌≡◌, ◌++◌, ◌∷◌, [], true, is_some, List, map, ◌∙◌, subst, sym}
 use Rattle.click_rings.specs.Feeds.{name_of, are_apart}
 use Rattle.click_router.specs.One.{Answers}
 use Rattle.click_desk.specs.declared.booked.Ledger.{Ledger}
 use Rattle.click_desk.specs.declared.entry.Entry.{Entry}
-use Rattle.click_desk.specs.History.{entry, Legal, installs, installed}
+use Rattle.click_desk.specs.History.{entry, Legal, installs}
 use Rattle.click_desk.specs.Polls.{IsPolled}
 use Rattle.click_desk.proofs.Histories.{legal_more}
 use Rattle.click_desk.proofs.Published.{published_more}

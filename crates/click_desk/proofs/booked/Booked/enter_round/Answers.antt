@@ -16,12 +16,12 @@ returns-clause-legal g c =
     let ledger : Ledger = c.deref_mut-ledger.result.now in
     let router = c.self.inside.router in
     let e : Entry = entry c.args.number call.Round c.worked.result in
-    let is : Answers router call.Round c.round-worked.new.self c.worked.result =
-    subst (λ r. Answers router call.Round c.round-worked.new.self r) (sym c.worked.ensures) c.round-worked.ensures in
+    let is : Answers router call.Round c.round-worked-2.new.self c.worked.result =
+    subst (λ r. Answers router call.Round c.round-worked-2.new.self r) (sym c.worked.ensures) c.round-worked-2.ensures in
     let items : c.add.new.self.items ≡ ledger.entries.items ++ e ∷ [] = c.add.ensures.items ∙ ap (λ l. l ++ e ∷ []) c.reserve.ensures.same.1 in
     let held : Legal ledger.terms.opening ledger.entries.items router =
     subst (λ (l : Ledger). Legal l.terms.opening l.entries.items router) (sym c.deref_mut-ledger.ensures.value) c.self.invariant.0 in
-    subst (λ (l : List Entry). Legal ledger.terms.opening l c.round-worked.new.self) (sym items) (legal_more ledger.terms.opening ledger.entries.items router e c.round-worked.new.self held is)
+    subst (λ (l : List Entry). Legal ledger.terms.opening l c.round-worked-2.new.self) (sym items) (legal_more ledger.terms.opening ledger.entries.items router e c.round-worked-2.new.self held is)
 
 pub returns-clause-polled : goal.returns-clause-polled
 returns-clause-polled g c =
@@ -50,11 +50,11 @@ returns-then-not-keeps-clause-legal g c =
     let ledger : Ledger = c.deref_mut-ledger.result.now in
     let router = c.self.inside.router in
     let e : Entry = entry c.args.number call.Round c.worked-reply.result in
-    let is : Answers router call.Round c.round.new.self c.worked-reply.result =
-    subst (λ r. Answers router call.Round c.round.new.self r) (sym c.worked-reply.ensures) c.round.ensures in
+    let is : Answers router call.Round c.round-worked.new.self c.worked-reply.result =
+    subst (λ r. Answers router call.Round c.round-worked.new.self r) (sym c.worked-reply.ensures) c.round-worked.ensures in
     let held : Legal ledger.terms.opening ledger.entries.items router =
     subst (λ (l : Ledger). Legal l.terms.opening l.entries.items router) (sym c.deref_mut-ledger.ensures.value) c.self.invariant.0 in
-    subst (λ (l : List Entry). Legal ledger.terms.opening l c.round.new.self) (sym c.note.ensures.entries) (legal_more ledger.terms.opening ledger.entries.items router e c.round.new.self held is)
+    subst (λ (l : List Entry). Legal ledger.terms.opening l c.round-worked.new.self) (sym c.note.ensures.entries) (legal_more ledger.terms.opening ledger.entries.items router e c.round-worked.new.self held is)
 
 pub returns-then-not-keeps-clause-polled : goal.returns-then-not-keeps-clause-polled
 returns-then-not-keeps-clause-polled g c =

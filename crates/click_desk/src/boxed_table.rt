@@ -1,0 +1,25 @@
+//! A table of handlers in a box.
+
+ghost use Rattle.std.specs.Prelude.{◌≡◌};
+
+use click_packet::PacketRoom;
+use click_router::{Call, Handlers, Recorded, Running, StepFault};
+use std::alloc::Global;
+
+/// A table of handlers in a box. Each call at a desk moves the desk's table out of the queue and back, which costs less where that is small.
+#[derive(Drop)]
+pub struct BoxedTable<T> {
+    pub table: Box<T>,
+}
+
+impl<T: Handlers> Handlers for BoxedTable<T> {
+    fn record(
+        &self,
+        running: &mut Running,
+        alloc: Global,
+        call: &Call,
+        room: Option<PacketRoom>,
+    ) -> Result<Recorded, StepFault> {
+        self.table.record(running, alloc, call, room)
+    }
+}

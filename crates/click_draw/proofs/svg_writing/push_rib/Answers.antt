@@ -1,0 +1,14 @@
+use Rattle.std.proofs.Common.{append_assoc}
+use Rattle.click_draw.specs.Svg.{rib}
+use Rattle.click_draw.proofs.svg_writing.push_rib.Goals as goal
+
+pub returns : goal.returns
+unfolding rib
+returns c =
+    rw (
+      c.in_ok-extend_from_slice-3.ensures.items,
+      c.in_ok-push_number.ensures,
+      c.in_ok-extend_from_slice-2.ensures.items,
+      c.in_ok-push_pair.ensures,
+      c.in_ok-extend_from_slice.ensures.items,
+    ) (simp append_assoc)

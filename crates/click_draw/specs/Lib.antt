@@ -1,0 +1,4 @@
+pub mod Measures
+pub mod Picture
+pub mod Svg
+pub mod kept

@@ -1,0 +1,238 @@
+//! Room for what stands together: the elements of a compound, and the bends of a line.
+
+use crate::measures::BESIDE;
+use crate::order::{Mean, add_to, mean_of};
+use crate::ways::Node;
+use std::alloc::{AllocError, Global};
+
+/// What a compound keeps free at its sides.
+const ASIDE: u64 = 14;
+
+/// What is taken together to a block: an element, or the bends of a line; those of a compound within another; those of a compound; all.
+#[derive(Clone, Copy, Debug, PartialEq, Eq)]
+pub enum Level {
+    Chain,
+    Inner,
+    Outer,
+    All,
+}
+
+impl Node {
+    /// The name of the node's block: its first node.
+    pub fn name(&self, level: Level) -> usize {
+        match level {
+            Level::Inner if self.home.inner < usize::MAX => self.home.inner,
+            Level::Outer if self.home.outer < usize::MAX => self.home.outer,
+            Level::All => 0,
+            _ => self.chain,
+        }
+    }
+}
+
+/// The middle between two places.
+pub fn midway(a: u64, b: u64) -> u64 {
+    a / 2 + b / 2 + (a % 2).min(b % 2)
+}
+
+/// Nodes that stand together: their sides, and their rows from the first to the last; and the block of a higher level in which they are.
+#[derive(Clone, Copy, Debug, PartialEq, Eq)]
+pub struct Block {
+    pub left: u64,
+    pub right: u64,
+    pub first: usize,
+    pub last: usize,
+    whole: usize,
+}
+
+impl Block {
+    /// How far its middle is from the left.
+    fn middle(self) -> u64 {
+        midway(self.left, self.right)
+    }
+
+    /// The block with the node in it.
+    fn with(self, node: &Node, left: u64, aside: u64) -> Block {
+        let right = left.saturating_add(node.width).saturating_add(aside);
+        Block {
+            left: self.left.min(left.saturating_sub(aside)),
+            right: self.right.max(right),
+            first: self.first.min(node.row),
+            last: self.last.max(node.row),
+            whole: self.whole,
+        }
+    }
+}
+
+/// The blocks, each under its name.
+pub fn blocks_of(
+    alloc: Global,
+    nodes: &[Node],
+    lefts: &[u64],
+    unit: Level,
+    whole: Level,
+) -> Result<Vec<Option<Block>>, AllocError> {
+    let mut blocks = vec![in alloc; None; nodes.len()]?;
+    for (node, left) in nodes.iter().zip(lefts) {
+        if let Some(place) = blocks.get_mut(node.name(unit)) {
+            let none = Block {
+                left: u64::MAX,
+                right: 0,
+                first: node.row,
+                last: node.row,
+                whole: node.name(whole),
+            };
+            let aside = if node.name(unit) == node.chain {
+                0
+            } else {
+                ASIDE
+            };
+            *place = Some(place.unwrap_or(none).with(node, *left, aside));
+        }
+    }
+    Ok(blocks)
+}
+
+/// Where each block stands in the mean.
+fn means_of(
+    alloc: Global,
+    nodes: &[Node],
+    lefts: &[u64],
+    unit: Level,
+) -> Result<Vec<Mean>, AllocError> {
+    let mut means = vec![in alloc; Mean::none(); nodes.len()]?;
+    for (node, left) in nodes.iter().zip(lefts) {
+        add_to(means.as_mut_slice(), node.name(unit), *left);
+    }
+    Ok(means)
+}
+
+/// Sets the nodes of each block to one another as they were, in the mean of where they stand.
+pub fn fit(
+    alloc: Global,
+    nodes: &[Node],
+    old: &[u64],
+    lefts: &mut [u64],
+    unit: Level,
+) -> Result<(), AllocError> {
+    let was = means_of(alloc, nodes, old, unit)?;
+    let is = means_of(alloc, nodes, lefts, unit)?;
+    for ((node, old), left) in nodes.iter().zip(old).zip(lefts.iter_mut()) {
+        let name = node.name(unit);
+        if let (Some(was), Some(is)) = (
+            mean_of(was.as_slice(), name),
+            mean_of(is.as_slice(), name),
+        ) {
+            *left = is.saturating_add(*old).saturating_sub(was);
+        }
+    }
+    Ok(())
+}
+
+/// The names of the blocks, by the greater ones that they are in, and there by how far from the left their middles are.
+fn names_in_order(
+    alloc: Global,
+    blocks: &[Option<Block>],
+) -> Result<Vec<(usize, u64, usize)>, AllocError> {
+    let mut names = Vec::new(alloc);
+    for (name, block) in blocks.iter().enumerate() {
+        if let Some(it) = block {
+            names.push((it.whole, it.middle(), name))?;
+        }
+    }
+    names.sort()?;
+    Ok(names)
+}
+
+/// How far a row is taken, in the block of that name.
+#[derive(Clone, Copy, Debug, PartialEq, Eq)]
+struct Taken {
+    whole: usize,
+    to: u64,
+}
+
+/// Moves the block to the right of all that is taken in its rows, and takes its own place.
+fn push_right(block: &mut Block, taken: &mut [Taken]) {
+    let mut left = block.left;
+    for row in block.first..=block.last {
+        if let Some(it) = taken.get(row)
+            && it.whole == block.whole
+        {
+            left = it.to.max(left);
+        }
+    }
+    block.right = left.saturating_add(block.right.saturating_sub(block.left));
+    block.left = left;
+    for row in block.first..=block.last {
+        if let Some(it) = taken.get_mut(row) {
+            *it = Taken {
+                whole: block.whole,
+                to: block.right.saturating_add(BESIDE),
+            };
+        }
+    }
+}
+
+/// Moves the block to the left of all that is taken in its rows, and takes its own place.
+fn push_left(block: &mut Block, taken: &mut [Taken]) {
+    let mut right = block.right;
+    for row in block.first..=block.last {
+        if let Some(it) = taken.get(row)
+            && it.whole == block.whole
+        {
+            right = it.to.min(right);
+        }
+    }
+    block.left = right.saturating_sub(block.right.saturating_sub(block.left));
+    block.right = right;
+    for row in block.first..=block.last {
+        if let Some(it) = taken.get_mut(row) {
+            *it = Taken {
+                whole: block.whole,
+                to: block.left.saturating_sub(BESIDE),
+            };
+        }
+    }
+}
+
+/// Moves the blocks within each greater one so that no two have a place of a row in common; two that hinder one another give way alike.
+pub fn part(
+    alloc: Global,
+    nodes: &[Node],
+    rows: usize,
+    lefts: &mut [u64],
+    unit: Level,
+    whole: Level,
+) -> Result<(), AllocError> {
+    let blocks = blocks_of(alloc, nodes, lefts, unit, whole)?;
+    let names = names_in_order(alloc, blocks.as_slice())?;
+    let none = Taken {
+        whole: usize::MAX,
+        to: 0,
+    };
+    let mut right = blocks.clone()?;
+    let mut taken = vec![in alloc; none; rows]?;
+    for (_, _, name) in &names {
+        if let Some(Some(block)) = right.get_mut(*name) {
+            push_right(block, taken.as_mut_slice());
+        }
+    }
+    let mut left = blocks.clone()?;
+    let mut taken = vec![in alloc; none; rows]?;
+    for (_, _, name) in names.iter().rev() {
+        if let Some(Some(block)) = left.get_mut(*name) {
+            push_left(block, taken.as_mut_slice());
+        }
+    }
+    for (node, place) in nodes.iter().zip(lefts.iter_mut()) {
+        let name = node.name(unit);
+        if let (Some(Some(was)), Some(Some(right)), Some(Some(left))) = (
+            blocks.get(name),
+            right.get(name),
+            left.get(name),
+        ) {
+            let moved = midway(right.left, left.left);
+            *place = place.saturating_add(moved).saturating_sub(was.left);
+        }
+    }
+    Ok(())
+}

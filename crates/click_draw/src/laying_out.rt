@@ -1,0 +1,182 @@
+//! The drawing of a net.
+
+ghost use Rattle.std.specs.Prelude.{◌≡◌, ℕ, ◌+◌, ◌<◌, ◌≤◌, length, slice_index, All, IfOk, OnOk};
+ghost use Rattle.click_draw.specs.Measures.{element_width};
+ghost use Rattle.click_draw.specs.Picture.{AreApart, EachAt, IsFigure, IsInside, IsLine, IsLineInside};
+ghost use Rattle.click_draw.specs.kept.Boxed.{IsBoxed};
+ghost use Rattle.click_draw.specs.kept.Placing.{AreSlots};
+
+use crate::compounds::homes_of;
+use crate::drawing::{Drawing, Figure, Rectangle};
+use crate::frames::frames_of;
+use crate::lines::{Size, lines_of};
+use crate::looks::{element_width, look_of};
+use crate::order::ordered_rows;
+use crate::placing::{Slot, place};
+use crate::rows::rows_of;
+use crate::ways::{BEND, MOST_BENDS, Way, ways_of};
+use crate::wishes::wishes_in;
+use click_ports::Net;
+use click_text::sequence::Sequence;
+use std::alloc::{AllocError, Global};
+
+/// How wide the boxes of the elements are.
+fn widths_of(alloc: Global, net: &Net) -> Result<Vec<u64>, AllocError>
+    ensures all { IfOk result (λ widths. length widths.items ≡ length net.now.shapes) }
+    ensures each { IfOk result (λ widths. EachAt (λ e w. w ≡ element_width net.now e) widths.items) }
+    ensures small { IfOk result (λ widths. All (λ w. w ≤ 32788) widths.items) }
+{
+    let mut widths = Vec::new(alloc);
+    for element in 0..net.shapes().len() {
+        widths.push(element_width(net, element))?;
+    }
+    Ok(widths)
+}
+
+/// Where a node would stand: its row, and how far from the left.
+#[derive(Clone, Copy, Debug, PartialEq, Eq)]
+struct Wish {
+    row: usize,
+    left: u64,
+}
+
+/// Where the nodes would stand, the elements first, and which of them are the bends of each connection.
+#[derive(Drop)]
+struct Plan {
+    wishes: Vec<Wish>,
+    ways: Vec<Way>,
+}
+
+/// A plan for the net, with boxes of those widths. It is for the eye: whatever it is, what is drawn by it is a drawing of the net.
+fn plan_of(alloc: Global, net: &Net, widths: &[u64]) -> Result<Plan, AllocError> {
+    let rows = rows_of(alloc, widths.len(), net.connections())?;
+    let homes = homes_of(alloc, net)?;
+    let ways = ways_of(alloc, net, widths, rows.as_slice(), homes.as_slice())?;
+    let nodes = ways.nodes.as_slice();
+    let lefts = wishes_in(alloc, nodes, ordered_rows(alloc, nodes)?.as_slice())?;
+    let mut wishes = Vec::new(alloc);
+    for (node, left) in nodes.iter().zip(lefts.iter()) {
+        wishes.push(Wish {
+            row: node.row,
+            left: *left,
+        })?;
+    }
+    let mut kept = Vec::new(alloc);
+    kept.extend_from_slice(ways.ways.as_slice())?;
+    Ok(Plan { wishes, ways: kept })
+}
+
+/// Adds the widths of so many bends.
+fn with_bends(widths: &mut Vec<u64>, count: usize) -> Result<(), AllocError>
+    requires few { count ≤ 65536 }
+    requires small { All (λ w. w ≤ 32788) widths.old.items }
+    ensures all { OnOk result (length widths.new.items ≡ length widths.old.items + count) }
+    ensures kept { OnOk result ((n : ℕ) → n < length widths.old.items → slice_index widths.new.items n ≡ slice_index widths.old.items n) }
+    ensures small { OnOk result (All (λ w. w ≤ 32788) widths.new.items) }
+{
+    for _bend in 0..count {
+        widths.push(BEND)?;
+    }
+    Ok(())
+}
+
+/// How many bends there are among so many nodes, of which those before them are elements.
+fn bend_count(nodes: usize, elements: usize) -> usize
+    ensures { result ≤ 65536 }
+{
+    nodes.saturating_sub(elements).min(MOST_BENDS)
+}
+
+/// The nodes in the order in which they are placed.
+fn slots_of(alloc: Global, count: usize, wishes: &[Wish]) -> Result<Vec<Slot>, AllocError>
+    ensures { IfOk result (λ slots. AreSlots count slots.items) }
+{
+    let none = Wish { row: 0, left: 0 };
+    let mut slots = Vec::new(alloc);
+    for node in 0..count {
+        let wish = wishes.get(node).copied().unwrap_or(none);
+        slots.push(Slot {
+            row: wish.row,
+            wish: wish.left,
+            node,
+        })?;
+    }
+    slots.sort()?;
+    Ok(slots)
+}
+
+/// The element in its box, which is that of its place.
+fn figure_of(
+    alloc: Global,
+    net: &Net,
+    element: usize,
+    boxes: &[Rectangle],
+) -> Result<Figure, AllocError>
+    requires there { element < length net.now.shapes }
+    requires boxed { element < length boxes.now }
+    ensures { IfOk result (IsBoxed net.now boxes.now element) }
+{
+    Ok(Figure {
+        look: look_of(alloc, net, element)?,
+        frame: boxes[element],
+    })
+}
+
+/// The elements in their boxes, which are the first of these.
+fn figures_of(alloc: Global, net: &Net, boxes: &[Rectangle]) -> Result<Vec<Figure>, AllocError>
+    requires { length net.now.shapes ≤ length boxes.now }
+    ensures all { IfOk result (λ figures. length figures.items ≡ length net.now.shapes) }
+    ensures each { IfOk result (λ figures. EachAt (IsBoxed net.now boxes.now) figures.items) }
+{
+    let mut figures = Vec::new(alloc);
+    for element in 0..net.shapes().len() {
+        figures.push(figure_of(alloc, net, element, boxes)?)?;
+    }
+    Ok(figures)
+}
+
+/// The picture of a net within the limits of a flat form.
+pub fn layout(alloc: Global, net: &Net) -> Result<Drawing, AllocError>
+    requires elements { length net.now.shapes ≤ 4096 }
+    // Each element has its figure, in flat order, in a box as large as it needs.
+    ensures figures { IfOk result (λ d. length d.figures ≡ length net.now.shapes) }
+    ensures each { IfOk result (λ d. EachAt (IsFigure net.now) d.figures) }
+    // No two boxes have a place in common.
+    ensures apart { IfOk result (λ d. AreApart d.figures) }
+    // Each connection has its line, in order, from its output to its input.
+    ensures lines { IfOk result (λ d. length d.lines ≡ length net.now.connections) }
+    ensures joined { IfOk result (λ d. EachAt (IsLine d.figures net.now.connections) d.lines) }
+    // All lies in the picture.
+    ensures inside { IfOk result (λ d. All (λ f. IsInside d.width d.height f.frame) d.figures) }
+    ensures lines_inside { IfOk result (λ d. All (IsLineInside d.width d.height) d.lines) }
+    ensures frames_inside { IfOk result (λ d. All (λ f. IsInside d.width d.height f.around) d.frames) }
+{
+    let mut widths = widths_of(alloc, net)?;
+    let Plan { wishes, ways } = plan_of(alloc, net, widths.as_slice())?;
+    let bends = bend_count(wishes.len(), widths.len());
+    with_bends(&mut widths, bends)?;
+    let slots = slots_of(alloc, widths.len(), wishes.as_slice())?;
+    let placed = place(alloc, widths.as_slice(), slots.as_slice())?;
+    let boxes = placed.boxes.as_slice();
+    let size = Size {
+        width: placed.width,
+        height: placed.height,
+    };
+    let figures = figures_of(alloc, net, boxes)?;
+    let lines = lines_of(
+        alloc,
+        net.connections(),
+        ways.as_slice(),
+        figures.as_slice(),
+        boxes,
+        size,
+    )?;
+    let frames = frames_of(alloc, figures.as_slice(), size)?;
+    Ok(Drawing {
+        width: size.width,
+        height: size.height,
+        figures: Sequence::of(figures),
+        lines,
+        frames,
+    })
+}

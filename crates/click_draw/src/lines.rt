@@ -1,0 +1,156 @@
+//! The lines of the connections.
+
+ghost use Rattle.std.specs.Prelude.{◌≡◌, ◌≤◌, ◌+◌, length, All, IfOk};
+ghost use Rattle.click_draw.specs.Picture.{EachAt, IsInside, IsLine, IsLineInside, IsPointInside, Joins, input_place, output_place};
+ghost use Rattle.click_draw.specs.kept.Joined.{AreJoined, IsFigureInside};
+
+use crate::drawing::{Figure, Line, Mark, Point, Rectangle};
+use crate::ways::Way;
+use click_expand::Connection;
+use click_text::sequence::Sequence;
+use std::alloc::{AllocError, Global};
+
+/// How far beyond its row a line that goes up is led.
+const AROUND: u64 = 16;
+
+/// Where the input with that mark is.
+fn input_place(figure: &Figure, mark: &Mark) -> Point
+    requires { figure.now.frame.left + mark.now.at ≤ 68719476736 }
+    ensures { result ≡ input_place figure.now mark.now }
+{
+    Point {
+        x: figure.frame.left + mark.at,
+        y: figure.frame.top,
+    }
+}
+
+/// Where the output with that mark is.
+fn output_place(figure: &Figure, mark: &Mark) -> Point
+    requires left { figure.now.frame.left + mark.now.at ≤ 68719476736 }
+    requires top { figure.now.frame.top + figure.now.frame.height ≤ 68719476736 }
+    ensures { result ≡ output_place figure.now mark.now }
+{
+    Point {
+        x: figure.frame.left + mark.at,
+        y: figure.frame.top + figure.frame.height,
+    }
+}
+
+/// The size of the picture.
+#[derive(Clone, Copy, Debug, PartialEq, Eq)]
+pub struct Size {
+    pub width: u64,
+    pub height: u64,
+}
+
+/// Where a line passes the row of its bend: where it enters it, and where it leaves it.
+fn passage(bend: &Rectangle, rises: bool, size: Size) -> (Point, Point)
+    requires small { size.height ≤ 68719476736 }
+    requires inside { IsInside size.width size.height bend.now }
+    ensures enters { IsPointInside size.width size.height result.0 }
+    ensures leaves { IsPointInside size.width size.height result.1 }
+{
+    let x = bend.left + bend.width / 2;
+    let around = if rises { AROUND } else { 0 };
+    let upper = Point {
+        x,
+        y: bend.top.saturating_sub(around),
+    };
+    let lower = Point {
+        x,
+        y: (bend.top + bend.height + around).min(size.height),
+    };
+    if rises {
+        (lower, upper)
+    } else {
+        (upper, lower)
+    }
+}
+
+/// The points of bends, in the direction of the line.
+fn points_of(
+    alloc: Global,
+    bends: &[Rectangle],
+    rises: bool,
+    size: Size,
+) -> Result<Sequence<Point>, AllocError>
+    requires small { size.height ≤ 68719476736 }
+    requires inside { All (IsInside size.width size.height) bends.now }
+    ensures { IfOk result (All (IsPointInside size.width size.height)) }
+{
+    let mut points = Sequence::new(alloc);
+    for bend in bends {
+        let (enters, leaves) = passage(bend, rises, size);
+        points.push(enters)?;
+        points.push(leaves)?;
+    }
+    Ok(points)
+}
+
+/// The boxes of a way's bends.
+fn bends_of<'a>(way: &Way, boxes: &'a [Rectangle], size: Size) -> &'a [Rectangle]
+    requires { All (IsInside size.width size.height) boxes.now }
+    ensures { All (IsInside size.width size.height) result.now }
+{
+    let rest = boxes.get(way.first..).unwrap_or(&[]);
+    rest.get(..way.bends).unwrap_or(&[])
+}
+
+/// The line of a connection between two of the figures.
+fn line_of(
+    number: usize,
+    connection: &Connection,
+    figures: &[Figure],
+    bends: Sequence<Point>,
+    size: Size,
+) -> Line
+    requires small { (size.width ≤ 68719476736) × (size.height ≤ 68719476736) }
+    requires joined { AreJoined figures.now connection.now }
+    requires bends { All (IsPointInside size.width size.height) bends }
+    requires inside { All (λ f. IsFigureInside size.width size.height f) figures.now }
+    ensures number { result.number ≡ number }
+    ensures joins { Joins figures.now connection.now result }
+    ensures inside { IsLineInside size.width size.height result }
+{
+    let from = &figures[connection.from];
+    let output = &from.look.outputs.as_slice()[usize::from(connection.out_port)];
+    let to = &figures[connection.to];
+    let input = &to.look.inputs.as_slice()[usize::from(connection.in_port)];
+    Line {
+        number,
+        from: output_place(from, output),
+        bends,
+        to: input_place(to, input),
+    }
+}
+
+/// The lines of the connections.
+pub fn lines_of(
+    alloc: Global,
+    connections: &[Connection],
+    ways: &[Way],
+    figures: &[Figure],
+    boxes: &[Rectangle],
+    size: Size,
+) -> Result<Sequence<Line>, AllocError>
+    requires small { (size.width ≤ 68719476736) × (size.height ≤ 68719476736) }
+    requires joined { All (AreJoined figures.now) connections.now }
+    requires inside { All (λ f. IsFigureInside size.width size.height f) figures.now }
+    requires boxes { All (IsInside size.width size.height) boxes.now }
+    ensures all { IfOk result (λ lines. length lines ≡ length connections.now) }
+    ensures each { IfOk result (EachAt (IsLine figures.now connections.now)) }
+    ensures inside { IfOk result (All (IsLineInside size.width size.height)) }
+{
+    let mut lines = Sequence::new(alloc);
+    let none = Way {
+        first: 0,
+        bends: 0,
+        rises: false,
+    };
+    for (number, connection) in connections.iter().enumerate() {
+        let way = ways.get(number).copied().unwrap_or(none);
+        let bends = points_of(alloc, bends_of(&way, boxes, size), way.rises, size)?;
+        lines.push(line_of(number, connection, figures, bends, size))?;
+    }
+    Ok(lines)
+}

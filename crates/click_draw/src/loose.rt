@@ -1,0 +1,127 @@
+//! What is in no compound, moved into line with what it is joined to, as far as there is room.
+
+use crate::blocks::{Block, Level, blocks_of};
+use crate::measures::BESIDE;
+use crate::ways::Node;
+use crate::wishes::{State, wish};
+use std::alloc::{AllocError, Global};
+
+/// How often the rows are gone through from the top down and from the bottom up.
+const ROUNDS: usize = 4;
+
+/// What is taken of a row: from where to where, and by which node, if that may move.
+#[derive(Clone, Copy, Debug, PartialEq, Eq, PartialOrd, Ord)]
+struct Stretch {
+    left: u64,
+    right: u64,
+    node: usize,
+}
+
+/// The node of the block, if it is one by itself; else the greatest number, which is no node's.
+fn loose_node(nodes: &[Node], name: usize, block: &Block) -> usize {
+    match nodes.get(name) {
+        Some(node) if block.first == block.last && node.home.outer == usize::MAX => name,
+        _ => usize::MAX,
+    }
+}
+
+/// What is taken of each row, from the left.
+fn stretches_of(
+    alloc: Global,
+    nodes: &[Node],
+    lefts: &[u64],
+    rows: usize,
+) -> Result<Vec<Vec<Stretch>>, AllocError> {
+    let mut taken = Vec::new(alloc);
+    for _ in 0..rows {
+        taken.push(Vec::new(alloc))?;
+    }
+    let blocks = blocks_of(alloc, nodes, lefts, Level::Outer, Level::All)?;
+    for (name, block) in blocks.iter().enumerate() {
+        if let Some(block) = block {
+            take(&mut taken, block, loose_node(nodes, name, block))?;
+        }
+    }
+    for row in taken.iter_mut() {
+        row.sort()?;
+    }
+    Ok(taken)
+}
+
+/// Takes the block's rows.
+fn take(taken: &mut [Vec<Stretch>], block: &Block, node: usize) -> Result<(), AllocError> {
+    for row in block.first..=block.last {
+        if let Some(row) = taken.get_mut(row) {
+            row.push(Stretch {
+                left: block.left,
+                right: block.right,
+                node,
+            })?;
+        }
+    }
+    Ok(())
+}
+
+/// Moves the stretch to where its node would stand, between what is free from and what is free to.
+fn moved(stretch: Stretch, state: &State, downward: bool, from: u64, to: u64) -> Stretch {
+    let Some(node) = state.nodes.get(stretch.node) else {
+        return stretch;
+    };
+    let ties = if downward { &node.above } else { &node.below };
+    let width = stretch.right.saturating_sub(stretch.left);
+    let left = wish(node, ties.as_slice(), stretch.left, state)
+        .min(to.saturating_sub(width))
+        .max(from);
+    Stretch {
+        left,
+        right: left.saturating_add(width),
+        node: stretch.node,
+    }
+}
+
+/// Moves what is loose in a row.
+fn line_up(row: &mut [Stretch], state: &mut State, downward: bool) {
+    let mut from = 0u64;
+    for at in 0..row.len() {
+        let to = match row.get(at.saturating_add(1)) {
+            Some(next) => next.left.saturating_sub(BESIDE),
+            None => u64::MAX,
+        };
+        if let Some(stretch) = row.get_mut(at) {
+            *stretch = moved(*stretch, state, downward, from, to);
+            from = stretch.right.saturating_add(BESIDE);
+            if let Some(left) = state.lefts.get_mut(stretch.node) {
+                *left = stretch.left;
+            }
+        }
+    }
+}
+
+/// Moves what is loose in all rows. The order of the rows and the compounds stay as they are.
+pub fn line_up_all(
+    alloc: Global,
+    nodes: &[Node],
+    lefts: Vec<u64>,
+    rows: usize,
+) -> Result<Vec<u64>, AllocError> {
+    let mut taken = stretches_of(alloc, nodes, lefts.as_slice(), rows)?;
+    let mut state = State {
+        nodes,
+        lefts,
+        level: Level::All,
+    };
+    for _ in 0..ROUNDS {
+        for row in taken.iter_mut() {
+            line_up(row.as_mut_slice(), &mut state, true);
+        }
+        for row in taken.iter_mut().rev() {
+            line_up(row.as_mut_slice(), &mut state, false);
+        }
+    }
+    let State {
+        nodes: _,
+        lefts,
+        level: _,
+    } = state;
+    Ok(lefts)
+}

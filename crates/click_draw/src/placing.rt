@@ -1,0 +1,116 @@
+//! The boxes: each node of a row as near to where it would stand as those at its left allow.
+
+ghost use Rattle.std.specs.Prelude.{◌≡◌, ℕ, ◌<◌, ◌≤◌, length, All, IfOk};
+ghost use Rattle.click_draw.specs.Picture.{IsInside};
+ghost use Rattle.click_draw.specs.kept.Placing.{AreSlots, IsSized, NoneOverlap};
+
+use crate::drawing::Rectangle;
+use crate::measures::{BESIDE, BOX_HEIGHT};
+use std::alloc::{AllocError, Global};
+
+/// What is free between two rows.
+const BETWEEN_ROWS: u64 = 44;
+
+/// Where the first row begins, below the title of a frame.
+const FIRST_ROW: u64 = 40;
+
+/// The furthest from the left that a node's wish counts.
+const FURTHEST: u64 = 0x1_0000_0000;
+
+/// A node in the order of the rows, and from left to right: its row, where it would stand, and its number.
+#[derive(Clone, Copy, Debug, PartialEq, Eq, PartialOrd, Ord)]
+pub struct Slot {
+    pub row: usize,
+    pub wish: u64,
+    pub node: usize,
+}
+
+/// Where the next box of a row may begin, and how far the boxes go to the right.
+#[derive(Clone, Copy, Debug, PartialEq, Eq)]
+pub struct Pen {
+    pub row: usize,
+    pub top: u64,
+    pub free: u64,
+    pub furthest: u64,
+}
+
+impl Pen {
+    ghost use Rattle.std.specs.Prelude.{◌≤◌, ◌+◌, ◌*◌, ◌<◌};
+    ghost use Rattle.click_draw.specs.kept.Placing.{Draws, IsNear};
+
+    /// The box for a slot of that width, and the pen behind it. So many were drawn before.
+    fn draw(self, slot: &Slot, width: u64, drawn: usize) -> (Rectangle, Pen)
+        requires wide { width ≤ 32788 }
+        requires few { drawn ≤ 131072 }
+        requires near { IsNear drawn self }
+        ensures draws { Draws self width result.0 result.1 }
+        ensures near { IsNear (drawn + 1) result.1 }
+    {
+        let new_row = slot.row != self.row;
+        let top = if new_row {
+            self.top + BOX_HEIGHT + BETWEEN_ROWS
+        } else {
+            self.top
+        };
+        let free = if new_row { BESIDE } else { self.free };
+        let left = free.max(BESIDE + slot.wish.min(FURTHEST));
+        let right = left + width;
+        let frame = Rectangle {
+            left,
+            top,
+            width,
+            height: BOX_HEIGHT,
+        };
+        let pen = Pen {
+            row: slot.row,
+            top,
+            free: right + BESIDE,
+            furthest: self.furthest.max(right),
+        };
+        (frame, pen)
+    }
+}
+
+/// The boxes of the nodes, and how wide and high the picture is.
+#[derive(Drop)]
+pub struct Placed {
+    pub boxes: Vec<Rectangle>,
+    pub width: u64,
+    pub height: u64,
+}
+
+/// Places the nodes of those widths in the order of the slots.
+pub fn place(alloc: Global, widths: &[u64], slots: &[Slot]) -> Result<Placed, AllocError>
+    requires few { length widths.now ≤ 131072 }
+    requires wide { All (λ w. w ≤ 32788) widths.now }
+    requires slots { AreSlots (length widths.now) slots.now }
+    ensures all { IfOk result (λ p. length p.boxes.items ≡ length widths.now) }
+    ensures sized { IfOk result (λ p. (n : ℕ) → n < length widths.now → IsSized widths.now p.boxes.items n) }
+    ensures apart { IfOk result (λ p. NoneOverlap p.boxes.items) }
+    ensures inside { IfOk result (λ p. All (IsInside p.width p.height) p.boxes.items) }
+    ensures small { IfOk result (λ p. (p.width ≤ 68719476736) × (p.height ≤ 68719476736)) }
+{
+    let none = Rectangle {
+        left: 0,
+        top: 0,
+        width: 0,
+        height: 0,
+    };
+    let mut boxes = vec![in alloc; none; widths.len()]?;
+    let mut pen = Pen {
+        row: 0,
+        top: FIRST_ROW,
+        free: BESIDE,
+        furthest: 0,
+    };
+    for (drawn, slot) in slots.iter().enumerate() {
+        let (frame, next) = pen.draw(slot, widths[slot.node], drawn);
+        boxes[slot.node] = frame;
+        pen = next;
+    }
+    Ok(Placed {
+        boxes,
+        width: pen.furthest + BESIDE,
+        height: pen.top + BOX_HEIGHT + BESIDE,
+    })
+}

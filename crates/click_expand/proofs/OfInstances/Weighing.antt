@@ -1,0 +1,163 @@
+-- The sizes of scopes, one after another by their places.
+use Rattle.std.proofs.Common.{◌≡◌, ◌⊎◌, inl, inr, ℕ, suc, ◌+◌, ◌<◌, ◌≤◌, min, List, [], ◌∷◌, ◌++◌, map, length, Option, Some, None, Vec, Global, refl, sym, ap, ◌∙◌, subst, append_assoc, arith}
+use Rattle.std.specs.List.{slice_get, sum_by}
+use Rattle.std.proofs.lemmas.Bool.{cases_order}
+use Rattle.std.proofs.lemmas.Option.{slice_get_within}
+use Rattle.std.proofs.lemmas.List.{length-append, length_push}
+use Rattle.std.proofs.lemmas.List.Sums.{sum_by-cons}
+use Rattle.click_text.specs.declared.syntax.Statement.{Statement}
+use Rattle.click_text.specs.declared.syntax.Config.{Config}
+use Rattle.click_scopes.specs.Scopes.{Scope, whole, inside, Stands, at_top}
+use Rattle.click_scopes.specs.Classes.{Meaning, primitive, compound}
+use Rattle.click_scopes.specs.Elements.{Local}
+use Rattle.click_scopes.specs.Faults.{scope_locals}
+use Rattle.click_expand.specs.Parameters.{Bindings}
+use Rattle.click_expand.specs.Instances.{Leaf, AreLeaves}
+use Rattle.click_scopes.specs.kept.Nesting.{IsNested}
+use Rattle.click_scopes.specs.kept.Scoped.{table_place}
+use Rattle.click_scopes.specs.kept.ScopeElements.{AreAllLocals}
+use Rattle.click_scopes.specs.kept.Tables.{meaning_by, local_of}
+use Rattle.click_expand.specs.Flat.{most_elements, most_paths}
+use Rattle.click_expand.specs.kept.Sizes.{IsSize, IsSizeOf}
+use Rattle.click_expand.specs.kept.Counted.{size_or, size_inside, elements_in, paths_in, IsSum}
+use Rattle.click_scopes.specs.declared.classes.ClassOf.{ClassOf}
+use Rattle.click_scopes.specs.declared.classes.ClassOf.TheVariants as class
+use Rattle.click_scopes.specs.declared.scope_elements.Local.{Local as LocalKept}
+use Rattle.click_expand.specs.declared.instances.sizes.Size.{Size}
+use Rattle.click_scopes.proofs.Keeping.{slice_get-more, slice_get-last}
+use Rattle.click_scopes.proofs.Founded.{founded-at}
+use Rattle.click_expand.proofs.OfInstances.Homes.{same_some}
+use Rattle.click_expand.proofs.OfInstances.Frames.{LeafCase, InnerCase, leaf-case, inner-case, end-case, next-there}
+
+cap-one : (a y m : ℕ) → min a m ≡ min y m → min (a + 1) m ≡ min (1 + y) m
+cap-one a y m e = omega (arith, e)
+
+cap-sum : (a b p y m : ℕ) → p ≡ min a m → min b m ≡ min y m → min (a + b) m ≡ min (p + y) m
+cap-sum a b p y m e f = omega (arith, e, f)
+
+cap-path : (a b p y m : ℕ) → p ≡ min a m → min b m ≡ min y m → min (a + b + 1) m ≡ min (p + 1 + y) m
+cap-path a b p y m e f = omega (arith, e, f)
+
+module _ (c : Config) where
+  abbrev pub IsScopeSize : Scope → List Statement → List Scope → Size → Type 0
+  IsScopeSize s visible around size =
+      (path : List (List ℕ)) (bindings : Bindings) (leaves : List Leaf) (n : ℕ) → AreLeaves c s around path bindings (scope_locals c s visible) leaves n → IsSize leaves n size
+
+  -- the scopes up to a place have their sizes
+  abbrev pub AreWeighed : List Size → Type 0
+  AreWeighed sizes =
+      (s : Scope) (visible : List Statement) (around : List Scope) → Stands c s visible around → table_place c s < length sizes →
+      (size : Size) × (slice_get sizes (table_place c s) ≡ Some size) × IsScopeSize s visible around size
+
+  -- the numbers of some elements' leaves and of the paths to them
+  pub record AreCounted (sizes : List Size) (vs : List LocalKept) (leaves : List Leaf) (n : ℕ) : Type 0 where
+    pub elements : min (length leaves) (most_elements + 1) ≡ min (sum_by (elements_in sizes) vs) (most_elements + 1)
+    pub all_paths : min n (most_paths + 1) ≡ min (sum_by (paths_in sizes) vs) (most_paths + 1)
+
+  module _ (nested : IsNested c) (sizes : List Size) (weighed : AreWeighed sizes) (s : Scope) (visible : List Statement) (around : List Scope) (stands : Stands c s visible around)
+      (next : table_place c s ≡ length sizes) (path : List (List ℕ)) (bindings : Bindings) where
+    -- an element that is one of the router's classes
+    counted-leaf : (v : LocalKept) (vs : List LocalKept) (leaves : List Leaf) (n : ℕ) → (size_inside sizes v.class).elements ≡ 1 → (size_inside sizes v.class).paths ≡ 0 →
+        (r : LeafCase c s around path bindings (local_of c.text v) (map (local_of c.text) vs) leaves n) → AreCounted sizes vs r.leaves r.m → AreCounted sizes (v ∷ vs) leaves n
+    counted-leaf v vs leaves n e f r h = record {
+      elements =
+          ap (λ x. min x (most_elements + 1)) (ap length r.is ∙ length-one (length r.leaves)) ∙ cap-one (length r.leaves) (sum_by (elements_in sizes) vs) (most_elements + 1) h.elements
+          ∙ ap (λ x. min x (most_elements + 1)) (ap (λ x. x + sum_by (elements_in sizes) vs) (sym e) ∙ sym (sum_by-cons (elements_in sizes) v vs));
+      all_paths =
+          ap (λ x. min x (most_paths + 1)) r.count ∙ cap-one r.m (sum_by (paths_in sizes) vs) (most_paths + 1) h.all_paths
+          ∙ ap (λ x. min x (most_paths + 1)) (one-path (size_inside sizes v.class).paths (sum_by (paths_in sizes) vs) f ∙ sym (sum_by-cons (paths_in sizes) v vs));
+    }
+      where
+        length-one : (k : ℕ) → suc k ≡ k + 1
+        length-one k = omega arith
+
+        one-path : (p y : ℕ) → p ≡ 0 → 1 + y ≡ p + 1 + y
+        one-path p y e = omega (arith, e)
+
+    -- an element that is a body
+    counted-inner : (v : LocalKept) (vs : List LocalKept) (b : ℕ) (leaves : List Leaf) (n : ℕ) (size : Size) → size_inside sizes v.class ≡ size →
+        (r : InnerCase c s around path bindings (local_of c.text v) (map (local_of c.text) vs) b leaves n) → IsSize r.inner r.m size → AreCounted sizes vs r.leaves r.k → AreCounted sizes (v ∷ vs) leaves n
+    counted-inner v vs b leaves n size e r g h = record {
+      elements =
+          ap (λ x. min x (most_elements + 1)) (ap length r.is ∙ length-append r.inner r.leaves)
+          ∙ cap-sum (length r.inner) (length r.leaves) size.elements (sum_by (elements_in sizes) vs) (most_elements + 1) g.elements h.elements
+          ∙ ap (λ x. min x (most_elements + 1)) (ap (λ (x : Size). x.elements + sum_by (elements_in sizes) vs) (sym e) ∙ sym (sum_by-cons (elements_in sizes) v vs));
+      all_paths =
+          ap (λ x. min x (most_paths + 1)) r.count ∙ cap-path r.m r.k size.paths (sum_by (paths_in sizes) vs) (most_paths + 1) g.all_paths h.all_paths
+          ∙ ap (λ x. min x (most_paths + 1)) (ap (λ (x : Size). x.paths + 1 + sum_by (paths_in sizes) vs) (sym e) ∙ sym (sum_by-cons (paths_in sizes) v vs));
+    }
+
+    behind : (v : LocalKept) (vs : List LocalKept) (done : List Local) → scope_locals c s visible ≡ done ++ local_of c.text v ∷ map (local_of c.text) vs →
+        scope_locals c s visible ≡ (done ++ local_of c.text v ∷ []) ++ map (local_of c.text) vs
+    behind v vs done e = e ∙ sym (append_assoc done (local_of c.text v ∷ []) (map (local_of c.text) vs))
+
+    -- what a first element adds to those after it
+    by-class : (v : LocalKept) (vs : List LocalKept) (done : List Local) (leaves : List Leaf) (n : ℕ) (o : Option ClassOf) → v.class ≡ o →
+        scope_locals c s visible ≡ done ++ local_of c.text v ∷ map (local_of c.text) vs →
+        AreLeaves c s around path bindings (local_of c.text v ∷ map (local_of c.text) vs) leaves n →
+        ((further : List Leaf) (m : ℕ) → AreLeaves c s around path bindings (map (local_of c.text) vs) further m → AreCounted sizes vs further m) → AreCounted sizes (v ∷ vs) leaves n
+    by-class v vs done leaves n None q e h f =
+        let l = local_of c.text v in
+        let none : l.meaning ≡ None = ap (meaning_by c.text) q in
+        let r = leaf-case c s around path bindings l (map (local_of c.text) vs) leaves n (λ b k. no-class (compound b) (sym none ∙ k)) h in
+        absurd (no-class (primitive r.class) (sym none ∙ r.meaning))
+      where
+        no-class : (m : Meaning) → None ≡ Some m → ⊥
+        no-class m e = cc e
+    by-class v vs done leaves n (Some (class.Primitive w)) q e h f =
+        let l = local_of c.text v in
+        let r = leaf-case c s around path bindings l (map (local_of c.text) vs) leaves n (λ b k. let x = sym (ap (meaning_by c.text) q) ∙ k in cc x) h in
+        counted-leaf v vs leaves n (ap (λ o. (size_inside sizes o).elements) q) (ap (λ o. (size_inside sizes o).paths) q) r (f r.leaves r.m r.leads)
+    by-class v vs done leaves n (Some (class.Compound b)) q e h f =
+        let l = local_of c.text v in
+        let meaning : l.meaning ≡ Some (compound b) = ap (meaning_by c.text) q in
+        let r = inner-case c s around path bindings l (map (local_of c.text) vs) b leaves n meaning h in
+        let there : slice_get (scope_locals c s visible) (length done) ≡ Some l = ap (λ xs. slice_get xs (length done)) e ∙ next-there c done (map (local_of c.text) vs) l in
+        let k = founded-at c nested s visible around stands (length done) l b there meaning in
+        let below = k.below in
+        let size = weighed (inside b) r.visible r.outer r.stands (omega (arith, below, next)) in
+        counted-inner v vs b leaves n size.0 (ap (size_inside sizes) q ∙ ap size_or size.1) r (size.2 (path ++ l.name ∷ []) ((b, r.values) ∷ bindings) r.inner r.m r.leads) (f r.leaves r.k r.rest)
+
+    counted : (vs : List LocalKept) (done : List Local) (leaves : List Leaf) (n : ℕ) → scope_locals c s visible ≡ done ++ map (local_of c.text) vs →
+        AreLeaves c s around path bindings (map (local_of c.text) vs) leaves n → AreCounted sizes vs leaves n
+    counted [] done leaves n e h =
+        let r = end-case c s around path bindings leaves n h in
+        record { elements = ap (λ (x : List Leaf). min (length x) (most_elements + 1)) r.0; all_paths = ap (λ x. min x (most_paths + 1)) r.1 }
+    counted (v ∷ vs) done leaves n e h = by-class v vs done leaves n v.class refl e h (λ further m k. counted vs (done ++ local_of c.text v ∷ []) further m (behind v vs done e) k)
+
+  -- the size of the scope at the next place
+  scope-weighed : IsNested c → (sizes : List Size) → AreWeighed sizes → (s : Scope) (visible : List Statement) (around : List Scope) → Stands c s visible around → table_place c s ≡ length sizes →
+      (vs : List LocalKept) → map (local_of c.text) vs ≡ scope_locals c s visible → (size : Size) → IsSum sizes vs size → IsScopeSize s visible around size
+  scope-weighed nested sizes weighed s visible around stands next vs e size h path bindings leaves n k =
+      let r = counted nested sizes weighed s visible around stands next path bindings vs [] leaves n (sym e) (subst (λ ls. AreLeaves c s around path bindings ls leaves n) (sym e) k) in
+      record { elements = h.elements ∙ sym r.elements; all_paths = h.all_paths ∙ sym r.all_paths }
+
+  pub weighed-none : AreWeighed []
+  weighed-none s visible around h l = absurd (omega (arith, l))
+
+  pub weighed-next : IsNested c → (locals : List (Vec LocalKept Global)) → AreAllLocals c locals → (sizes new : List Size) (v : Vec LocalKept Global) (size : Size) →
+      slice_get locals (length sizes) ≡ Some v → IsSum sizes v.items size → new ≡ sizes ++ size ∷ [] → AreWeighed sizes → AreWeighed new
+  weighed-next nested locals all sizes new v size there h e weighed = subst AreWeighed (sym e) (λ s visible around stands l. by_place s visible around stands (cases_order (table_place c s) (length sizes)) l)
+    where
+      by_place : (s : Scope) (visible : List Statement) (around : List Scope) → Stands c s visible around →
+          ((table_place c s ≡ length sizes) ⊎ ((table_place c s < length sizes) ⊎ (length sizes < table_place c s))) → table_place c s < length (sizes ++ size ∷ []) →
+          (one : Size) × (slice_get (sizes ++ size ∷ []) (table_place c s) ≡ Some one) × IsScopeSize s visible around one
+      by_place s visible around stands (inl q) l =
+          let r = all s visible around stands in
+          let same : v ≡ r.0 = same_some (sym there ∙ ap (slice_get locals) (sym q) ∙ r.1) in
+          let items : map (local_of c.text) v.items ≡ scope_locals c s visible = ap (λ (x : Vec LocalKept Global). map (local_of c.text) x.items) same ∙ r.2 in (
+            size,
+            ap (slice_get (sizes ++ size ∷ [])) q ∙ slice_get-last sizes size,
+            scope-weighed nested sizes weighed s visible around stands q v.items items size h,
+          )
+      by_place s visible around stands (inr (inl q)) l = let r = weighed s visible around stands q in (r.0, slice_get-more sizes (size ∷ []) (table_place c s) r.0 r.1, r.2)
+      by_place s visible around stands (inr (inr q)) l = let n : length (sizes ++ size ∷ []) ≡ length sizes + 1 = length_push sizes size in absurd (omega (arith, q, l, n))
+
+  -- all scopes have their sizes, and so has the whole text
+  pub weighed-all : (locals : List (Vec LocalKept Global)) → AreAllLocals c locals → (sizes : List Size) → length locals ≤ length sizes → AreWeighed sizes →
+      IsSizeOf c (size_or (slice_get sizes (length c.bodies)))
+  weighed-all locals all sizes l weighed leaves n h =
+      let t = all whole [] [] at_top in
+      let m = slice_get_within locals (length c.bodies) t.0 t.1 in
+      let r = weighed whole [] [] at_top (omega (arith, l, m)) in
+      subst (λ o. IsSize leaves n (size_or o)) (sym r.1) (r.2 [] [] leaves n h)

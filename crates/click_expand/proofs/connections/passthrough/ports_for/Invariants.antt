@@ -1,0 +1,7 @@
+use Rattle.std.proofs.Common.{ℕ, List, take}
+use Rattle.click_expand.specs.declared.connections.connection_index.ScopePort.{ScopePort}
+use Rattle.click_expand.specs.kept.Passthrough.{body_at, AreShortened, AreStoodFor}
+use Rattle.click_expand.proofs.connections.passthrough.ports_for.Given as goal
+
+abbrev pub invariant-loop-end : goal.invariant-loop-end
+invariant-loop-end l = (all short : ℕ → ScopePort → List ScopePort) → AreShortened all (body_at l.locals) short l.done → AreStoodFor all (body_at l.locals) short l.scope (take l.end-index l.ends) l.ports.keys

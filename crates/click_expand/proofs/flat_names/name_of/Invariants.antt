@@ -1,9 +1,0 @@
-use Rattle.std.proofs.Common.{length}
-use Rattle.click_expand.proofs.FlatNaming.{IsWriting}
-use Rattle.click_expand.proofs.flat_names.name_of.Given as goal
-
-abbrev pub invariant-loop-step : goal.invariant-loop-step
-invariant-loop-step l = IsWriting l.locals l.instances l.place.within l.way.items l.name.items
-
-abbrev pub decreases-loop-step : goal.decreases-loop-step
-decreases-loop-step l = length l.way.items

@@ -1,8 +1,0 @@
-use Rattle.click_expand.proofs.FlatNaming.{IsWalked}
-use Rattle.click_expand.proofs.flat_names.outward.Given as goal
-
-abbrev pub invariant-loop-place : goal.invariant-loop-place
-invariant-loop-place l = IsWalked l.instances l.within l.at l.way.items
-
-abbrev pub decreases-loop-place : goal.decreases-loop-place
-decreases-loop-place l = l.at

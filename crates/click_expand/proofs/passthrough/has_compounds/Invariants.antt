@@ -1,6 +1,0 @@
-use Rattle.click_expand.specs.kept.Passthrough.{body_at}
-use Rattle.click_expand.proofs.StandingIn.{NoBodies}
-use Rattle.click_expand.proofs.passthrough.has_compounds.Given as goal
-
-abbrev pub invariant-loop-element : goal.invariant-loop-element
-invariant-loop-element l = NoBodies (body_at l.locals l.scope) l.element

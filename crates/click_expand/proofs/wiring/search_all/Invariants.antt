@@ -1,8 +1,0 @@
-use Rattle.std.proofs.Common.{[]}
-use Rattle.click_expand.specs.Flat.{most_connections}
-use Rattle.click_expand.specs.kept.Wiring.{IsFromUse}
-use Rattle.click_expand.proofs.Gathering.{Gathers}
-use Rattle.click_expand.proofs.wiring.search_all.Given as goal
-
-abbrev pub invariant-loop-within : goal.invariant-loop-within
-invariant-loop-within l = Gathers (IsFromUse l.instances l.indices) most_connections l.within [] l.found.keys

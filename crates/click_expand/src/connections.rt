@@ -1,0 +1,6 @@
+//! The connections of flat elements.
+
+pub mod connection_index;
+pub mod order;
+pub mod passthrough;
+pub mod wiring;

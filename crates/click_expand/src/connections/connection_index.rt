@@ -1,0 +1,145 @@
+//! The connections of a scope by the ports that they begin at, and what lies behind the ports that they lead to.
+
+ghost use Rattle.std.specs.Prelude.{◌≡◌, ◌∷◌, ◌++◌, [], OnOk, OnErr, IfOk, if◌then◌else◌};
+ghost use Rattle.click_expand.specs.declared.connections.connection_index.ScopePort.{ScopePort as Jack};
+ghost use Rattle.click_expand.specs.kept.Wiring as spec;
+ghost use Rattle.click_expand.specs.kept.Wiring.{IsIndex, ends_in, same_port, reached_by};
+
+use crate::instances::tree::{Instance, InstancePart, Place};
+use click_scopes::{Owner, WrittenConnection};
+use indexmap::IndexMap;
+use std::alloc::{AllocError, Global};
+
+/// A port in a scope: of the body itself, or of one of its elements.
+#[derive(Clone, Copy, Debug, PartialEq, Eq, Hash)]
+pub struct ScopePort {
+    pub owner: Owner,
+    pub number: u8,
+}
+
+/// Where connections lead on from: a port in an instance of its scope.
+#[derive(Clone, Copy, Debug, PartialEq, Eq, Hash)]
+pub struct InstancePort {
+    pub within: usize,
+    pub port: ScopePort,
+}
+
+/// An input of a flat element.
+#[derive(Clone, Copy, Debug, PartialEq, Eq)]
+pub struct FlatInput {
+    pub leaf: usize,
+    pub number: u8,
+}
+
+/// What lies behind a port that a connection leads to.
+#[derive(Clone, Copy, Debug, PartialEq, Eq)]
+pub enum Reached {
+    /// A port that further connections lead on from.
+    Start(InstancePort),
+    /// An input of a flat element.
+    Leaf(FlatInput),
+    /// Nothing.
+    Nothing,
+}
+
+/// The connections of a scope: for each port that one begins at, the ports that they lead to, or for an input with a shortcut its outputs; and for
+/// inputs that lead through the scope to the same outputs as another does, the number of that other.
+#[derive(Drop)]
+pub struct ConnectionIndex {
+    pub ends: IndexMap<ScopePort, Vec<ScopePort>>,
+    pub alike: IndexMap<u8, u8>,
+}
+
+impl ConnectionIndex {
+    /// Adds a connection. An error leaves the connections as they were.
+    fn add(&mut self, alloc: Global, from: ScopePort, to: ScopePort) -> Result<(), AllocError>
+        ensures added { OnOk result ((q : Jack) → ends_in self.new.ends.entries q ≡ (if same_port from q then ends_in self.old.ends.entries from ++ to ∷ [] else ends_in self.old.ends.entries q)) }
+        ensures err { OnErr result ((q : Jack) → ends_in self.new.ends.entries q ≡ ends_in self.old.ends.entries q) }
+        ensures alike { self.new.alike ≡ self.old.alike }
+    {
+        if let Some(ends) = self.ends.get_mut(&from) {
+            ends.push(to)?;
+            return Ok(());
+        }
+        let mut ends = Vec::new(alloc);
+        ends.push(to)?;
+        self.ends.insert(from, ends)?;
+        Ok(())
+    }
+
+    /// The ports that connections lead to from a port.
+    pub fn ends(&self, from: ScopePort) -> &[ScopePort]
+        ensures { result.now ≡ ends_in self.now.ends.entries from }
+    {
+        match self.ends.get(&from) {
+            Some(ends) => ends.as_slice(),
+            None => &[],
+        }
+    }
+}
+
+/// The index of the connections of a scope.
+pub fn index_of(alloc: Global, joints: &[WrittenConnection]) -> Result<ConnectionIndex, AllocError>
+    ensures { IfOk result (λ x. IsIndex joints.now x.ends.entries) }
+{
+    let mut index = ConnectionIndex {
+        ends: IndexMap::new(alloc),
+        alike: IndexMap::new(alloc),
+    };
+    for joint in joints {
+        let from = ScopePort {
+            owner: joint.from.owner,
+            number: joint.out_port,
+        };
+        let to = ScopePort {
+            owner: joint.to.owner,
+            number: joint.in_port,
+        };
+        index.add(alloc, from, to)?;
+    }
+    Ok(index)
+}
+
+/// What lies out of an instance that stands at a place, after its output of that number.
+fn outward(around: Option<Place>, number: u8) -> Reached
+    ensures { result ≡ spec.outward around number }
+{
+    match around {
+        None => Reached::Nothing,
+        Some(place) => Reached::Start(InstancePort {
+            within: place.within,
+            port: ScopePort {
+                owner: Owner::Element(place.element),
+                number,
+            },
+        }),
+    }
+}
+
+/// What lies in an element, after its input of that number.
+fn inward(part: Option<InstancePart>, number: u8) -> Reached
+    ensures { result ≡ spec.inward part number }
+{
+    match part {
+        None => Reached::Nothing,
+        Some(InstancePart::Leaf(leaf)) => Reached::Leaf(FlatInput { leaf, number }),
+        Some(InstancePart::Inner(within)) => Reached::Start(InstancePort {
+            within,
+            port: ScopePort {
+                owner: Owner::Input,
+                number,
+            },
+        }),
+    }
+}
+
+/// What lies behind a port that a connection leads to in an instance.
+pub fn next_of(one: &Instance, to: ScopePort) -> Reached
+    ensures { result ≡ reached_by one.now to.owner to.number }
+{
+    match to.owner {
+        Owner::Input => Reached::Nothing,
+        Owner::Output => outward(one.around, to.number),
+        Owner::Element(element) => inward(one.parts.as_slice().get(element).copied(), to.number),
+    }
+}

@@ -1,0 +1,154 @@
+//! What stands for a parameter in an instance of a scope.
+
+ghost use Rattle.std.specs.Prelude.{◌≡◌, ◌<◌, ◌≤◌, List, length, slice_get, ◌∷◌, Some, IfSome};
+ghost use Rattle.click_scopes.specs.Scopes.{body_formals};
+ghost use Rattle.click_scopes.specs.kept.CompoundArguments.{AreAllArguments};
+ghost use Rattle.click_scopes.specs.kept.ScopeElements.{AreAllLocals};
+ghost use Rattle.click_expand.specs.Parameters.{scope_value, value_in};
+ghost use Rattle.click_expand.specs.Instances.{Leaf as Flattened};
+ghost use Rattle.click_expand.specs.kept.KnownInstances.{KnownInstance, AreInstances};
+ghost use Rattle.click_expand.specs.kept.ParameterValues.{spans_found, string_found, IsValue};
+ghost use Rattle.click_expand.specs.declared.instances.tree.Place.{Place as Placed};
+
+use crate::instances::tree::Instance;
+use crate::texts::parameters::formal_place;
+use click_scopes::{Local, string_inside};
+use click_text::sequence::Sequence;
+use click_text::syntax::{Body, Config, Span};
+
+/// A text that is to be read in an instance: the parameters in it have the values that they have there.
+#[derive(Clone, Copy)]
+pub struct UnreadText<'a> {
+    pub within: usize,
+    pub rest: &'a [u8],
+}
+
+/// An argument with which a body is used: the instance, and the place among its arguments.
+#[derive(Clone, Copy, Debug, PartialEq, Eq, Hash)]
+pub struct Argument {
+    pub within: usize,
+    pub place: usize,
+}
+
+/// What stands for a parameter: an argument, and its text as it is to be read.
+#[derive(Clone, Copy)]
+pub struct ParameterValue<'a> {
+    pub argument: Argument,
+    pub reading: UnreadText<'a>,
+}
+
+/// The parameters of a scope: the whole text has none.
+fn formals_at(bodies: &[Body], scope: usize) -> &[Span]
+    ensures { result.now ≡ body_formals (slice_get bodies.now scope) }
+{
+    match bodies.get(scope) {
+        Some(body) => body.formals.as_slice(),
+        None => &[],
+    }
+}
+
+/// Where the arguments of an element stand in its string.
+pub fn spans_at(arguments: &[Sequence<Sequence<Span>>], scope: usize, element: usize) -> &[Span]
+    ensures { result.now ≡ spans_found (slice_get arguments.now scope) element }
+{
+    let Some(one) = arguments.get(scope) else {
+        return &[];
+    };
+    match one.as_slice().get(element) {
+        Some(spans) => spans.as_slice(),
+        None => &[],
+    }
+}
+
+/// What stands in the configuration string of an element.
+pub fn string_at<'a>(
+    text: &'a [u8],
+    locals: &[Vec<Local>],
+    scope: usize,
+    element: usize,
+) -> &'a [u8]
+    ensures { result.now ≡ string_found text.now (slice_get locals.now scope) element }
+{
+    let Some(one) = locals.get(scope) else {
+        return &[];
+    };
+    match one.as_slice().get(element) {
+        Some(local) => string_inside(text, local.text),
+        None => &[],
+    }
+}
+
+/// What stands for a parameter of the scope that an instance is of.
+fn own_value<'a>(
+    config: &'a Config,
+    locals: &[Vec<Local>],
+    arguments: &[Sequence<Sequence<Span>>],
+    instances: &[Instance],
+    at: usize,
+    name: &[u8],
+) -> Option<ParameterValue<'a>>
+    requires locals { AreAllLocals config.now locals.now }
+    requires arguments { AreAllArguments config.now arguments.now }
+    ensures value { (places : List Placed) (known : List KnownInstance) (leaves : List Flattened) (x : KnownInstance) → AreInstances config.now instances.now places known leaves → slice_get known at ≡ Some x →
+        IsValue config.now known result (scope_value config.now x.bindings x.scope name.now) }
+    ensures before { IfSome result (λ v. v.reading.within < at) }
+    ensures short { IfSome result (λ v. length v.reading.rest.now ≤ length config.now.text) }
+{
+    let text = config.text.as_slice();
+    if at >= instances.len() {
+        return None;
+    }
+    let one = &instances[at];
+    let Some(outer) = one.around else {
+        return None;
+    };
+    if outer.within >= at {
+        return None;
+    }
+    let scope = instances[outer.within].scope;
+    let formals = formals_at(config.bodies.as_slice(), one.scope);
+    let place = formal_place(text, formals, name)?;
+    let span = spans_at(arguments, scope, outer.element).get(place)?;
+    let string = string_at(text, locals, scope, outer.element);
+    Some(ParameterValue {
+        argument: Argument { within: at, place },
+        reading: UnreadText {
+            within: outer.within,
+            rest: span.of(string),
+        },
+    })
+}
+
+/// What stands for a parameter in an instance: the argument of the nearest body around that has the parameter.
+pub fn value_at<'a>(
+    config: &'a Config,
+    locals: &[Vec<Local>],
+    arguments: &[Sequence<Sequence<Span>>],
+    instances: &[Instance],
+    from: usize,
+    name: &[u8],
+) -> Option<ParameterValue<'a>>
+    requires locals { AreAllLocals config.now locals.now }
+    requires arguments { AreAllArguments config.now arguments.now }
+    ensures value { (places : List Placed) (known : List KnownInstance) (leaves : List Flattened) (x : KnownInstance) → AreInstances config.now instances.now places known leaves → slice_get known from ≡ Some x →
+        IsValue config.now known result (value_in config.now x.bindings (x.scope ∷ x.around) name.now) }
+    ensures before { IfSome result (λ v. v.reading.within < from) }
+    ensures short { IfSome result (λ v. length v.reading.rest.now ≤ length config.now.text) }
+{
+    let mut at = from;
+    'homes: loop {
+        if let Some(found) = own_value(config, locals, arguments, instances, at, name) {
+            return Some(found);
+        }
+        if at >= instances.len() {
+            return None;
+        }
+        let Some(home) = instances[at].home else {
+            return None;
+        };
+        if home >= at {
+            return None;
+        }
+        at = home;
+    }
+}

@@ -1,0 +1,125 @@
+-- What became of the datagrams that came.
+use Rattle.std.specs.Prelude.{◌≡◌, ◌↔◌, ℕ, ◌<◌, ◌≤◌, ◌+◌, ◌⊎◌, true, false, List, [], ◌∷◌, ◌++◌, length, map}
+use Rattle.click_packet.specs.Packet.{Packet, longest_packet}
+use Rattle.click_links.specs.declared.datagram.Datagram.{Datagram}
+use Rattle.click_links.specs.declared.datagram.Fate.{Fate}
+use Rattle.click_links.specs.declared.datagram.Fate.TheVariants.{Put, Stranger, TooLong, NoRoom, NoMemory}
+use Rattle.click_links.specs.declared.dropped.Dropped.{Dropped}
+use Rattle.click_links.specs.Ends.{Offer, offer, Offering}
+
+-- a datagram that came, and what became of it
+pub record Heard : Type 0 where
+  pub datagram : Datagram
+  pub fate : Fate
+
+abbrev pub heard : Datagram → Fate → Heard
+heard datagram fate = record { datagram = datagram; fate = fate }
+
+-- the packet of these bytes
+abbrev pub packet_of : List ℕ → Packet
+packet_of bytes = record { bytes = bytes; paint = 0; destination = 0 ∷ 0 ∷ 0 ∷ 0 ∷ [] }
+
+-- what is put of a datagram with this fate
+abbrev pub put_of : Fate → List ℕ → List Packet
+put_of Put bytes = packet_of bytes ∷ []
+put_of Stranger bytes = []
+put_of TooLong bytes = []
+put_of NoRoom bytes = []
+put_of NoMemory bytes = []
+
+-- the packets of the datagrams that were put, in order
+abbrev pub puts : List Heard → List Packet
+puts [] = []
+puts (h ∷ hs) = put_of h.fate h.datagram.bytes ++ puts hs
+
+-- what the feed was offered of a datagram with this fate
+abbrev pub asked_of : Fate → List ℕ → List Offer
+asked_of Put bytes = offer (packet_of bytes) true ∷ []
+asked_of Stranger bytes = []
+asked_of TooLong bytes = []
+asked_of NoRoom bytes = offer (packet_of bytes) false ∷ []
+asked_of NoMemory bytes = []
+
+-- the packets that the feed was offered, in order
+abbrev pub asks : List Heard → List Offer
+asks [] = []
+asks (h ∷ hs) = asked_of h.fate h.datagram.bytes ++ asks hs
+
+-- how many are due to a fate, added up
+abbrev pub counted : (Fate → ℕ) → List Heard → ℕ
+counted f [] = 0
+counted f (h ∷ hs) = f h.fate + counted f hs
+
+abbrev pub of_stranger : Fate → ℕ
+of_stranger Put = 0
+of_stranger Stranger = 1
+of_stranger TooLong = 0
+of_stranger NoRoom = 0
+of_stranger NoMemory = 0
+
+abbrev pub of_long : Fate → ℕ
+of_long Put = 0
+of_long Stranger = 0
+of_long TooLong = 1
+of_long NoRoom = 0
+of_long NoMemory = 0
+
+abbrev pub of_full : Fate → ℕ
+of_full Put = 0
+of_full Stranger = 0
+of_full TooLong = 0
+of_full NoRoom = 1
+of_full NoMemory = 0
+
+abbrev pub of_memory : Fate → ℕ
+of_memory Put = 0
+of_memory Stranger = 0
+of_memory TooLong = 0
+of_memory NoRoom = 0
+of_memory NoMemory = 1
+
+-- The fate is the one that is due to the datagram, where so many packets were put before in a feed of so many places. What is from elsewhere than the peer is a stranger; what
+-- else has more bytes than a packet is too long; of the rest, none finds no room before as many were put as there are places. For want of memory only one of the rest is dropped.
+pub record IsDue (places before : ℕ) (datagram : Datagram) (fate : Fate) : Type 0 where
+  pub stranger : (fate ≡ Stranger) ↔ (datagram.known ≡ false)
+  pub long : (fate ≡ TooLong) ↔ ((datagram.known ≡ true) × (longest_packet < length datagram.bytes))
+  pub room : fate ≡ NoRoom → places ≤ before
+
+-- each fate is due, where these packets were put before
+abbrev pub EachDue : ℕ → List Packet → List Heard → Type 0
+EachDue places put [] = Unit {0}
+EachDue places put (h ∷ hs) = IsDue places (length put) h.datagram h.fate × EachDue places (put ++ put_of h.fate h.datagram.bytes) hs
+
+-- These datagrams came more. The feed was offered just the packets of those that are from the peer and short enough, in order, each once, and what it took was put; each fate is due.
+pub record Hears (came came2 : List Datagram) (from to : Offering) (hs : List Heard) : Type 0 where
+  pub more : came2 ≡ came ++ map (λ h. h.datagram) hs
+  pub offered : to.asked ≡ from.asked ++ asks hs
+  pub entered : to.feed.put ≡ from.feed.put ++ puts hs
+  pub due : EachDue from.feed.places from.feed.put hs
+  pub places : to.feed.places ≡ from.feed.places
+  pub ring : to.feed.ring ≡ from.feed.ring
+
+-- some more came, of which so many were dropped
+pub record Receives (came came2 : List Datagram) (from to : Offering) (dropped : Dropped) : Type 0 where
+  pub heard_here : List Heard
+  pub hears : Hears came came2 from to heard_here
+  pub strangers : dropped.strangers ≡ counted of_stranger heard_here
+  pub too_long : dropped.too_long ≡ counted of_long heard_here
+  pub no_room : dropped.no_room ≡ counted of_full heard_here
+  pub no_memory : dropped.no_memory ≡ counted of_memory heard_here
+
+abbrev pub nothing_dropped : Dropped
+nothing_dropped = record { strangers = 0; too_long = 0; no_room = 0; no_memory = 0 }
+
+-- no count is as many as this
+abbrev pub AllBelow : Dropped → ℕ → Type 0
+AllBelow d n = (d.strangers < n) × (d.too_long < n) × (d.no_room < n) × (d.no_memory < n)
+
+-- the counts with this one more
+abbrev pub added : Dropped → Fate → Dropped
+added d f = record { strangers = d.strangers + of_stranger f; too_long = d.too_long + of_long f; no_room = d.no_room + of_full f; no_memory = d.no_memory + of_memory f }
+
+-- no more came, or one more that is counted
+abbrev pub Steps : List Datagram → List Datagram → Offering → Offering → Dropped → Dropped → Type 0
+Steps came came2 from to d d2 =
+    ((came2 ≡ came) × (to ≡ from) × (d2 ≡ d)) ⊎ ((datagram : Datagram) × (fate : Fate) × Hears came came2 from to (heard datagram fate ∷ []) × (d2 ≡ added d fate))

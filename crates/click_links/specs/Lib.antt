@@ -1,0 +1,5 @@
+pub mod Ends
+pub mod Fates
+pub mod Forwarding
+pub mod Sweeps
+pub mod Turns

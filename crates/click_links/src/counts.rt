@@ -1,0 +1,104 @@
+//! What an operator reads of a link while it runs.
+
+use crate::datagram::Fate;
+use std::sync::atomic::{AtomicU64, Ordering};
+
+/// Counts of a link, which its receiver and the forwarder add to as they go, and anybody may read. No clause speaks of their values.
+#[derive(Drop)]
+pub struct Counts {
+    received: AtomicU64,
+    strangers: AtomicU64,
+    too_long: AtomicU64,
+    no_room: AtomicU64,
+    no_memory: AtomicU64,
+    entered: AtomicU64,
+    sent: AtomicU64,
+    failed: AtomicU64,
+}
+
+/// The counts of a link as they were read, one after another.
+#[derive(Clone, Copy, Debug, PartialEq, Eq)]
+pub struct Counted {
+    /// Datagrams that came.
+    pub received: u64,
+    /// Of these, the ones from elsewhere than the peer.
+    pub strangers: u64,
+    /// Of these, the ones of more than 1,600 bytes.
+    pub too_long: u64,
+    /// Of these, the ones that the feed handed back.
+    pub no_room: u64,
+    /// Of these, the ones for whose packet there was no memory.
+    pub no_memory: u64,
+    /// Packets of the feed that entered the router.
+    pub entered: u64,
+    /// Packets that went out.
+    pub sent: u64,
+    /// Packets that did not go out, and are lost.
+    pub failed: u64,
+}
+
+fn one_more(count: &AtomicU64) {
+    count.fetch_add(1, Ordering::SeqCst);
+}
+
+fn read(count: &AtomicU64) -> u64 {
+    count.load(Ordering::SeqCst)
+}
+
+impl Counts {
+    /// Nothing was counted.
+    pub fn new() -> Counts {
+        Counts {
+            received: AtomicU64::new(0),
+            strangers: AtomicU64::new(0),
+            too_long: AtomicU64::new(0),
+            no_room: AtomicU64::new(0),
+            no_memory: AtomicU64::new(0),
+            entered: AtomicU64::new(0),
+            sent: AtomicU64::new(0),
+            failed: AtomicU64::new(0),
+        }
+    }
+
+    /// What was counted so far.
+    pub fn read(&self) -> Counted {
+        Counted {
+            received: read(&self.received),
+            strangers: read(&self.strangers),
+            too_long: read(&self.too_long),
+            no_room: read(&self.no_room),
+            no_memory: read(&self.no_memory),
+            entered: read(&self.entered),
+            sent: read(&self.sent),
+            failed: read(&self.failed),
+        }
+    }
+
+    /// A datagram came, with this fate.
+    pub(crate) fn came(&self, fate: Fate) {
+        one_more(&self.received);
+        match fate {
+            Fate::Put => {}
+            Fate::Stranger => one_more(&self.strangers),
+            Fate::TooLong => one_more(&self.too_long),
+            Fate::NoRoom => one_more(&self.no_room),
+            Fate::NoMemory => one_more(&self.no_memory),
+        }
+    }
+
+    /// So many packets of the feed entered.
+    pub(crate) fn enter(&self, count: u64) {
+        self.entered.fetch_add(count, Ordering::SeqCst);
+    }
+
+    /// A packet was sent, and went out or is lost.
+    pub(crate) fn tried(&self, went: bool) {
+        one_more(if went { &self.sent } else { &self.failed });
+    }
+}
+
+impl Default for Counts {
+    fn default() -> Counts {
+        Counts::new()
+    }
+}

@@ -1,0 +1,25 @@
+//! The device of a link.
+
+ghost use Rattle.std.specs.Prelude.{◌≡◌};
+
+use crate::counts::Counts;
+use click_text::sequence::Sequence;
+
+/// A device of the configuration that a link serves, by its name there, with the link's counts.
+#[derive(Drop)]
+pub struct Device {
+    pub name: Sequence<u8>,
+    pub counts: Counts,
+}
+
+impl Device {
+    /// The device of this name, of whose link nothing was counted.
+    pub fn new(name: Sequence<u8>) -> Device
+        ensures { result.name ≡ name }
+    {
+        Device {
+            name,
+            counts: Counts::new(),
+        }
+    }
+}

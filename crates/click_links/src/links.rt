@@ -1,0 +1,83 @@
+//! The links of a run, one by one.
+
+ghost use Rattle.std.specs.Prelude.{◌≡◌, ◌++◌, ◌∷◌, [], map, IfOk};
+ghost use Rattle.std.specs.List.{All};
+ghost use Rattle.click_links.specs.Ends.{IsNewFeed, link_places};
+ghost use Rattle.click_links.specs.Turns.{names_of};
+
+use crate::device::Device;
+use crate::intake::Intake;
+use crate::run::Receiving;
+use click_rings::opening::{FeedFault, feed};
+use click_rings::{Feed, Inlet};
+use click_text::sequence::Sequence;
+use std::alloc::{AllocError, Global};
+
+/// How many packets may wait in the feed of a link.
+const PLACES: usize = 1024;
+
+/// The links of a run: the receiver of each, which has not run, with a feed of 1,024 places, and the inlet of that, in one order.
+#[derive(Drop)]
+pub struct Links<L> {
+    pub receivers: Vec<Receiving<L>>,
+    pub inlets: Vec<Inlet>,
+    ghost fed: { inlets.items ≡ map (λ r. record { device = r.device; ring = r.intake.feed.ring }) receivers.items },
+    ghost fresh: { All (λ r. IsNewFeed r.intake) receivers.items },
+}
+
+fn copy(alloc: Global, name: &[u8]) -> Result<Sequence<u8>, AllocError>
+    ensures { IfOk result (λ copy. copy ≡ name.now) }
+{
+    Ok(Sequence::of(Vec::from_slice(alloc, name)?))
+}
+
+/// A feed of the device, with its inlet.
+fn feed_of(alloc: Global, name: &[u8]) -> Result<(Feed, Inlet), AllocError>
+    ensures pair { IfOk result (λ r. r.1 ≡ record { device = name.now; ring = r.0.ring }) }
+    ensures empty { IfOk result (λ r. (r.0.put ≡ []) × (r.0.places ≡ link_places)) }
+{
+    match feed(alloc, name, PLACES) {
+        Ok(ends) => Ok(ends),
+        Err(FeedFault::NoMemory) => Err(AllocError),
+        Err(FeedFault::PlaceCount) => unreachable!(),
+    }
+}
+
+impl<L: Drop> Links<L> {
+    /// No links.
+    pub fn none(alloc: Global) -> Links<L>
+        ensures { result.receivers.items ≡ [] }
+    {
+        Links {
+            receivers: Vec::new(alloc),
+            inlets: Vec::new(alloc),
+        }
+    }
+
+    /// These links, and one more behind them: datagrams that come at this end are packets of the device of this name. Its feed has 1,024 places.
+    pub fn with(self, alloc: Global, name: &[u8], link: L) -> Result<Links<L>, AllocError>
+        ensures names { IfOk result (λ all. map (λ r. r.device) all.receivers.items ≡ map (λ r. r.device) self.receivers.items ++ name.now ∷ []) }
+        ensures ends { IfOk result (λ all. map (λ r. r.link) all.receivers.items ≡ map (λ r. r.link) self.receivers.items ++ link ∷ []) }
+    {
+        let Links {
+            mut receivers,
+            mut inlets,
+        } = self;
+        let (feed, inlet) = feed_of(alloc, name)?;
+        let receiver = Receiving::new(copy(alloc, name)?, Intake::of(feed), link);
+        receivers.push(receiver)?;
+        inlets.push(inlet)?;
+        Ok(Links { receivers, inlets })
+    }
+
+    /// Their devices, of whose links nothing was counted, in the same order.
+    pub fn devices(&self, alloc: Global) -> Result<Vec<Device>, AllocError>
+        ensures { IfOk result (λ devices. names_of devices.items ≡ map (λ r. r.device) self.now.receivers.items) }
+    {
+        let mut devices = Vec::new(alloc);
+        for receiver in &self.receivers {
+            devices.push(Device::new(copy(alloc, receiver.device.as_slice())?))?;
+        }
+        Ok(devices)
+    }
+}

@@ -1,0 +1,159 @@
+//! Links over memory.
+
+ghost use Rattle.std.specs.Prelude.{◌≡◌, ◌++◌, ◌∷◌, [], take, ◌-◌, slice_index_or, false, IfOk, OnErr, if◌then◌else◌};
+ghost use Rattle.click_links.specs.Ends.{nothing};
+
+use crate::datagram::Datagram;
+use crate::link::{Inbound, LinkFailed, Outbound};
+use crate::trials::Trials;
+use click_packet::StoredPacket;
+use click_text::sequence::Sequence;
+use std::alloc::{AllocError, Global};
+use std::marker::Model;
+
+/// Datagrams that come in their order. After the last the link fails.
+#[derive(Drop)]
+pub struct Listed {
+    all: Vec<Datagram>,
+    next: usize,
+}
+
+impl Model for Listed {
+    ghost use Rattle.std.specs.Prelude.{◌≤◌, vec_len};
+    ghost use Rattle.click_links.specs.Ends.{Reading};
+
+    ghost Value = { Reading };
+
+    ghost view = { λ l. record { all = l.all.items; next = l.next } };
+
+    ghost invariant = { λ l. l.next ≤ vec_len l.all };
+}
+
+impl Listed {
+    /// These datagrams, of which none has come.
+    pub fn new(all: Vec<Datagram>) -> Listed
+        ensures { result ≡ record { all = all.items; next = 0 } }
+    {
+        Listed { all, next: 0 }
+    }
+}
+
+impl Inbound for Listed {
+    ghost came = { λ l. take l.next l.all };
+
+    ghost current = { λ l. slice_index_or l.all (l.next - 1) nothing };
+
+    fn receive(&mut self) -> Result<bool, LinkFailed> {
+        if self.next >= self.all.len() {
+            return Err(LinkFailed);
+        }
+        self.next += 1;
+        Ok(true)
+    }
+
+    fn bytes(&self) -> &[u8] {
+        match self.all.get(self.next.saturating_sub(1)) {
+            Some(datagram) => datagram.bytes.as_slice(),
+            None => &[],
+        }
+    }
+
+    fn is_known(&self) -> bool {
+        match self.all.get(self.next.saturating_sub(1)) {
+            Some(datagram) => datagram.known,
+            None => false,
+        }
+    }
+}
+
+/// Keeps the packets that went out over the links of these devices, up to so many in all. One more, one of another device, or one for which there is no memory, is lost.
+#[derive(Drop)]
+pub struct Kept {
+    alloc: Global,
+    devices: Vec<Sequence<u8>>,
+    most: usize,
+    all: Vec<(Sequence<u8>, StoredPacket)>,
+    tried: Trials,
+}
+
+impl Model for Kept {
+    ghost use Rattle.std.specs.Prelude.{◌≡◌, List};
+    ghost use Rattle.click_links.specs.Ends.{Attempt, gone};
+
+    ghost Value = { List Attempt };
+
+    ghost view = { λ k. k.tried };
+
+    ghost invariant = { λ k. k.all.items ≡ gone k.tried };
+}
+
+impl Kept {
+    ghost use Rattle.click_links.specs.Ends.{gone};
+
+    /// Room for so many packets of these devices, of which none was sent.
+    pub fn new(alloc: Global, devices: Vec<Sequence<u8>>, most: usize) -> Kept
+        ensures { result ≡ [] }
+    {
+        Kept {
+            alloc,
+            devices,
+            most,
+            all: Vec::new(alloc),
+            tried: Trials::new(),
+        }
+    }
+
+    /// The packets that went out, oldest first, each with its device.
+    pub fn packets(&self) -> &[(Sequence<u8>, StoredPacket)]
+        ensures { result.now ≡ gone self.now }
+    {
+        self.all.as_slice()
+    }
+}
+
+impl Outbound for Kept {
+    ghost tried = { λ k. k };
+
+    fn send(&mut self, device: &Sequence<u8>, packet: &StoredPacket) -> bool {
+        let open = has_device(self.devices.as_slice(), device) & (self.all.len() < self.most);
+        let went = keep(self.alloc, open, &mut self.all, device, packet);
+        self.tried.add(device, packet, went);
+        went
+    }
+}
+
+fn has_device(devices: &[Sequence<u8>], device: &Sequence<u8>) -> bool {
+    devices
+        .iter()
+        .any(|name| name.as_slice() == device.as_slice())
+}
+
+/// Keeps a copy of the packet, with its device, where it may and there is memory for it. Says whether it did.
+fn keep(
+    alloc: Global,
+    open: bool,
+    all: &mut Vec<(Sequence<u8>, StoredPacket)>,
+    device: &Sequence<u8>,
+    packet: &StoredPacket,
+) -> bool
+    ensures { all.new.items ≡ all.old.items ++ (if result then (device.now, packet.now) ∷ [] else []) }
+{
+    if !open {
+        return false;
+    }
+    match copies(alloc, device, packet) {
+        Ok(copies) => all.push(copies).is_ok(),
+        Err(_) => false,
+    }
+}
+
+fn copies(
+    alloc: Global,
+    device: &Sequence<u8>,
+    packet: &StoredPacket,
+) -> Result<(Sequence<u8>, StoredPacket), AllocError>
+    ensures { IfOk result (λ r. (r.0 ≡ device.now) × (r.1 ≡ packet.now)) }
+{
+    let device = Sequence::of(Vec::from_slice(alloc, device.as_slice())?);
+    Ok((device, packet.copy(alloc)?))
+}

@@ -1,0 +1,138 @@
+//! What comes is put in a feed.
+
+ghost use Rattle.std.specs.Prelude.{◌≡◌, ◌-◌, ◌^◌, ◌++◌, ◌∷◌, [], length, IfOk, OnOk, OnErr, MatchOption};
+ghost use Rattle.click_links.specs.Fates.{put_of, asked_of, AllBelow, IsDue, Hears, Steps, Receives, heard};
+ghost use Rattle.click_links.specs.declared.datagram.Datagram.{Datagram as ADatagram};
+
+use crate::counts::Counts;
+use crate::datagram::Fate;
+use crate::dropped::Dropped;
+use crate::intake::Intake;
+use crate::link::{Inbound, LinkFailed};
+use click_packet::{Packet, PacketRoom};
+use std::alloc::Global;
+use std::sync::atomic::{AtomicBool, Ordering};
+use std::thread::Parker;
+
+/// Why a receiver ended.
+#[derive(Clone, Copy, Debug, PartialEq, Eq)]
+pub enum Ended {
+    /// It was told to stop.
+    Stopped,
+    /// The link failed.
+    Link,
+}
+
+/// What became of a receiver.
+#[derive(Clone, Copy, Debug, PartialEq, Eq)]
+pub struct Received {
+    pub dropped: Dropped,
+    pub ended: Ended,
+}
+
+/// Offers the packet of the datagram that came last to the feed, where it is from the peer and short enough, and where there is memory for it.
+fn offer_one<L: Inbound>(alloc: Global, intake: &mut Intake, link: &L) -> Fate
+    ensures ring { (intake.new.feed.ring ≡ intake.old.feed.ring) × (intake.new.feed.places ≡ intake.old.feed.places) }
+    ensures asked { intake.new.asked ≡ intake.old.asked ++ asked_of result (L.current link.now).bytes }
+    ensures put { intake.new.feed.put ≡ intake.old.feed.put ++ put_of result (L.current link.now).bytes }
+    ensures due { IsDue intake.old.feed.places (length intake.old.feed.put) (L.current link.now) result }
+{
+    if !link.is_known() {
+        return Fate::Stranger;
+    }
+    let Ok(packet) = Packet::of(link.bytes()) else {
+        return Fate::TooLong;
+    };
+    match PacketRoom::new(alloc) {
+        Ok(room) => {
+            if intake.offer(room, &packet) {
+                Fate::Put
+            } else {
+                Fate::NoRoom
+            }
+        }
+        Err(_) => Fate::NoMemory,
+    }
+}
+
+/// Waits for a datagram, and offers its packet to the feed.
+fn receive_one<L: Inbound>(
+    alloc: Global,
+    intake: &mut Intake,
+    link: &mut L,
+) -> Result<Option<Fate>, LinkFailed>
+    ensures ok { IfOk result (λ one. MatchOption one
+        ((L.came link.new ≡ L.came link.old) × (intake.new ≡ intake.old))
+        (λ fate. (datagram : ADatagram) × Hears (L.came link.old) (L.came link.new) intake.old intake.new (heard datagram fate ∷ []))) }
+    ensures err { OnErr result ((L.came link.new ≡ L.came link.old) × (intake.new ≡ intake.old)) }
+{
+    match link.receive() {
+        Ok(true) => Ok(Some(offer_one(alloc, intake, link))),
+        Ok(false) => Ok(None),
+        Err(_) => Err(LinkFailed),
+    }
+}
+
+/// Counts a datagram, and wakes whoever takes the packets where its packet was put.
+fn tell(fate: Fate, wake: &Parker, counts: &Counts) {
+    counts.came(fate);
+    if fate == Fate::Put {
+        wake.unpark();
+    }
+}
+
+/// Waits for a datagram, counts it, and wakes whoever takes the packets where its packet was put.
+fn receive_next<L: Inbound>(
+    alloc: Global,
+    intake: &mut Intake,
+    link: &mut L,
+    wake: &Parker,
+    counts: &Counts,
+    dropped: &mut Dropped,
+) -> Result<(), LinkFailed>
+    requires { AllBelow dropped.old (2 ^ 64 - 1) }
+    ensures ok { OnOk result (Steps (L.came link.old) (L.came link.new) intake.old intake.new dropped.old dropped.new) }
+    ensures err { OnErr result ((L.came link.new ≡ L.came link.old) × (intake.new ≡ intake.old) × (dropped.new ≡ dropped.old)) }
+{
+    match receive_one(alloc, intake, link) {
+        Ok(None) => Ok(()),
+        Ok(Some(fate)) => {
+            dropped.add(fate);
+            tell(fate, wake, counts);
+            Ok(())
+        }
+        Err(failed) => Err(failed),
+    }
+}
+
+/// Puts what comes in a feed, until told to stop or the link fails. It waits for nobody but the link, counts each datagram, and wakes whoever takes the packets after each that it put.
+pub fn receive<L: Inbound>(
+    alloc: Global,
+    intake: &mut Intake,
+    link: &mut L,
+    stop: &AtomicBool,
+    wake: &Parker,
+    counts: &Counts,
+) -> Received
+    ensures { Receives (L.came link.old) (L.came link.new) intake.old intake.new result.dropped }
+{
+    let mut dropped = Dropped::none();
+    for _ in 0..u64::MAX {
+        if stop.load(Ordering::SeqCst) {
+            break;
+        }
+        match receive_next(alloc, intake, link, wake, counts, &mut dropped) {
+            Ok(()) => {}
+            Err(LinkFailed) => {
+                return Received {
+                    dropped,
+                    ended: Ended::Link,
+                };
+            }
+        }
+    }
+    Received {
+        dropped,
+        ended: Ended::Stopped,
+    }
+}

@@ -1,0 +1,122 @@
+//! A sweep over the devices of all links.
+
+ghost use Rattle.std.specs.Prelude.{◌≡◌, ◌↔◌, ◌<◌, ◌++◌, ◌∷◌, [], ℕ, IsTrue, IfOk, OnErr};
+ghost use Rattle.std.specs.List.{All};
+ghost use Rattle.click_links.specs.Turns.{SameSeat, IsIdleTurn, names_of};
+ghost use Rattle.click_links.specs.Forwarding.{Forwards};
+ghost use Rattle.click_links.specs.Sweeps.{EachTurn, Rounds, RoundsUntil, IsSweep, count_worked, round};
+ghost use Rattle.click_router.specs.declared.call.Reply.{Reply as AReply};
+
+use crate::device::Device;
+use crate::link::Outbound;
+use crate::turns::{Turn, forward};
+use click_desk::{Desk, DeskFault, Seat};
+use click_router::Handlers;
+use std::alloc::Global;
+use std::sync::Wait;
+
+/// The most Rounds that a sweep makes.
+const MOST_ROUNDS: u64 = 16;
+
+/// What a sweep did.
+#[derive(Drop)]
+pub struct Swept {
+    /// The turn of each device, in the devices' order.
+    pub turns: Vec<Turn>,
+    /// How many Rounds had work.
+    pub rounds: u64,
+    /// It made as many Rounds as it may, and there may be more work.
+    pub more: bool,
+}
+
+impl Swept {
+    /// No packet entered and none was sent, and no Round had work.
+    pub fn is_idle(&self) -> bool
+        ensures { IsTrue result ↔ (All IsIdleTurn self.now.turns.items × (self.now.rounds ≡ 0)) }
+    {
+        self.turns.iter().all(|turn| turn.is_idle()) && self.rounds == 0
+    }
+}
+
+/// One turn of each device, in order, each of which is listed in `turns`.
+fn forward_each<T: Handlers, S: Outbound, R: Wait>(
+    rt: &R,
+    alloc: Global,
+    desk: &Desk<T, &R>,
+    seat: &mut Seat<T>,
+    devices: &[Device],
+    sender: &mut S,
+) -> Result<Vec<Turn>, DeskFault>
+    requires { seat.old.desk ≡ desk.now }
+    ensures same { SameSeat seat.old seat.new }
+    ensures ok { IfOk result (λ turns. EachTurn (names_of devices.now) seat.old.feeds seat.old.calls seat.new.calls (S.tried sender.old) (S.tried sender.new) turns.items) }
+    ensures forwards { Forwards (names_of devices.now) seat.old.calls seat.new.calls (S.tried sender.old) (S.tried sender.new) }
+{
+    let Ok(mut turns) = Vec::with_capacity(alloc, devices.len()) else {
+        return Err(DeskFault::NoMemory);
+    };
+    for device in devices {
+        let turn = forward(rt, alloc, desk, seat, device, sender)?;
+        turns.push_reserved(turn);
+    }
+    Ok(turns)
+}
+
+/// One Round. Says whether it had work.
+fn round_once<T: Handlers, R: Wait>(
+    rt: &R,
+    desk: &Desk<T, &R>,
+    seat: &mut Seat<T>,
+) -> Result<bool, DeskFault>
+    requires { seat.old.desk ≡ desk.now }
+    ensures same { SameSeat seat.old seat.new }
+    ensures ok { IfOk result (λ worked. (reply : AReply) × (seat.new.calls ≡ seat.old.calls ++ round reply ∷ []) × (IsTrue worked ↔ (0 < count_worked reply))) }
+    ensures err { OnErr result (seat.new.calls ≡ seat.old.calls) }
+{
+    Ok(desk.round(rt, seat)? > 0)
+}
+
+/// Rounds until one has no work, or as many as a sweep may make. Says how many had work, and whether there may be more.
+fn round_on<T: Handlers, R: Wait>(
+    rt: &R,
+    desk: &Desk<T, &R>,
+    seat: &mut Seat<T>,
+) -> Result<(u64, bool), DeskFault>
+    requires { seat.old.desk ≡ desk.now }
+    ensures same { SameSeat seat.old seat.new }
+    ensures ok { IfOk result (λ r. RoundsUntil seat.old.calls seat.new.calls r.0 r.1) }
+    ensures err { OnErr result ((count : ℕ) × Rounds seat.old.calls seat.new.calls count) }
+{
+    for count in 0..MOST_ROUNDS {
+        match round_once(rt, desk, seat) {
+            Ok(true) => {}
+            Ok(false) => return Ok((count, false)),
+            Err(fault) => return Err(fault),
+        }
+    }
+    Ok((MOST_ROUNDS, true))
+}
+
+/// A sweep: one turn of each device, in order, as `forward` makes it, and then Rounds while they have work, at most 16. Where the desk refuses a call, or there is no memory to list the turns,
+/// it breaks off, and nothing is lost by that.
+pub fn sweep<T: Handlers, S: Outbound, R: Wait>(
+    rt: &R,
+    alloc: Global,
+    desk: &Desk<T, &R>,
+    seat: &mut Seat<T>,
+    devices: &[Device],
+    sender: &mut S,
+) -> Result<Swept, DeskFault>
+    requires { seat.old.desk ≡ desk.now }
+    ensures same { SameSeat seat.old seat.new }
+    ensures ok { IfOk result (λ s. IsSweep (names_of devices.now) seat.old.feeds seat.old.calls seat.new.calls (S.tried sender.old) (S.tried sender.new) s.turns.items s.rounds s.more) }
+    ensures forwards { Forwards (names_of devices.now) seat.old.calls seat.new.calls (S.tried sender.old) (S.tried sender.new) }
+{
+    let turns = forward_each(rt, alloc, desk, seat, devices, sender)?;
+    let (rounds, more) = round_on(rt, desk, seat)?;
+    Ok(Swept {
+        turns,
+        rounds,
+        more,
+    })
+}

@@ -1,0 +1,190 @@
+//! What a device gives goes out.
+
+ghost use Rattle.std.specs.Prelude.{◌≡◌, ◌↔◌, ◌<◌, ◌+◌, ◌^◌, ◌++◌, ◌∷◌, [], List, IsTrue, IfOk, IfErr, OnErr, MatchOption};
+ghost use Rattle.click_packet.specs.Packet.{Packet as APacket};
+ghost use Rattle.click_router.specs.declared.call.Reply.{Reply as AReply};
+ghost use Rattle.click_router.specs.Polls.{poll, transmit as transmits};
+ghost use Rattle.click_desk.specs.Polls.{MayTake};
+ghost use Rattle.click_links.specs.Ends.{attempt};
+ghost use Rattle.click_links.specs.Turns.{SameSeat, GivesNone, Sends, Breaks, SendsUntil, IsTurn, IsBroken, IsIdleTurn, tallied, count_entered};
+ghost use Rattle.click_links.specs.Forwarding.{Forwards};
+
+use crate::device::Device;
+use crate::link::Outbound;
+use click_desk::{Desk, DeskFault, Seat};
+use click_router::{Call, Handlers, Kept, Recorded, Reply};
+use click_text::sequence::Sequence;
+use std::alloc::Global;
+use std::sync::Wait;
+
+/// The most packets that a turn takes from the feed.
+const MOST_POLLED: usize = 32;
+
+/// The most packets that a turn sends.
+const MOST_SENT: u64 = 256;
+
+/// How many packets were sent.
+#[derive(Clone, Copy, Debug, PartialEq, Eq)]
+pub struct Tally {
+    /// These went out.
+    pub went: u64,
+    /// These were lost.
+    pub lost: u64,
+}
+
+impl Tally {
+    fn add(&mut self, went: bool)
+        requires { (self.old.went + 1 < 2 ^ 64) × (self.old.lost + 1 < 2 ^ 64) }
+        ensures { self.new ≡ tallied self.old went }
+    {
+        if went {
+            self.went += 1;
+        } else {
+            self.lost += 1;
+        }
+    }
+}
+
+/// What a turn did.
+#[derive(Clone, Copy, Debug, PartialEq, Eq)]
+pub struct Turn {
+    /// How many packets of the feed entered the router.
+    pub entered: u64,
+    pub tally: Tally,
+    /// It sent as many packets as it may, and the device may have more.
+    pub more: bool,
+}
+
+impl Turn {
+    /// Nothing entered and nothing was sent.
+    pub fn is_idle(&self) -> bool
+        ensures { IsTrue result ↔ IsIdleTurn self.now }
+    {
+        self.entered == 0 && self.tally.went == 0 && self.tally.lost == 0
+    }
+}
+
+fn entered_of(reply: &Reply) -> u64
+    ensures { result ≡ count_entered reply.now }
+{
+    match reply {
+        Reply::Entered(count) => *count,
+        _ => 0,
+    }
+}
+
+/// Takes packets from the feed of the device. Says how many entered.
+fn take_in<T: Handlers, R: Wait>(
+    rt: &R,
+    desk: &Desk<T, &R>,
+    seat: &mut Seat<T>,
+    device: &Device,
+) -> Result<u64, DeskFault>
+    requires { seat.old.desk ≡ desk.now }
+    ensures same { SameSeat seat.old seat.new }
+    ensures ok { IfOk result (λ entered. (taken : List APacket) × (polled : AReply) × MayTake seat.new.feeds device.now.name 32 taken polled
+        × (seat.new.calls ≡ seat.old.calls ++ (poll device.now.name taken, polled) ∷ []) × (entered ≡ count_entered polled)) }
+    ensures err { OnErr result (seat.new.calls ≡ seat.old.calls) }
+{
+    let reply = desk.poll(rt, seat, device.name.as_slice(), MOST_POLLED)?;
+    let entered = entered_of(&reply);
+    device.counts.enter(entered);
+    Ok(entered)
+}
+
+/// Asks the device for a packet.
+fn transmit<T: Handlers, R: Wait>(
+    rt: &R,
+    alloc: Global,
+    desk: &Desk<T, &R>,
+    seat: &mut Seat<T>,
+    device: &Sequence<u8>,
+) -> Result<Recorded, DeskFault>
+    requires { seat.old.desk ≡ desk.now }
+    ensures same { SameSeat seat.old seat.new }
+    ensures ok { IfOk result (λ reply. seat.new.calls ≡ seat.old.calls ++ (transmits device.now, reply) ∷ []) }
+    ensures err { OnErr result (seat.new.calls ≡ seat.old.calls) }
+{
+    let Ok(name) = Vec::from_slice(alloc, device.as_slice()) else {
+        return Err(DeskFault::NoMemory);
+    };
+    let device = Sequence::of(name);
+    desk.record(rt, seat, Call::Transmit { device })
+}
+
+/// Sends the next packet that the device gives. Says whether it went out, or that the device gave none.
+fn send_one<T: Handlers, S: Outbound, R: Wait>(
+    rt: &R,
+    alloc: Global,
+    desk: &Desk<T, &R>,
+    seat: &mut Seat<T>,
+    device: &Device,
+    sender: &mut S,
+) -> Result<Option<bool>, DeskFault>
+    requires { seat.old.desk ≡ desk.now }
+    ensures same { SameSeat seat.old seat.new }
+    ensures ok { IfOk result (λ one. MatchOption one
+        ((reply : AReply) × GivesNone reply × (seat.new.calls ≡ seat.old.calls ++ (transmits device.now.name, reply) ∷ []) × (S.tried sender.new ≡ S.tried sender.old))
+        (λ went. (packet : APacket) × Sends device.now.name seat.old.calls seat.new.calls (S.tried sender.old) (S.tried sender.new) (attempt device.now.name packet went ∷ []))) }
+    ensures err { OnErr result ((seat.new.calls ≡ seat.old.calls) × (S.tried sender.new ≡ S.tried sender.old)) }
+{
+    let reply = transmit(rt, alloc, desk, seat, &device.name)?;
+    match reply.kept() {
+        Kept::Sent(packet) => {
+            let went = sender.send(&device.name, packet);
+            device.counts.tried(went);
+            Ok(Some(went))
+        }
+        _ => Ok(None),
+    }
+}
+
+/// Sends until the device gives none, or as many as a turn may. Says how many, and whether there may be more.
+fn send_all<T: Handlers, S: Outbound, R: Wait>(
+    rt: &R,
+    alloc: Global,
+    desk: &Desk<T, &R>,
+    seat: &mut Seat<T>,
+    device: &Device,
+    sender: &mut S,
+) -> Result<(Tally, bool), DeskFault>
+    requires { seat.old.desk ≡ desk.now }
+    ensures same { SameSeat seat.old seat.new }
+    ensures ok { IfOk result (λ r. SendsUntil device.now.name seat.old.calls seat.new.calls (S.tried sender.old) (S.tried sender.new) r.0 r.1) }
+    ensures err { OnErr result (Breaks device.now.name seat.old.calls seat.new.calls (S.tried sender.old) (S.tried sender.new)) }
+{
+    let mut tally = Tally { went: 0, lost: 0 };
+    for _ in 0..MOST_SENT {
+        match send_one(rt, alloc, desk, seat, device, sender) {
+            Ok(Some(went)) => tally.add(went),
+            Ok(None) => return Ok((tally, false)),
+            Err(fault) => return Err(fault),
+        }
+    }
+    Ok((tally, true))
+}
+
+/// One turn: up to 32 packets of the device's feed enter the router, in one poll, and then packets that the device gives are sent, until it gives none, or 256. A send that fails costs its packet alone.
+/// Where the desk refuses a call, the turn breaks off, and nothing is lost by that.
+pub fn forward<T: Handlers, S: Outbound, R: Wait>(
+    rt: &R,
+    alloc: Global,
+    desk: &Desk<T, &R>,
+    seat: &mut Seat<T>,
+    device: &Device,
+    sender: &mut S,
+) -> Result<Turn, DeskFault>
+    requires { seat.old.desk ≡ desk.now }
+    ensures same { SameSeat seat.old seat.new }
+    ensures ok { IfOk result (λ turn. IsTurn device.now.name seat.old.feeds seat.old.calls seat.new.calls (S.tried sender.old) (S.tried sender.new) turn) }
+    ensures err { OnErr result (IsBroken device.now.name seat.old.feeds seat.old.calls seat.new.calls (S.tried sender.old) (S.tried sender.new)) }
+    ensures forwards { Forwards (device.now.name ∷ []) seat.old.calls seat.new.calls (S.tried sender.old) (S.tried sender.new) }
+{
+    let entered = take_in(rt, desk, seat, device)?;
+    let (tally, more) = send_all(rt, alloc, desk, seat, device, sender)?;
+    Ok(Turn {
+        entered,
+        tally,
+        more,
+    })
+}

@@ -1,0 +1,244 @@
+//! Links over UDP.
+
+ghost use Rattle.std.specs.Prelude.{◌≡◌, ◌≤◌, ◌↔◌, vec_len, ◌++◌, ◌∷◌, [], map, option_map, take, true, false, None, IfOk, OnOk, OnErr, if◌then◌else◌};
+ghost use Rattle.click_links.specs.Ends.{attempt, line_of as line_for};
+
+use crate::link::{Inbound, LinkFailed, Outbound};
+use crate::trials::Trials;
+use click_packet::StoredPacket;
+use click_text::sequence::Sequence;
+use http_server::Log;
+use std::alloc::Global;
+use std::io;
+use std::io::ErrorKind;
+use std::marker::Model;
+use std::net::{Net, SocketAddr, UdpSocket};
+use std::time::Duration;
+
+/// More bytes than a datagram has, so that none is cut.
+const ROOM: usize = 65536;
+
+/// The system's numbers for faults that pass and have no name in `ErrorKind`: want of memory (12), a fault of the protocol (71), a message that is too long (90), no such protocol there (92), want of
+/// buffers (105), and a host that is down (112).
+const PASSING: [i32; 6] = [12, 71, 90, 92, 105, 112];
+
+/// A socket, where it was asked for, its peer, and the datagram that was read last.
+#[derive(Drop)]
+struct Ear {
+    socket: UdpSocket,
+    here: SocketAddr,
+    peer: SocketAddr,
+    buffer: Vec<u8>,
+    len: usize,
+    from: SocketAddr,
+    known: bool,
+    ghost fits: { len ≤ vec_len buffer },
+    ghost named: { (known ≡ true) ↔ (from ≡ peer) },
+}
+
+/// Waits for a datagram.
+fn listen(ear: &mut Ear) -> io::Result<()>
+    ensures { (ear.new.here ≡ ear.old.here) × (ear.new.peer ≡ ear.old.peer) }
+{
+    let (len, from) = ear.socket.recv_from(ear.buffer.as_mut_slice())?;
+    ear.len = len;
+    ear.from = from;
+    ear.known = from == ear.peer;
+    Ok(())
+}
+
+fn heard(ear: &Ear) -> &[u8]
+    ensures { result.now ≡ take ear.now.len ear.now.buffer.items }
+{
+    &ear.buffer.as_slice()[..ear.len]
+}
+
+/// The end at which datagrams come to a socket.
+#[derive(Drop)]
+pub struct UdpIn {
+    ear: Ear,
+    came: Log<Ear, ()>,
+}
+
+impl Model for UdpIn {
+    ghost use Rattle.std.specs.Prelude.{map, take};
+    ghost use Rattle.click_links.specs.Ends.{Hearing};
+
+    ghost Value = { Hearing };
+
+    ghost view = { λ u. record { here = u.ear.here; there = u.ear.peer; came = map (λ p. record { bytes = take p.0.len p.0.buffer.items; known = p.0.known }) u.came.items; current = record { bytes = take u.ear.len u.ear.buffer.items; known = u.ear.known } } };
+}
+
+impl Inbound for UdpIn {
+    ghost came = { λ u. u.came };
+
+    ghost current = { λ u. u.current };
+
+    fn receive(&mut self) -> Result<bool, LinkFailed>
+        ensures ok { IfOk result (λ one. self.new.came ≡ self.old.came ++ (if one then self.new.current ∷ [] else [])) }
+        ensures err { OnErr result (self.new.came ≡ self.old.came) }
+        ensures places { (self.new.here ≡ self.old.here) × (self.new.there ≡ self.old.there) }
+    {
+        match listen(&mut self.ear) {
+            Ok(()) => {
+                self.came = self.came.and(&self.ear, &());
+                Ok(true)
+            }
+            Err(fault) => {
+                if is_passing(&fault) {
+                    Ok(false)
+                } else {
+                    Err(LinkFailed)
+                }
+            }
+        }
+    }
+
+    fn bytes(&self) -> &[u8] {
+        heard(&self.ear)
+    }
+
+    fn is_known(&self) -> bool {
+        self.ear.known
+    }
+}
+
+/// The link of a device as packets go out over it: a socket, where it was asked for, and its peer.
+#[derive(Drop)]
+pub struct UdpLine {
+    device: Sequence<u8>,
+    socket: UdpSocket,
+    here: SocketAddr,
+    peer: SocketAddr,
+}
+
+impl Model for UdpLine {
+    ghost use Rattle.click_links.specs.Ends.{Line};
+
+    ghost Value = { Line };
+
+    ghost view = { λ l. record { device = l.device; here = l.here; there = l.peer } };
+}
+
+impl UdpLine {
+    /// Sends the bytes to the peer as one datagram. Says whether all of them went out.
+    fn send(&self, bytes: &[u8]) -> bool {
+        matches!(self.socket.send_to(bytes, self.peer), Ok(len) if len == bytes.len())
+    }
+}
+
+/// The line of the device: the first that has it.
+fn line_of<'a>(lines: &'a [UdpLine], device: &[u8]) -> Option<&'a UdpLine>
+    ensures { option_map (λ l. l.now) result ≡ line_for device.now lines.now }
+{
+    match lines {
+        [] => None,
+        [first, rest @ ..] => {
+            if first.device.as_slice() == device {
+                Some(first)
+            } else {
+                line_of(rest, device)
+            }
+        }
+    }
+}
+
+/// The end at which packets go out over UDP, each from the socket of its device's link to that link's peer.
+#[derive(Drop)]
+pub struct UdpOut {
+    lines: Vec<UdpLine>,
+    tried: Trials,
+}
+
+impl Model for UdpOut {
+    ghost use Rattle.click_links.specs.Ends.{Sending};
+
+    ghost Value = { Sending };
+
+    ghost view = { λ u. record { lines = u.lines.items; tried = u.tried } };
+}
+
+impl UdpOut {
+    /// Over these lines, of which each has a device of its own; where two have one, the first of them. Nothing was sent.
+    pub fn of(lines: Vec<UdpLine>) -> UdpOut
+        ensures { result ≡ record { lines = lines.items; tried = [] } }
+    {
+        UdpOut {
+            lines,
+            tried: Trials::new(),
+        }
+    }
+}
+
+impl Outbound for UdpOut {
+    ghost tried = { λ u. u.tried };
+
+    fn send(&mut self, device: &Sequence<u8>, packet: &StoredPacket) -> bool
+        ensures tried { self.new.tried ≡ self.old.tried ++ attempt device.now packet.now result ∷ [] }
+        ensures lines { self.new.lines ≡ self.old.lines }
+        ensures none { line_for device.now self.old.lines ≡ None → result ≡ false }
+    {
+        let went = match line_of(self.lines.as_slice(), device.as_slice()) {
+            Some(line) => line.send(packet.bytes()),
+            None => false,
+        };
+        self.tried.add(device, packet, went);
+        went
+    }
+}
+
+/// Whether a fault of a socket is no failure of the link: the time is over, nobody is there now or can be reached, or the system is short of room. Each of them is over once it was told,
+/// or comes after a wait.
+fn is_passing(fault: &io::Error) -> bool {
+    match fault.kind() {
+        ErrorKind::WouldBlock
+        | ErrorKind::TimedOut
+        | ErrorKind::Interrupted
+        | ErrorKind::ConnectionRefused
+        | ErrorKind::ConnectionReset
+        | ErrorKind::HostUnreachable
+        | ErrorKind::NetworkUnreachable
+        | ErrorKind::NetworkDown => true,
+        _ => match fault.raw_os_error() {
+            Some(number) => PASSING.contains(&number),
+            None => false,
+        },
+    }
+}
+
+/// A link of the device over a socket of the address with a peer: the end at which datagrams come, and the line by which packets go out. Neither
+/// waits longer than so many milliseconds, 1 or more, for a datagram or for room to send one. The clauses say for which address the socket was asked; no clause of the system's sockets says which one it has.
+pub fn open_udp<R: Net>(
+    net: &R,
+    alloc: Global,
+    device: Sequence<u8>,
+    address: SocketAddr,
+    peer: SocketAddr,
+    millis: u64,
+) -> io::Result<(UdpIn, UdpLine)>
+    ensures came { IfOk result (λ ends. ends.0.came ≡ []) }
+    ensures end { IfOk result (λ ends. (ends.0.here ≡ address) × (ends.0.there ≡ peer)) }
+    ensures line { IfOk result (λ ends. ends.1 ≡ record { device = device; here = address; there = peer }) }
+{
+    let socket = UdpSocket::bind(net, address)?;
+    let longest = Some(Duration::from_millis(millis));
+    socket.set_read_timeout(longest)?;
+    socket.set_write_timeout(longest)?;
+    let line = UdpLine {
+        device,
+        socket: socket.try_clone()?,
+        here: address,
+        peer,
+    };
+    let ear = Ear {
+        socket,
+        here: address,
+        peer,
+        buffer: vec![in alloc; 0u8; ROOM]?,
+        len: 0,
+        from: peer,
+        known: true,
+    };
+    let came = Log::new();
+    Ok((UdpIn { ear, came }, line))
+}

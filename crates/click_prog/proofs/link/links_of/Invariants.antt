@@ -1,0 +1,8 @@
+use Rattle.std.proofs.Common.{take}
+use Rattle.std.specs.List.{AllPairs, AllZip}
+use Rattle.click_prog.specs.Links.{AreApart}
+use Rattle.click_prog.proofs.Linked.{Spells}
+use Rattle.click_prog.proofs.link.links_of.Given as goal
+
+abbrev pub invariant-loop-value : goal.invariant-loop-value
+invariant-loop-value l = record { each : AllZip Spells (take l.value-index l.values) l.links.items; apart : AllPairs AreApart l.links.items }

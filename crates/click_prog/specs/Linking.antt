@@ -1,0 +1,58 @@
+-- A run with links, and its status.
+use Rattle.std.specs.Prelude.{◌≡◌, ◌⊎◌, ℕ, ◌+◌, ◌++◌, List, Bool, Option, None, map, option_map}
+use Rattle.click_control.specs.Peers.{Input, Output}
+use Rattle.click_desk.specs.Booklet.{Booklet}
+use Rattle.click_desk.specs.declared.open.OpenFault.{OpenFault}
+use Rattle.click_links.specs.Ends.{Attempt, Hearing}
+use Rattle.click_links.specs.Forwarding.{sent_by, gifts_by}
+use Rattle.click_links.specs.declared.run.Receiving.{Receiving}
+use Rattle.click_workers.specs.Linked.{calls_in, LinkedHeadline, LinkedWork, LinkRan, IsTrueOpening}
+use Rattle.click_workers.specs.Work.{AttendedInTurn, DroveFor, SideBySide}
+use Rattle.click_workers.specs.declared.linked.LinkEnd.{LinkEnd}
+use Rattle.click_workers.specs.declared.session.SessionEnd.{SessionEnd}
+use Rattle.click_prog.specs.Running.{Planned}
+use Rattle.click_prog.specs.Statuses.{opening_status, sessions_status}
+use Rattle.click_prog.specs.declared.status.Status.{Status}
+use Rattle.click_prog.specs.declared.status.Status.TheVariants as status
+
+-- Places for sessions, drivers and a forwarder of these receivers' devices were at one desk of this text that keeps nothing, each with a seat of its own, at a gate that they share; each place served so many sessions,
+-- one after another; there is one history of one thread with just their calls and replies. By the link of each device just the packets of the replies to its Transmits in that history were sent, in order, after those
+-- that were; and what each receiver heard is what was dropped for its cause, what the history polled of its device, and what is left.
+pub record HasLinked {D Rd Wr G : Type 0} (lets_in : D → ℕ → Option (Rd × Wr) → Type 0) (input : Rd → Input) (output : Wr → Output) (gives : G → ℕ → ℕ → Bool → Type 0)
+    (told : G → ℕ → ℕ → Type 0) (door : D) (readonly : Bool) (text : List ℕ) (places workers turns : ℕ) (receivers : List (Receiving Hearing)) (before : List Attempt) (book : Booklet) (ended : List SessionEnd)
+    (drivers : List Bool) (after : List Attempt) (ends : List (LinkEnd Hearing)) : Type 0 where
+  pub gate : G
+  pub headline : LinkedHeadline (map (λ (r : Receiving Hearing). r.device) receivers) text (places + workers + 1) book
+  pub worked : LinkedWork (AttendedInTurn lets_in input output gives told door gate readonly turns) (DroveFor gives told gate None) places workers (map (λ (r : Receiving Hearing). r.device) receivers) before after book.seats ended drivers
+  pub sent : (device : List ℕ) → sent_by device after ≡ sent_by device before ++ gifts_by device (calls_in book.entries)
+  pub links : SideBySide (λ (r : Receiving Hearing) (e : LinkEnd Hearing). (e.device ≡ r.device) × LinkRan book.entries r.device r.link.came e.link.came e.received.dropped (option_map (λ l. l.items) e.left)) receivers ends
+
+-- the same, and the status is that of the places' last sessions
+pub record HaveLinked {D Rd Wr G : Type 0} (lets_in : D → ℕ → Option (Rd × Wr) → Type 0) (input : Rd → Input) (output : Wr → Output) (gives : G → ℕ → ℕ → Bool → Type 0)
+    (told : G → ℕ → ℕ → Type 0) (door : D) (readonly : Bool) (text : List ℕ) (places workers turns : ℕ) (receivers : List (Receiving Hearing)) (before : List Attempt) (s : Status) : Type 0 where
+  pub book : Booklet
+  pub ended : List SessionEnd
+  pub drivers : List Bool
+  pub after : List Attempt
+  pub ends : List (LinkEnd Hearing)
+  pub ran : HasLinked lets_in input output gives told door readonly text places workers turns receivers before book ended drivers after ends
+  pub is : s ≡ sessions_status ended
+
+-- There was no desk of so many seats with links of these devices, and the status is that of the fault.
+pub record HaveNotLinked (seats : ℕ) (devices : List (List ℕ)) (text : List ℕ) (s : Status) : Type 0 where
+  pub fault : OpenFault
+  pub true_fault : IsTrueOpening seats devices text fault
+  pub is : s ≡ opening_status fault
+
+-- A run with links, none, or no memory to begin.
+abbrev pub LinkedRunTo : {D Rd Wr G : Type 0} → (D → ℕ → Option (Rd × Wr) → Type 0) → (Rd → Input) → (Wr → Output) → (G → ℕ → ℕ → Bool → Type 0) → (G → ℕ → ℕ → Type 0)
+    → D → Bool → List ℕ → ℕ → ℕ → ℕ → List (Receiving Hearing) → List Attempt → Status → Type 0
+LinkedRunTo lets_in input output gives told door readonly text places workers turns receivers before s =
+    HaveLinked lets_in input output gives told door readonly text places workers turns receivers before s
+    ⊎ HaveNotLinked (places + workers + 1) (map (λ (r : Receiving Hearing). r.device) receivers) text s ⊎ (s ≡ status.NoMemory)
+
+-- the same as a plan has it, at some door of this kind
+abbrev pub PlanLinksTo : {D Rd Wr G : Type 0} → (D → ℕ → Option (Rd × Wr) → Type 0) → (Rd → Input) → (Wr → Output) → (G → ℕ → ℕ → Bool → Type 0) → (G → ℕ → ℕ → Type 0)
+    → Planned → List ℕ → ℕ → List (Receiving Hearing) → List Attempt → Status → Type 0
+PlanLinksTo {D} {Rd} {Wr} {G} lets_in input output gives told plan text turns receivers before s =
+    (door : D) × LinkedRunTo lets_in input output gives told door plan.readonly text plan.sessions plan.workers turns receivers before s

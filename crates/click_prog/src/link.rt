@@ -1,0 +1,116 @@
+//! Links, as a command line names them: devices whose packets are datagrams between two places.
+
+ghost use Rattle.std.specs.Prelude.{◌≡◌, IfOk, IfErr, MatchOption, map};
+ghost use Rattle.std.specs.List.{list_any};
+ghost use Rattle.std.specs.Str.{bytes_eq};
+ghost use Rattle.click_prog.specs.Links.{AreLinks, IsAddressed, IsLink, IsLinkFault, IsNoLink, IsNoPlace, IsPlace, IsUnaddressed};
+
+use crate::number::number_in;
+use std::alloc::{AllocFailed, Global};
+use std::net::{Ipv4Addr, SocketAddrV4};
+
+/// How many links a router has at most.
+const MOST_LINKS: usize = 16;
+
+/// A device, and the two places between which its packets are datagrams.
+#[derive(Clone, Copy, Debug)]
+pub struct Link<'a> {
+    /// The device, as FromDevice and ToDevice name it.
+    pub device: &'a str,
+    /// Where its datagrams come in.
+    pub here: SocketAddrV4,
+    /// Its peer, to which they go.
+    pub there: SocketAddrV4,
+}
+
+/// Why the values of `--link` are refused.
+#[derive(Debug, Drop, thiserror::Error)]
+pub enum LinkFault<'a> {
+    #[error("out of memory")]
+    NoMemory,
+    /// A value is no link.
+    #[error("--link <DEVICE=HERE,THERE> takes a device and two places, each a port of 127.0.0.1 (1 to 65535) or an IPv4 address with a port (as 10.0.0.1:5000), and '{0}' is none")]
+    NoLink(&'a str),
+    /// Two links are of this device.
+    #[error("--link takes a device once, and '{0}' is given twice")]
+    Twice(&'a str),
+    #[error("--link takes 16 links at most")]
+    TooMany,
+}
+
+impl<T: Drop> From<AllocFailed<T>> for LinkFault<'_> {
+    ghost use Rattle.std.specs.Prelude.{◌≡◌};
+    ghost use Rattle.click_prog.specs.declared.link.LinkFault.TheVariants.{NoMemory};
+
+    ghost from_gives = { λ _ f. f ≡ NoMemory };
+
+    fn from(_refused: AllocFailed<T>) -> Self {
+        LinkFault::NoMemory
+    }
+}
+
+/// The links that values spell, one each, or why they are refused.
+pub fn links_of<'a>(alloc: Global, values: &[&'a str]) -> Result<Vec<Link<'a>>, LinkFault<'a>>
+    ensures links { IfOk result (λ links. AreLinks (map (λ v. v.now) values.now) links.items) }
+    ensures refused { IfErr result (IsLinkFault (map (λ v. v.now) values.now)) }
+{
+    if values.len() > MOST_LINKS {
+        return Err(LinkFault::TooMany);
+    }
+    let mut links = Vec::new(alloc);
+    for value in values {
+        let Some(link) = link_of(value) else {
+            return Err(LinkFault::NoLink(value));
+        };
+        if is_linked(links.as_slice(), link.device) {
+            return Err(LinkFault::Twice(link.device));
+        }
+        links.push(link)?;
+    }
+    Ok(links)
+}
+
+/// Whether one of the links is of this device.
+fn is_linked(links: &[Link], device: &str) -> bool
+    ensures { result ≡ list_any (λ l. bytes_eq l.device.now device.now) links.now }
+{
+    links.iter().any(|link| link.device == device)
+}
+
+/// The link that a value spells, if it spells one.
+fn link_of(value: &str) -> Option<Link<'_>>
+    ensures { MatchOption result (IsNoLink value.now) (IsLink value.now) }
+{
+    let (device, places) = value.split_once('=')?;
+    if device.is_empty() {
+        return None;
+    }
+    let (here, there) = places.split_once(',')?;
+    Some(Link {
+        device,
+        here: place_of(here)?,
+        there: place_of(there)?,
+    })
+}
+
+/// The place that a text names, if it names one.
+fn place_of(text: &str) -> Option<SocketAddrV4>
+    ensures { MatchOption result (IsNoPlace text.now) (IsPlace text.now) }
+{
+    match number_in(text, 1, 65_535) {
+        Some(port) => Some(SocketAddrV4::new(Ipv4Addr::LOCALHOST, port as u16)),
+        None => addressed(text),
+    }
+}
+
+/// The IPv4 address and the port that a text names, if it names both.
+fn addressed(text: &str) -> Option<SocketAddrV4>
+    ensures { MatchOption result (IsUnaddressed text.now) (IsAddressed text.now) }
+{
+    let (address, port) = text.split_once(':')?;
+    let Ok(address) = address.parse::<Ipv4Addr>() else {
+        return None;
+    };
+    let port = number_in(port, 1, 65_535)?;
+    Some(SocketAddrV4::new(address, port as u16))
+}

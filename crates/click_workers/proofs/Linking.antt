@@ -1,0 +1,97 @@
+-- Feeds of links, and lists that go together.
+use Rattle.std.proofs.Common.{◌≡◌, inr, ℕ, true, false, true≢false, List, Option, Some, None, IfSome, option_map, [], ◌∷◌, map, refl, sym, ap, subst, ◌∙◌}
+use Rattle.std.specs.Str.{bytes_eq}
+use Rattle.std.specs.List.{All, AllZip}
+use Rattle.std.proofs.lemmas.List.Elements.{All-nil, All-cons, All-head, All-tail}
+use Rattle.click_rings.specs.Feeds.{Drawing, FeedName, RingName, name_of, has_feed, are_apart}
+use Rattle.click_rings.proofs.Draws.{none_first, none_rest, first_apart, rest_apart, is_itself}
+use Rattle.click_desk.proofs.Settling.{own_ring}
+use Rattle.click_desk.proofs.Viewless.{viewless}
+use Rattle.click_desk.specs.Booklet.{Booklet}
+use Rattle.click_desk.specs.Openings.{IsViewFault}
+use Rattle.click_desk.specs.declared.open.OpenFault.{OpenFault}
+use Rattle.click_workers.specs.Linked.{FitsTaps, IsTrueOpening}
+use Rattle.click_workers.specs.Runs.{HeadlineWith}
+use Rattle.click_workers.specs.Work.{SideBySide}
+
+-- none of these feeds is of the device
+away : (device : List ℕ) (fs : List FeedName) → has_feed device fs ≡ false → All (λ (f : FeedName). device ≡ f.device → ⊥) fs
+away device [] none = All-nil (λ (f : FeedName). device ≡ f.device → ⊥)
+away device (f ∷ fs) none =
+    All-cons (λ (f : FeedName). device ≡ f.device → ⊥) f fs
+    (λ same. let here : bytes_eq f.device device ≡ true = ap (λ d. bytes_eq d device) (sym same) ∙ is_itself device in
+    true≢false (sym here ∙ none_first (bytes_eq f.device device) (has_feed device fs) none))
+    (away device fs (none_rest (bytes_eq f.device device) (has_feed device fs) none))
+
+widen : (t : Drawing) (ts : List Drawing) (fs : List FeedName) → All (λ (f : FeedName). t.device ≡ f.device → ⊥) fs → All (λ (f : FeedName). FitsTaps ts f.device f.ring) fs
+    → All (λ (f : FeedName). FitsTaps (t ∷ ts) f.device f.ring) fs
+widen t ts [] gone fit = All-nil (λ (f : FeedName). FitsTaps (t ∷ ts) f.device f.ring)
+widen t ts (f ∷ fs) gone fit =
+    All-cons (λ (f : FeedName). FitsTaps (t ∷ ts) f.device f.ring) f fs
+    (All-cons (λ (x : Drawing). x.device ≡ f.device → x.ring ≡ f.ring) t ts (λ same. absurd (All-head (λ (f : FeedName). t.device ≡ f.device → ⊥) f fs gone same))
+    (All-head (λ (f : FeedName). FitsTaps ts f.device f.ring) f fs fit))
+    (widen t ts fs (All-tail (λ (f : FeedName). t.device ≡ f.device → ⊥) f fs gone) (All-tail (λ (f : FeedName). FitsTaps ts f.device f.ring) f fs fit))
+
+-- each of the feeds, where no two are of one device, is the one of its device
+pub fits : (taps : List Drawing) → are_apart (map name_of taps) ≡ true → All (λ (f : FeedName). FitsTaps taps f.device f.ring) (map name_of taps)
+fits [] apart = All-nil (λ (f : FeedName). FitsTaps [] f.device f.ring)
+fits (t ∷ ts) apart =
+    All-cons (λ (f : FeedName). FitsTaps (t ∷ ts) f.device f.ring) (name_of t) (map name_of ts)
+    (own_ring (name_of t) (map name_of ts) (t ∷ ts) refl apart)
+    (widen t ts (map name_of ts) (away t.device (map name_of ts) (first_apart t ts apart)) (fits ts (rest_apart t ts apart)))
+
+-- what holds of each image holds of what it is the image of
+pub from-map : {X Y : Type 0} (P : Y → Type 0) (g : X → Y) (xs : List X) → All P (map g xs) → All (λ x. P (g x)) xs
+from-map P g [] h = All-nil (λ x. P (g x))
+from-map P g (x ∷ xs) h = All-cons (λ x. P (g x)) x xs (All-head P (g x) (map g xs) h) (from-map P g xs (All-tail P (g x) (map g xs) h))
+
+-- images that are the same place by place
+pub same-map : {X Y Z : Type 0} (R : X → Y → Type 0) (f : X → Z) (g : Y → Z) → ((x : X) (y : Y) → R x y → g y ≡ f x) → (xs : List X) (ys : List Y) → AllZip R xs ys → map g ys ≡ map f xs
+same-map R f g each [] [] h = refl
+same-map R f g each [] (y ∷ ys) h = absurd h
+same-map R f g each (x ∷ xs) [] h = absurd h
+same-map R f g each (x ∷ xs) (y ∷ ys) h = ap (λ z. z ∷ map g ys) (each x y h.0) ∙ ap (λ l. f x ∷ l) (same-map R f g each xs ys h.1)
+
+-- three lists that go together two by two
+pub weave : {X Y Z : Type 0} (P : X → Type 0) (R : X → Y → Type 0) (Q : Y → Z → Type 0) (S : X → Z → Type 0) → ((x : X) (y : Y) (z : Z) → P x → R x y → Q y z → S x z)
+    → (xs : List X) (ys : List Y) (zs : List Z) → All P xs → AllZip R xs ys → SideBySide Q ys zs → SideBySide S xs zs
+weave P R Q S each [] [] [] all a b = tt
+weave P R Q S each [] [] (z ∷ zs) all a b = absurd b
+weave P R Q S each [] (y ∷ ys) zs all a b = absurd a
+weave P R Q S each (x ∷ xs) [] zs all a b = absurd a
+weave P R Q S each (x ∷ xs) (y ∷ ys) [] all a b = absurd b
+weave P R Q S each (x ∷ xs) (y ∷ ys) (z ∷ zs) all a b = (each x y z (All-head P x xs all) a.0 b.0, weave P R Q S each xs ys zs (All-tail P x xs all) a.1 b.1)
+
+-- the devices of feeds are those that they are named for
+pub devices-named : {X : Type 0} (device : X → List ℕ) (ring : X → RingName) (xs : List X)
+    → map (λ (f : FeedName). f.device) (map (λ x. record { device = device x; ring = ring x }) xs) ≡ map device xs
+devices-named device ring [] = refl
+devices-named device ring (x ∷ xs) = ap (λ l. device x ∷ l) (devices-named device ring xs)
+
+-- the same book, with other feeds that are not settled yet: none where it had none
+pub resettled : (feeds : List FeedName) (room : Option ℕ) (text : List ℕ) (n : ℕ) (book : Booklet) (taps : List Drawing) → (book.taps ≡ [] → taps ≡ [])
+    → HeadlineWith feeds room text n book → HeadlineWith feeds room text n (record book { taps = taps })
+resettled feeds room text n book taps none h = record {
+  opening = h.opening;
+  kept = h.kept;
+  replayed = h.replayed;
+  lawful = h.lawful;
+  entered = h.entered;
+  once = h.once;
+  numbered = h.numbered;
+  no_feeds = λ bare. none (h.no_feeds bare);
+  terms = h.terms;
+}
+
+-- what holds of the image of what there is
+pub mapped : {X Y : Type 0} (f : X → Y) (P : Y → Type 0) (o : Option X) → IfSome o (λ x. P (f x)) → IfSome (option_map f o) P
+mapped f P None h = h
+mapped f P (Some x) h = h
+
+-- what a desk tells that is not opened, of which no views were asked
+pub no-desk : (seats : ℕ) (feeds : List FeedName) (text : List ℕ) (f : OpenFault) → IsViewFault seats feeds 0 text f → IsTrueOpening seats (map (λ (x : FeedName). x.device) feeds) text f
+no-desk seats feeds text f why = inr (feeds, refl, viewless seats feeds text f why)
+
+-- the same, by other words for the devices
+pub no-run : (seats : ℕ) (devices devices2 : List (List ℕ)) (text : List ℕ) (f : OpenFault) → devices ≡ devices2 → IsTrueOpening seats devices text f → IsTrueOpening seats devices2 text f
+no-run seats devices devices2 text f same why = subst (λ (ds : List (List ℕ)). IsTrueOpening seats ds text f) same why

@@ -1,0 +1,58 @@
+-- What a run with links leaves.
+use Rattle.std.specs.Prelude.{◌≡◌, ◌⊎◌, ℕ, ◌+◌, List, [], ◌∷◌, ◌++◌, map, Bool, Option, None, IfSome}
+use Rattle.std.specs.List.{All}
+use Rattle.click_packet.specs.Packet.{Packet}
+use Rattle.click_rings.specs.Feeds.{RingName, FeedName, Drawing}
+use Rattle.click_router.specs.declared.call.Call.{Call}
+use Rattle.click_router.specs.declared.call.Reply.{Reply}
+use Rattle.click_desk.specs.Booklet.{Booklet}
+use Rattle.click_desk.specs.Openings.{IsOpenFault}
+use Rattle.click_desk.specs.Polls.{polled}
+use Rattle.click_desk.specs.Sittings.{Sitting}
+use Rattle.click_desk.specs.declared.entry.Entry.{Entry}
+use Rattle.click_desk.specs.declared.open.OpenFault.{OpenFault}
+use Rattle.click_desk.specs.declared.open.OpenFault.TheVariants as fault
+use Rattle.click_links.specs.Ends.{Attempt, IsNewFeed, Offering}
+use Rattle.click_links.specs.Fates.{Receives}
+use Rattle.click_links.specs.Forwarding.{Forwards}
+use Rattle.click_links.specs.declared.datagram.Datagram.{Datagram}
+use Rattle.click_links.specs.declared.dropped.Dropped.{Dropped}
+use Rattle.click_workers.specs.Runs.{HeadlineWith}
+use Rattle.click_workers.specs.Work.{Worked}
+use Rattle.click_workers.specs.declared.session.SessionEnd.{SessionEnd}
+
+-- the calls of a history with their replies, of all seats
+abbrev pub calls_in : List Entry → List (Call × Reply)
+calls_in history = map (λ e. (e.call, e.reply)) history
+
+-- of these feeds the ones of this device are of this ring
+abbrev pub FitsTaps : List Drawing → List ℕ → RingName → Type 0
+FitsTaps taps device ring = All (λ t. t.device ≡ device → t.ring ≡ ring) taps
+
+-- the headline of a desk that keeps no book, with one feed for each of these devices
+abbrev pub LinkedHeadline : List (List ℕ) → List ℕ → ℕ → Booklet → Type 0
+LinkedHeadline devices text n book = (feeds : List FeedName) × (map (λ (f : FeedName). f.device) feeds ≡ devices) × HeadlineWith feeds None text n book
+
+-- The first seats are those of the places and drivers, with what came of each, and the last is the forwarder's: its calls are those of a forwarder of these devices, and just the packets that its Transmits gave were sent.
+pub record LinkedWork (attends : Sitting → SessionEnd → Type 0) (drives : Sitting → Bool → Type 0) (places workers : ℕ) (devices : List (List ℕ)) (before after : List Attempt)
+    (seats : List Sitting) (ended : List SessionEnd) (drivers : List Bool) : Type 0 where
+  pub served : List Sitting
+  pub forwarder : Sitting
+  pub parts : seats ≡ served ++ forwarder ∷ []
+  pub number : forwarder.number ≡ places + workers
+  pub worked : Worked attends drives places (places + workers) served ended drivers
+  pub forwards : Forwards devices [] forwarder.calls before after
+
+-- Datagrams came over the link of a device, each of which became a packet of its feed, which was new and had the places of a link, or was dropped for its cause and counted. What became packets is what the history polled of the device, followed by what is left
+-- (where there was memory to tell it), in order, each once.
+pub record LinkRan (history : List Entry) (device : List ℕ) (came came2 : List Datagram) (dropped : Dropped) (left : Option (List Packet)) : Type 0 where
+  pub from : Offering
+  pub to : Offering
+  pub fresh : IsNewFeed from
+  pub receives : Receives came came2 from to dropped
+  pub settled : IfSome left (λ l. to.feed.put ≡ polled history device ++ l)
+
+-- Why there is no run of so many seats with links of these devices: want of memory, which may come first; else what a desk tells that has so many seats and one feed for each of these devices.
+abbrev pub IsTrueOpening : ℕ → List (List ℕ) → List ℕ → OpenFault → Type 0
+IsTrueOpening seats devices text f =
+    (f ≡ fault.NoMemory) ⊎ ((feeds : List FeedName) × (map (λ (x : FeedName). x.device) feeds ≡ devices) × IsOpenFault seats feeds text f)

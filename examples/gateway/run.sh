@@ -1,0 +1,195 @@
+#!/usr/bin/env bash
+# Two networks with the router between them: Linux's own TCP/IP in two network namespaces, a TUN device in each, socat between the device and the router's
+# link, and a control session that swaps while packets pass. README.md says what is shown; each of it is checked. All of it happens in namespaces of its own,
+# so that nothing is left behind, wherever it ends. PROGRAM names another program than the one that is built here.
+#
+#   examples/gateway/run.sh
+set -eu
+self=$(readlink -f "$0")
+here=$(dirname "$self")
+most_seconds=80
+# Inside its namespaces, where it is the first process: what it writes is gone with them, too.
+if [ "${1:-}" = inside ] && [ $$ = 1 ]; then
+    mount -t tmpfs tmpfs /run
+    export TMPDIR=/run
+elif [ $# -gt 0 ]; then
+    echo 'run.sh takes no words' >&2
+    exit 2
+fi
+. "$here/../../tools/lib/checking.sh"
+
+left_out() {
+    echo "left out: $1"
+    exit 0
+}
+
+# Outside: what is needed is there, or it is said what is not.
+if [ $# = 0 ]; then
+    is_built "$program"
+    for needed in unshare nsenter ip socat ping curl python3; do
+        if ! command -v $needed > /dev/null; then left_out "there is no $needed"; fi
+    done
+    if ! [ -c /dev/net/tun ] || ! [ -r /dev/net/tun ] || ! [ -w /dev/net/tun ]; then left_out '/dev/net/tun cannot be opened'; fi
+    own=(unshare --net --mount --pid --fork --kill-child --mount-proc)
+    if [ "$(id -u)" != 0 ]; then own+=(--user --map-root-user); fi
+    if ! "${own[@]}" ip tuntap add dev probe mode tun 2> /dev/null; then left_out 'in a namespace of its own no TUN device can be made'; fi
+    status=0
+    PROGRAM=$(readlink -f "$program") timeout $most_seconds "${own[@]}" "$self" inside || status=$?
+    if [ $status = 124 ]; then fail "not done after $most_seconds s"; fi
+    exit $status
+fi
+
+# until_so WHAT COMMAND..: tries it over and over, for some seconds.
+until_so() {
+    local what=$1 ends=$((SECONDS + 15))
+    shift
+    until "$@" > /dev/null 2>&1; do
+        if [ $SECONDS -gt $ends ]; then fail "$what" "the router said: $(tail -n 4 "$work/said")"; fi
+        sleep 0.02
+    done
+}
+
+# in_left, in_right COMMAND..: runs it in that network.
+in_left() { nsenter --net=/run/netns/left "$@"; }
+in_right() { nsenter --net=/run/netns/right "$@"; }
+
+# network NAME ADDRESS OTHERS HERE THERE: a network of one host, whose packets to the others go as datagrams from the port THERE to the router's port HERE.
+network() {
+    ip netns add "$1"
+    socat "TUN,tun-name=$1,iff-no-pi" "UDP4-DATAGRAM:127.0.0.1:$4,bind=127.0.0.1:$5" &
+    until_so "socat makes no TUN device for $1" ip link show "$1"
+    ip link set "$1" netns "$1"
+    # No IPv6 of its own accord.
+    ip -n "$1" link set "$1" addrgenmode none
+    ip -n "$1" address add "$2" dev "$1"
+    ip -n "$1" link set "$1" up
+    ip -n "$1" route add "$3" dev "$1"
+}
+
+# The control session: `said` is the reply's last line, `value` what was read.
+reply() {
+    local length
+    IFS= read -r -t 10 said <&3 || fail 'the control session ended, or does not answer'
+    said=${said%$'\r'}
+    value=
+    case $said in
+    '200 Read handler'*)
+        read -r -t 10 length <&3
+        value=$(head -c "$(tr -cd 0-9 <<< "$length")" <&3)
+        ;;
+    ???-*) reply ;;
+    esac
+}
+asks() {
+    printf '%s\n' "$1" >&3
+    reply
+}
+reads() {
+    asks "READ $1"
+    same "200 Read handler '$1' OK" "$said" "READ $1"
+}
+swaps() {
+    local text
+    text=$(cat "$here/$1.click")
+    printf 'WRITEDATA hotconfig %s\n%s' "$(printf %s "$text" | wc -c)" "$text" >&3
+    reply
+}
+
+# pings HOW_MANY WHAT: each is answered, by a packet whose time to live is one less than the 64 that it began with.
+pings() {
+    ran in_left ping -n -c "$1" -i 0.01 -W 2 10.2.0.2
+    same_status 0 "$status" "$2: pings"
+    same "$1" "$(grep -c '^64 bytes from 10\.2\.0\.2: .* ttl=63 ' "$work/out")" "$2: answers with a time to live of 63"
+}
+
+fetches() { in_left curl --silent --show-error --max-time 30 "$@" http://10.2.0.2:8000/page; }
+size_of() { stat -c %s "$1" 2> /dev/null || echo 0; }
+has_bytes() { [ "$(size_of "$1")" -ge "$2" ]; }
+listens() { in_right grep -q ':1F40 00000000:0000 0A' /proc/net/tcp; }
+is_ready() { grep -q ':1E61 00000000:0000 0A' /proc/net/tcp && grep -q ':1389 ' /proc/net/udp && grep -q ':138B ' /proc/net/udp; }
+
+# tells PATTERN: the last line of each link is such a one.
+tells() {
+    local device
+    for device in eth0 eth1; do
+        tac "$work/said" | grep -m 1 "^link $device: " | grep -qx "link $device: $1"
+    done
+}
+
+ip link set lo up
+"$program" --live --link eth0=5001,5002 --link eth1=5003,5004 --tell 1 -p 7777 -e "$(cat "$here/gateway.click")" < /dev/null > "$work/said" 2>&1 &
+router=$!
+until_so 'the router does not come up' is_ready
+exec 3<> /dev/tcp/127.0.0.1/7777
+reply
+same Click::ControlSocket/1.3 "$said" 'the greeting'
+network left 10.1.0.2/16 10.2.0.0/16 5001 5002
+network right 10.2.0.2/16 10.1.0.0/16 5003 5004
+
+mkdir "$work/pages"
+head -c 10485760 /dev/urandom > "$work/pages/page"
+in_right python3 -m http.server 8000 --bind 10.2.0.2 --directory "$work/pages" > "$work/served" 2>&1 &
+until_so 'nobody serves the page' listens
+
+pings 100 'the gateway'
+echo 'ping: 100 of 100 answered, each with a time to live of 63'
+
+fetches --limit-rate 4M -o "$work/came" &
+fetch=$!
+until_so 'the fetch does not begin' has_bytes "$work/came" 2000000
+before=$(size_of "$work/came")
+swaps longer_queues
+after=$(size_of "$work/came")
+same "200 Write handler 'hotconfig' OK" "$said" 'a swap in the middle of a fetch'
+if [ "$after" -ge 10485760 ]; then fail 'the fetch was over before the swap'; fi
+reads q0.capacity
+same 1000 "$value" 'the capacity after the swap'
+status=0
+wait $fetch || status=$?
+same 0 $status 'curl, over a swap'
+same_bytes "$work/pages/page" "$work/came" 'the page that was fetched'
+echo "curl: 10,485,760 bytes, equal to the page; the queues got another length after $before of them"
+
+reads flatconfig
+flat=$value
+swaps faulty
+same '520 31 Count at q1 outputs 0' "$said" 'a faulty swap'
+reads flatconfig
+same "$flat" "$value" 'the flat form after a refused swap'
+pings 20 'after a refused swap'
+echo 'a refused swap: 31 Count at q1 outputs 0; flatconfig is as before, and 20 of 20 pings are answered'
+
+swaps closed_port
+same "200 Write handler 'hotconfig' OK" "$said" 'the swap that closes the port'
+rm "$work/came"
+ran fetches --connect-timeout 3 -o "$work/came"
+same_status 28 "$status" 'curl at a closed port (28: the time is over)'
+reads dropped.count
+if [ "$value" -lt 2 ]; then fail "TCP packets that were dropped: $value"; fi
+pings 20 'beside a closed port'
+echo "port 8000 closed: curl gets no connection ($value packets dropped), 20 of 20 pings are answered"
+
+swaps gateway
+same "200 Write handler 'hotconfig' OK" "$said" 'the swap that opens the port again'
+ran fetches -o "$work/came"
+same_status 0 "$status" 'curl at the port that is open again'
+same_bytes "$work/pages/page" "$work/came" 'the page that was fetched again'
+echo 'port 8000 open again: the whole page'
+
+# What dies on its way is dropped without a word.
+ran in_left ping -n -t 1 -c 5 -i 0.01 -W 1 10.2.0.2
+same_status 1 "$status" 'ping with a time to live of 1'
+same '' "$(grep -i 'exceeded\|bytes from' "$work/out")" 'what answers a time to live of 1'
+echo 'ping with a time to live of 1: no answer, nor one that says why'
+
+clean='received [1-9][0-9]*, from elsewhere 0, too long 0, no room [0-9]*, no memory 0, entered [1-9][0-9]*, sent [1-9][0-9]*, failed 0'
+until_so "no such line of each link: $clean" tells "$clean"
+same 0 "$(grep -cv '^link eth[01]: ' "$work/said")" 'lines of the router that are of no link'
+tail -n 2 "$work/said"
+asks QUIT
+same '200 Goodbye!' "$said" 'QUIT'
+kill $router
+status=0
+wait $router || status=$?
+same 143 $status 'the status of the router that SIGTERM ends'
+echo passed

@@ -1,0 +1,539 @@
+#!/usr/bin/env python3
+"""Links of devices, from outside: plain UDP sockets beside the program. Each packet that goes in comes out or stands in a count; and use that means no good.
+
+    tools/udp_links.py [CASE..]
+
+The program must have been built; PROGRAM names another one that is checked in its place, and PACKETS another number of packets than 200,000. Each case
+starts it on free ports of 127.0.0.1 and ends within some 12 seconds. Where something is wrong it says what, and ends with 1.
+
+What the kernel dropped since a socket had no room is no loss of the program's: the kernel counts it for each socket, and here it is added."""
+import fcntl
+import multiprocessing
+import os
+import re
+import signal
+import socket
+import struct
+import subprocess
+import sys
+import tempfile
+import threading
+import time
+from collections import namedtuple
+
+sys.dont_write_bytecode = True
+from hostile import Pipes, listeners, until
+from sessions import GREETING, SECONDS, Session, Wrong, free_port
+
+TOP = os.path.dirname(os.path.dirname(os.path.realpath(__file__)))
+PROGRAM = os.environ.get("PROGRAM") or f"{TOP}/crates/click_prog/out/click_prog"
+HOST = "127.0.0.1"
+# Another address of this host, at which links and peers may be too.
+OTHER = "127.0.0.2"
+# The most bytes of a packet, and the packets that a feed has room for.
+LONGEST, PLACES = 1600, 1024
+# Beside a flood of three seconds so many reads of a session are answered at least, each after so many seconds at most, though each call of the forwarder holds the
+# router for milliseconds: who calls while others wait lets them look first.
+FEWEST_READS, LONGEST_WAIT = 50, 2
+# Beside a source without end the program ends after so many seconds at most.
+LONGEST_END = 5
+FORK = multiprocessing.get_context("fork")
+
+Counts = namedtuple("Counts", "received elsewhere long room memory entered sent failed")
+LINE = re.compile(
+    rb"link (\S+): received (\d+), from elsewhere (\d+), too long (\d+), no room (\d+), no memory (\d+), entered (\d+), sent (\d+), failed (\d+)\n"
+)
+
+
+def same(wanted, came, what):
+    if wanted != came:
+        raise Wrong(f"{what}: wanted {wanted!r:.400}, came {came!r:.400}")
+
+
+def bound(port=0, host=HOST):
+    """A UDP socket with as much room as is to be had."""
+    it = socket.socket(socket.AF_INET, socket.SOCK_DGRAM)
+    it.setsockopt(socket.SOL_SOCKET, socket.SO_RCVBUF, 1 << 22)
+    it.bind((host, port))
+    it.settimeout(SECONDS)
+    return it
+
+
+def udp_row(port, host=HOST):
+    """What the kernel says of the UDP socket of this port; None where there is none."""
+    address = int.from_bytes(socket.inet_aton(host), "little")
+    with open("/proc/net/udp", encoding="ascii") as rows:
+        return next((row.split() for row in rows if row.split()[1] == f"{address:08X}:{port:04X}"), None)
+
+
+def lost_at(port):
+    """How many datagrams the kernel has dropped since this socket had no room."""
+    return int(udp_row(port)[12])
+
+
+def is_heard(link):
+    """Whether no datagram waits at this link's socket."""
+    return udp_row(link.here, link.host)[4].endswith(":00000000")
+
+
+class Link:
+    """A device, the program's port HERE, and our socket THERE, both at one address. Without a socket nobody is at THERE, or it is an address of its own."""
+
+    def __init__(self, device, there=None, is_open=True, host=HOST):
+        free = bound(host=host)
+        self.device, self.host, self.here = device, host, free.getsockname()[1]
+        self.socket = bound(host=host)
+        self.port = self.socket.getsockname()[1]
+        self.there = there or self.place(self.port)
+        free.close()
+        if not is_open:
+            self.socket.close()
+
+    def place(self, port):
+        """As the command line names it: a port alone is one of 127.0.0.1."""
+        return str(port) if self.host == HOST else f"{self.host}:{port}"
+
+    def word(self):
+        return f"{self.device}={self.place(self.here)},{self.there}"
+
+    def give(self, packet):
+        self.socket.sendto(packet, (self.host, self.here))
+
+    def take(self):
+        packet, sender = self.socket.recvfrom(65536)
+        same((self.host, self.here), sender, f"where a datagram of {self.device} comes from")
+        return packet
+
+
+class Talk(Session):
+    """A session over two streams or a socket, whose program is running."""
+
+    def __init__(self, stream):
+        self.socket, self.rest = stream, b""
+        same(GREETING, self.line(), "the greeting")
+
+    def swap(self, text):
+        same(200, self.write(b"hotconfig", text.encode())[0], f"a swap to {text}")
+
+
+class Router:
+    """The program with these links. Without a port a session is on standard input and output, and its end is the program's."""
+
+    def __init__(self, text, links, *options, port=None, said=subprocess.PIPE):
+        words = [PROGRAM, "--live", "-e", text, *options]
+        for link in links:
+            words += ["--link", link.word()]
+        if port:
+            words += ["-p", str(port), "-n", "4"]
+        self.links = links
+        self.process = subprocess.Popen(words, stdin=subprocess.PIPE, stdout=subprocess.PIPE, stderr=said)
+        try:
+            if port:
+                until(lambda: listeners(port) or self.process.poll() is not None, "nobody listens")
+                self.session = Talk(socket.create_connection((HOST, port), timeout=SECONDS))
+            else:
+                self.session = Talk(Pipes(self.process))
+            until(lambda: all(udp_row(it.here, it.host) for it in links), "a link has no socket")
+        except BaseException:
+            self.stop()
+            raise
+
+    def __enter__(self):
+        return self
+
+    def __exit__(self, *_):
+        self.stop()
+
+    def stop(self):
+        self.process.kill()
+        for pipe in (self.process.stdin, self.process.stdout, self.process.stderr):
+            if pipe:
+                pipe.close()
+        self.process.wait()
+
+    def is_idle(self, what):
+        """It takes next to no time of a processor."""
+
+        def ticks():
+            with open(f"/proc/{self.process.pid}/stat", encoding="ascii") as row:
+                return sum(map(int, row.read().rsplit(")", 1)[1].split()[11:13]))
+
+        time.sleep(0.2)
+        before = ticks()
+        time.sleep(1)
+        took = (ticks() - before) / os.sysconf("SC_CLK_TCK")
+        if took > 0.2:
+            raise Wrong(f"in an idle second {what} it took {took} s of processors")
+
+    def ends(self):
+        """Ends the session on standard input, and with it the program: the counts of each link, which are all that it says."""
+        until(lambda: all(is_heard(it) for it in self.links), "a link does not read what comes")
+        self.session.socket.sendall(b"QUIT\n")
+        try:
+            out, said = self.process.communicate(timeout=SECONDS)
+        except subprocess.TimeoutExpired:
+            raise Wrong("the program does not end with its session")
+        same((b"200 Goodbye!\r\n", 0), (self.session.rest + out, self.process.returncode), "the end, and its status")
+        tellings = tellings_of(said, self.links)
+        same(1, len(tellings), "how many times the program tells its counts")
+        return tellings[0]
+
+
+def tellings_of(said, links):
+    """What the program says is nothing but a line for each link, in their order, once or several times."""
+    same([], [it for it in said.splitlines(True) if not LINE.fullmatch(it)], "lines of standard error that are of no link")
+    rows = [LINE.fullmatch(it).groups() for it in said.splitlines(True)]
+    same([it.device.encode() for it in links] * (len(rows) // len(links)), [row[0] for row in rows], "the devices of the lines")
+    counts = [Counts(*map(int, row[1:])) for row in rows]
+    return [counts[at:at + len(links)] for at in range(0, len(counts), len(links))]
+
+
+def entering(count, sent=0):
+    """The counts of a link to which so many packets came, all of which entered."""
+    return Counts(count, 0, 0, 0, 0, count, sent, 0)
+
+
+def leaving(sent, failed=0):
+    """The counts of a link to which nothing came."""
+    return Counts(0, 0, 0, 0, 0, 0, sent, failed)
+
+
+def adds_up(counts):
+    """Nothing is between the socket and the router any more."""
+    same(counts.received, counts.elsewhere + counts.long + counts.room + counts.memory + counts.entered, f"received, and what became of it, in {counts}")
+
+
+def at_once(*works):
+    """Each of these in a process of its own; what they answer."""
+
+    def run(work, answers):
+        try:
+            answers.send((True, work()))
+        except Exception as error:
+            answers.send((False, f"{type(error).__name__}: {error}"))
+
+    ends, started = time.monotonic() + 3 * SECONDS, []
+    for work in works:
+        ours, theirs = FORK.Pipe(False)
+        process = FORK.Process(target=run, args=(work, theirs), daemon=True)
+        process.start()
+        started.append((process, ours))
+    try:
+        found = []
+        for _, answers in started:
+            if not answers.poll(max(0, ends - time.monotonic())):
+                raise Wrong("a peer does not come to its end")
+            is_good, answer = answers.recv()
+            if not is_good:
+                raise Wrong(answer)
+            found.append(answer)
+        return found
+    finally:
+        for process, _ in started:
+            process.kill()
+            process.join()
+
+
+# Packets that tell where they belong
+
+
+def packet_of(way, number):
+    """Of 12 to 99 bytes, all of which its way and number tell."""
+    return struct.pack(">4sQ", way.encode().ljust(4), number) + bytes((number + at) % 256 for at in range(number % 88))
+
+
+def gives_all(link, way, count, rate):
+    """Sends so many packets, so many a second."""
+    packets, began = [packet_of(way, it) for it in range(count)], time.monotonic()
+    for number, packet in enumerate(packets):
+        early = began + number / rate - time.monotonic()
+        if early > 0.001:
+            time.sleep(early)
+        link.give(packet)
+    return time.monotonic() - began
+
+
+def takes_all(link, way, count):
+    """Takes packets until none comes: how many came. Each is as it was sent, none comes twice, and none before one that was sent before it."""
+    link.socket.settimeout(2)
+    came, next_one = 0, 0
+    try:
+        while next_one < count:
+            packet = link.take()
+            number = struct.unpack(">4sQ", packet[:12])[1] if len(packet) >= 12 else -1
+            if number < next_one or packet != packet_of(way, number):
+                raise Wrong(f"{way}: {packet!r} came where number {next_one} or a later one was next")
+            came, next_one = came + 1, number + 1
+    except TimeoutError:
+        pass
+    return came
+
+
+def is_carried(source, sink, numbers, way="one"):
+    """Packets one at a time: each comes out."""
+    for number in numbers:
+        source.give(packet_of(way, number))
+        same(packet_of(way, number), sink.take(), f"packet {number} of those that go one at a time")
+
+
+PLAIN = "FromDevice(a) -> c :: Counter -> q :: Queue(1000) -> ToDevice(b);"
+
+
+# Cases
+
+
+def carrying():
+    """200,000 packets, half of them each way at once, 10,000 a second each way: each is back once, in order, or in just one count."""
+    text = "FromDevice(a) -> ca :: Counter -> qb :: Queue(1000) -> ToDevice(b); FromDevice(b) -> cb :: Counter -> qa :: Queue(1000) -> ToDevice(a);"
+    a, b, count, rate = Link("a"), Link("b"), int(os.environ.get("PACKETS", "200000")) // 2, 10_000
+    with Router(text, [a, b]) as router:
+        taking = [lambda: takes_all(b, "ab", count), lambda: takes_all(a, "ba", count)]
+        giving = [lambda: gives_all(a, "ab", count, rate), lambda: gives_all(b, "ba", count, rate)]
+        came = dict(zip("ba", at_once(*taking, *giving)))
+        lost = {port: lost_at(port) for link in (a, b) for port in (link.here, link.port)}
+        drops = {it: int(router.session.read(b"q%s.drops" % it.encode())) for it in "ab"}
+        counted = {it: int(router.session.read(b"c%s.count" % it.encode())) for it in "ab"}
+        counts = dict(zip("ab", router.ends()))
+    for here, there, source, sink in (("a", "b", a, b), ("b", "a", b, a)):
+        what = f"from {here} to {there}, with {counts}, {lost}, {drops}"
+        adds_up(counts[here])
+        same(count, counts[here].received + lost[source.here], f"what was sent {what}")
+        same((0, 0, 0), counts[here][1:3] + counts[here][4:5], f"from elsewhere, too long and no memory {what}")
+        same(counts[here].entered, counted[here], f"what entered {what}")
+        same(counts[here].entered, drops[there] + counts[there].sent + counts[there].failed, f"what entered, and what became of it {what}")
+        same(counts[there].sent, came[there] + lost[sink.port], f"what was sent, and what came {what}")
+        if came[there] < count * 9 // 10:
+            raise Wrong(f"of {count} packets only {came[there]} came {what}")
+
+
+def sizes():
+    """Datagrams of the least and the most bytes, too long ones, and ones from elsewhere: what comes out, and the lines, to the digit."""
+    a, b, other = Link("a"), Link("b"), bound()
+    with Router(PLAIN, [a, b]) as router:
+        for size in (0, 1, LONGEST, 0, LONGEST + 1, 65_507, LONGEST):
+            packet = bytes(at % 251 for at in range(size))
+            a.give(packet)
+            if size <= LONGEST:
+                same(packet, b.take(), f"a datagram of {size} bytes")
+        for size in (0, 5, LONGEST + 1):
+            other.sendto(b"x" * size, (HOST, a.here))
+        other.sendto(b"y", (HOST, b.here))
+        # What the one link's peer sends to the other link is from elsewhere, too.
+        a.socket.sendto(b"z", (HOST, b.here))
+        is_carried(a, b, range(20))
+        router.is_idle("with nothing to do")
+        same(b"25", router.session.read(b"c.count"), "the packets that the router counts")
+        same([Counts(30, 3, 2, 0, 0, 25, 0, 0), Counts(2, 2, 0, 0, 0, 0, 25, 0)], router.ends(), "the counts")
+
+
+def addresses():
+    """Links at an address of their own: they are there and nowhere else, and from the same port of another address nothing enters."""
+    a, b = Link("a", host=OTHER), Link("b", host=OTHER)
+    with Router(PLAIN, [a, b]) as router, bound(a.port) as stranger:
+        for link in (a, b):
+            same(None, udp_row(link.here), f"what is at {HOST}, and not at {OTHER}, for {link.device}")
+        stranger.sendto(b"x", (OTHER, a.here))
+        is_carried(a, b, range(20))
+        same([Counts(21, 1, 0, 0, 0, 20, 0, 0), leaving(20)], router.ends(), "the counts")
+
+
+def endless():
+    """Beside a source that goes on for ever, whose packets leave by a link, the run ends with its session: soon, with its status and its counts."""
+    a, b = Link("a"), Link("b")
+    with Router("FromDevice(a) -> c :: Counter -> Discard; s :: InfiniteSource(ab) -> q :: Queue -> ToDevice(b);", [a, b]) as router:
+        session = router.session
+        a.give(b"a packet")
+        until(lambda: session.read(b"c.count") == b"1", "a packet does not enter beside the source")
+        made = int(session.read(b"s.count"))
+        until(lambda: int(session.read(b"s.count")) > made + 10_000, "the source ends")
+        same(b"ab", b.take(), "a packet of the source")
+        began = time.monotonic()
+        counts, out = router.ends()
+        seconds = time.monotonic() - began
+    if seconds > LONGEST_END:
+        raise Wrong(f"beside a source without end the program ends only after {seconds:.1f} s")
+    same((entering(1), leaving(out.sent)), (counts, out), "the counts")
+    if out.sent < 9_000:
+        raise Wrong(f"of more than 10,000 packets of a source only {out.sent} were sent")
+
+
+def nobody():
+    """Where nobody listens at THERE, and where the system refuses to send, later packets still go, and other links."""
+    a, b, c, d = Link("a"), Link("b", is_open=False), Link("c"), Link("d", there="255.255.255.255:9")
+    text = f"{PLAIN} FromDevice(c) -> n :: Counter -> p :: Queue -> ToDevice(d);"
+    with Router(text, [a, b, c, d]) as router:
+        session = router.session
+        for number in range(20):
+            a.give(packet_of("one", number))
+            c.give(packet_of("two", number))
+            wanted = [b"%d" % (number + 1), b"0"] * 2
+            until(lambda: [session.read(it) for it in (b"c.count", b"q.length", b"n.count", b"p.length")] == wanted, f"packet {number} is not sent")
+        b.socket = bound(b.port)
+        is_carried(a, b, range(20, 60))
+        wanted = [entering(60), leaving(60), entering(20), leaving(0, 20)]
+        same(wanted, router.ends(), "the counts")
+
+
+def refused():
+    """Two links of one device, and a port that is taken: a line, a status, and nothing else."""
+    a, other = Link("a"), Link("a")
+    taken = Link("b")
+    taken.here = taken.port
+    for links, status, line in (
+        ([a, other], 2, "click_prog: --link takes a device once, and 'a' is given twice"),
+        ([a, taken], 4, f"click_prog: link b cannot have {HOST}:{taken.here}: Address already in use (os error 98)"),
+    ):
+        words = [PROGRAM, "--live", "-e", PLAIN, *(word for it in links for word in ("--link", it.word()))]
+        ended = subprocess.run(words, input=b"READ c.count\n", capture_output=True, timeout=SECONDS, check=False)
+        same((status, b"", f"{line}\n".encode()), (ended.returncode, ended.stdout, ended.stderr), f"status, output and error of {' '.join(words[4:])}")
+
+
+def away():
+    """A swap takes the device away while ten times what its feed has room for comes: what is in the feed enters once a swap brings the device back."""
+    a, b, count = Link("a"), Link("b"), 10 * PLACES
+    with Router(PLAIN, [a, b]) as router:
+        is_carried(a, b, range(10))
+        router.session.swap("Idle -> q :: Queue(2000) -> ToDevice(b);")
+        seconds = gives_all(a, "away", count, 20_000)
+        same(b"0", router.session.read(b"q.length"), "the packets that entered where no device is")
+        router.is_idle("with a full feed and no device for it")
+        lost = lost_at(a.here)
+        router.session.swap("FromDevice(a) -> c :: Counter -> q :: Queue(2000) -> ToDevice(b);")
+        until(lambda: int(router.session.read(b"c.count")) >= PLACES, f"the feed did not keep {PLACES} packets")
+        came = takes_all(b, "away", count)
+        same((PLACES, b"0"), (came, router.session.read(b"q.drops")), f"what came of {count} packets, and the queue's drops")
+        is_carried(a, b, range(10))
+        entered = PLACES + 20
+        wanted = Counts(count + 20 - lost, 0, 0, count - lost - PLACES, 0, entered, 0, 0)
+        same([wanted, leaving(entered)], router.ends(), f"the counts, after {count} packets in {seconds:.2f} s of which the kernel dropped {lost}")
+
+
+def flooded(link, packet, seconds, sender=None):
+    """Sends as fast as it can, for so long: how many were sent."""
+    count, ends = 0, time.monotonic() + seconds
+    sender = sender or link.socket
+    while time.monotonic() < ends:
+        for _ in range(64):
+            sender.sendto(packet, (HOST, link.here))
+        count += 64
+    return count
+
+
+def slow_text():
+    """A packet that enters is copied four thousand times: some 100 microseconds for a long one, and more."""
+    chain = "FromDevice(a) -> c :: Counter" + "".join(f" -> t{k} :: Tee(240); t{k}" for k in range(16)) + " -> q :: Queue(10) -> ToDevice(b); d :: Discard;"
+    return chain + "".join(f" t{k} [{n}] -> d;" for k in range(16) for n in range(1, 240))
+
+
+def flood():
+    """Ten times what can be taken, and strangers beside it: sessions are answered all the while, each datagram is in a count, and packets go on after."""
+    a, b, stranger = Link("a"), Link("b"), bound()
+    waits, is_over = [], threading.Event()
+    with Router(slow_text(), [a, b]) as router:
+
+        def asks():
+            while not is_over.is_set():
+                began = time.monotonic()
+                router.session.read(b"c.count")
+                waits.append(time.monotonic() - began)
+                time.sleep(0.002)
+
+        asking = threading.Thread(target=asks)
+        asking.start()
+        try:
+            long = b"f" * LONGEST
+            *known, strange = at_once(lambda: flooded(a, long, 3), lambda: flooded(a, long, 3), lambda: flooded(a, b"strange", 3, stranger))
+        finally:
+            is_over.set()
+            asking.join()
+        counted = lambda: int(router.session.read(b"c.count"))
+        before = -1
+        while before != (before := counted()):
+            time.sleep(0.1)
+        lost = lost_at(a.here)
+        with_all = sum(known) + strange
+        if sum(known) < 10 * before:
+            raise Wrong(f"{sum(known)} packets in 3 seconds are no flood where {before} can be taken")
+        if len(waits) < FEWEST_READS or max(waits) > LONGEST_WAIT:
+            raise Wrong(f"beside the flood {len(waits)} reads were answered, one after {max(waits, default=0):.3f} s")
+        b.socket.settimeout(0.2)
+        try:
+            while True:
+                same(long, b.take(), "a packet of the flood")
+        except TimeoutError:
+            b.socket.settimeout(SECONDS)
+        is_carried(a, b, range(100))
+        counts, out = router.ends()
+    adds_up(counts)
+    same(with_all + 100, counts.received + lost, f"what was sent, by {counts} and {lost} that the kernel dropped")
+    same((0, 0, before + 100), (counts.long, counts.memory, counts.entered), f"too long, no memory and entered in {counts}")
+    if not 0 < counts.elsewhere <= strange or counts.room == 0:
+        raise Wrong(f"{strange} datagrams were from elsewhere, and the feed was full: {counts}")
+    same(True, 100 < out.sent <= counts.entered, f"{out.sent} sent of {counts.entered} that entered")
+
+
+def telling():
+    """Sixteen links in a ring, a line for each every second: sessions over TCP come and go, the counts are those of the packets, and SIGTERM ends it."""
+    links = [Link(f"d{n}") for n in range(16)]
+    port = free_port()
+    text = "".join(f"FromDevice(d{n}) -> c{n} :: Counter -> q{n} :: Queue -> ToDevice(d{(n + 1) % 16}); " for n in range(16))
+    with tempfile.TemporaryFile() as file, Router(text, links, "--tell", "1", port=port, said=file) as router:
+        # Up to the last line of the last link.
+        said = lambda: re.match(rb"(?:(?:.*\n){16})*", os.pread(file.fileno(), 1 << 20, 0))[0]
+        began = time.monotonic()
+        for n in range(16):
+            is_carried(links[n], links[(n + 1) % 16], range(10 + n), f"d{n}")
+        for n in range(8):
+            session = Talk(socket.create_connection((HOST, port), timeout=SECONDS))
+            same(b"%d" % (10 + n), session.read(b"c%d.count" % n), f"the packets of d{n}")
+            session.quit()
+        wanted = [entering(10 + n, 10 + (n - 1) % 16) for n in range(16)]
+        until(lambda: tellings_of(said(), links)[-1:] == [wanted], f"the lines do not come to {wanted}")
+        time.sleep(max(0, began + 3.5 - time.monotonic()))
+        router.process.terminate()
+        same(-signal.SIGTERM, router.process.wait(SECONDS), "the status after SIGTERM")
+        seconds, tellings = time.monotonic() - began, tellings_of(said(), links)
+    if not seconds - 2 <= len(tellings) <= seconds + 1:
+        raise Wrong(f"in {seconds:.1f} s the counts were told {len(tellings)} times")
+    for before, after in zip(tellings, tellings[1:]):
+        if any(new < old for one, other in zip(before, after) for old, new in zip(one, other)):
+            raise Wrong(f"a count fell from {before} to {after}")
+
+
+def unread():
+    """Lines that nobody reads, into a pipe that is soon full, keep no packet and no session waiting."""
+    a, b = Link("a"), Link("b")
+    read, write = os.pipe()
+    # F_SETPIPE_SZ: as little room as a pipe may have. All but 200 bytes of it is taken.
+    os.write(write, b"x" * (fcntl.fcntl(write, 1031, 4096) - 200))
+    with Router(PLAIN, [a, b], "--tell", "1", port=free_port(), said=write) as router:
+        os.close(write)
+        ends = time.monotonic() + 3
+        while time.monotonic() < ends:
+            is_carried(a, b, range(20))
+            router.session.read(b"c.count")
+        os.close(read)
+        time.sleep(0.1)
+        is_carried(a, b, range(20))
+        router.session.read(b"c.count")
+
+
+CASES = {case.__name__: case for case in (refused, sizes, addresses, endless, nobody, away, telling, unread, flood, carrying)}
+
+
+def main(words):
+    if not os.access(PROGRAM, os.X_OK):
+        print(f"udp_links.py: there is no {PROGRAM}: ./test.sh builds it, and so does rt run in its crate's folder", file=sys.stderr)
+        return 1
+    for name in words or CASES:
+        try:
+            CASES[name]()
+        except (Wrong, OSError, AttributeError, ValueError, StopIteration, subprocess.TimeoutExpired) as error:
+            print(f"udp_links.py: {name}: {error}", file=sys.stderr)
+            return 1
+    print(f"links over UDP: {', '.join(words or CASES)}: each packet came out or is in a count")
+    return 0
+
+
+if __name__ == "__main__":
+    sys.exit(main(sys.argv[1:]))
