@@ -1,9 +1,9 @@
 #!/usr/bin/env python3
 """Tries wrong bodies: the edits crates/NAME/wrong-bodies/*.edit, each of which the prover must refuse.
 
-    tools/wrong_bodies.py [NAME..]
-    tools/wrong_bodies.py --tenth [--seed N] [NAME..]    these, and a tenth of those of crates/NAME/by-hand, taken at random; it says by which seed
-    tools/wrong_bodies.py --by-hand [NAME..]             all of by-hand
+    tools/wrong_bodies.py [NAME..]                 all of wrong-bodies
+    tools/wrong_bodies.py --by-hand [NAME..]       all of by-hand
+    tools/wrong_bodies.py --gate SEED [NAME..]     what the gate tries: those of a third of the crates, and a tenth of the by-hand of these, both by the seed
 
 An edit has lines 'file: src/lib.rt' and pairs of lines 'old: TEXT' and 'new: TEXT', each TEXT one line, the old one standing just once in that file. One that changes
 more than bodies, as a constant, may have lines 'refused: PATH', each with a function that is to be refused for it; else any may be.
@@ -365,6 +365,13 @@ def edits_of(names, kind):
     return found
 
 
+def third_of(names, seed):
+    """A third of the crates that have edits: these are dealt in three, to and fro, so that each third has about as many edits, and the seed says which it is."""
+    dealt = sorted((it for it in names if edits_of([it], "wrong-bodies")), key=lambda it: (-len(edits_of([it], "wrong-bodies")), it))
+    third = seed % min(3, max(1, len(dealt)))
+    return [it for at, it in enumerate(dealt) if third == (at % 3 if at // 3 % 2 == 0 else 2 - at % 3)]
+
+
 def tenth_of(edits, seed):
     """A tenth of them, rounded up, taken at random; whoever gives the seed gets the same ones."""
     return sorted(random.Random(seed).sample(edits, math.ceil(len(edits) / 10)))
@@ -374,8 +381,7 @@ def main():
     reader = argparse.ArgumentParser(description="Tries wrong bodies, which the prover must refuse.")
     which = reader.add_mutually_exclusive_group()
     which.add_argument("--by-hand", action="store_true", help="those of by-hand, and no others")
-    which.add_argument("--tenth", action="store_true", help="a tenth of those of by-hand, too")
-    reader.add_argument("--seed", type=int, default=random.randrange(1_000_000), help="by which the tenth is taken")
+    which.add_argument("--gate", type=int, metavar="SEED", help="what the gate tries by this seed")
     reader.add_argument("names", nargs="*", metavar="NAME", help="a crate")
     asked = reader.parse_args()
     crates = crates_of()
@@ -383,10 +389,12 @@ def main():
         if name not in crates:
             reader.error(f"there is no crate {name}")
     names = asked.names or list(crates)
+    if asked.gate is not None:
+        names = third_of(names, asked.gate)
     edits = edits_of(names, "by-hand" if asked.by_hand else "wrong-bodies")
-    if asked.tenth:
-        tenth = tenth_of(edits_of(names, "by-hand"), asked.seed)
-        print(f"wrong_bodies.py: {len(tenth)} edits of by-hand, by --seed {asked.seed}", flush=True)
+    if asked.gate is not None:
+        tenth = tenth_of(edits_of(names, "by-hand"), asked.gate)
+        print(f"wrong_bodies.py: by --gate {asked.gate} those of {', '.join(names)}, and {len(tenth)} of their by-hand", flush=True)
         edits += tenth
     by_crate = {it: [path for crate, path in edits if crate == it] for it in names}
     # those with the most edits first, since they take longest

@@ -701,14 +701,14 @@ wrong_edit 'did not reach the prover' no_such_name '    next(n + 1)' '    next_o
 edit no_pair '    next(n + 1)' '    next(n)'
 sed -i '$d' "$tree/crates/small/wrong-bodies/no_pair.edit"
 TREE=$tree is_refused 'an edit without its new text' tools/wrong_bodies.py
-# A tenth of those of by-hand, one of this one, is tried where it is asked for, and the same by the same seed.
+# A tenth of those of by-hand, one of this one, is tried where the gate's are asked for. The gate's are those of a third of the crates, here of the one.
 edit same_number '    next(n + 1)' '    next(n)'
 mkdir "$tree/crates/small/by-hand"
 printf 'file: src/lib.rt\nold:     n + 1\nnew:     1 + n\n' > "$tree/crates/small/by-hand/other_order.edit"
 TREE=$tree ran tools/wrong_bodies.py
 same_status 0 "$status" 'tools/wrong_bodies.py, without those of by-hand'
-TREE=$tree is_refused 'an edit of by-hand that keeps the meaning' tools/wrong_bodies.py --tenth --seed 7
-same 'wrong_bodies.py: 1 edits of by-hand, by --seed 7' "$(head -n 1 "$work/out")" 'the seed'
+TREE=$tree is_refused 'an edit of by-hand that keeps the meaning' tools/wrong_bodies.py --gate 7
+same 'wrong_bodies.py: by --gate 7 those of small, and 1 of their by-hand' "$(head -n 1 "$work/out")" 'the seed'
 TREE=$tree is_refused 'an edit of by-hand alone' tools/wrong_bodies.py --by-hand
 rm -r "$tree/crates/small/by-hand" "$tree/crates/small/wrong-bodies"/*
 TREE=$tree is_refused 'a crate without edits' tools/wrong_bodies.py

@@ -1,4 +1,4 @@
-//! Tests of the desk: its seats, its feeds, and the sessions and drivers that work at it.
+//! Tests of the desk: its seats, its feeds, its views, and links.
 #![tactic(auto)]
 
 #[cfg(test)]
@@ -8,24 +8,12 @@ mod drivers;
 #[cfg(test)]
 mod feeds;
 #[cfg(test)]
-mod gates;
-#[cfg(test)]
 mod links;
 #[cfg(test)]
 mod live;
 #[cfg(test)]
-mod peers;
-#[cfg(test)]
-mod runs;
-#[cfg(test)]
 mod seats;
-#[cfg(test)]
-mod sessions;
-#[cfg(test)]
-mod staying;
 #[cfg(test)]
 mod views;
 #[cfg(test)]
 mod watching;
-#[cfg(test)]
-mod workers;

@@ -4,14 +4,11 @@ ghost use Rattle.std.specs.Prelude.{◌≡◌, ◌<◌, false, IfOk, IfSome, vec
 ghost use Rattle.std.specs.List.{All};
 ghost use Rattle.click_router.specs.Polls.{is_poll};
 
-use crate::peers::{Keeper, Script};
 use crate::seats::last_of;
-use click_control::Ended;
 use click_desk::{Desk, OpenFault, Seat, View};
 use click_handlers::{Table, TakesTable, with_table};
 use click_router::{Call, Check, Handlers, Reply};
 use click_text::sequence::Sequence;
-use click_workers::run;
 use std::alloc::{AllocError, Global};
 use std::sync::Wait;
 use std::test::Fail;
@@ -249,54 +246,9 @@ impl TakesTable for Views {
     }
 }
 
-/// A run of one session that takes the counter away, at whose end its count is checked.
-#[derive(Drop)]
-struct Checking {
-    alloc: Global,
-    input: &'static [u8],
-    name: Option<&'static [u8]>,
-}
-
-impl TakesTable for Checking {
-    type Out = Option<Option<Check>>;
-
-    fn take<R: Threads + Wait + Sync>(self, rt: &R, table: Table) -> Option<Option<Check>> {
-        let Checking { alloc, input, name } = self;
-        let mut reader = Script::new(input, 4096, 0);
-        let mut writer = Keeper::new(alloc, 4096, 0);
-        let ran = run(
-            rt,
-            alloc,
-            table,
-            &mut reader,
-            &mut writer,
-            COUNTED,
-            false,
-            name,
-        )
-        .ok()?;
-        match ran.ended {
-            Ok(Ended::Quit) => Some(ran.checked),
-            _ => None,
-        }
-    }
-}
-
 #[test]
 fn views_show_what_they_were_told(rt: HostRuntime) -> Result<(), Fail> {
     let alloc = rt.alloc();
     assert!(rt; with_table(&rt, alloc, Views { alloc })? == Some(true));
-    let swapped = b"WRITE hotconfig Idle -> Discard;\nQUIT\n".as_slice();
-    let count = b"c.count".as_slice();
-    let runs: [(&[u8], Option<&[u8]>, Option<Check>); 4] = [
-        (swapped, Some(count), Some(Check::NoElement)),
-        (b"QUIT\n", Some(count), Some(Check::Yes)),
-        (b"QUIT\n", Some(b"c.reset_counts"), Some(Check::WrongWay)),
-        (swapped, None, None),
-    ];
-    for (input, name, wanted) in runs {
-        let checked = with_table(&rt, alloc, Checking { alloc, input, name })?;
-        assert!(rt; checked == Some(wanted));
-    }
     Ok(())
 }

@@ -2,7 +2,7 @@ use Rattle.std.proofs.Common.{◌≡◌, List, Some, sym, subst}
 use Rattle.std.specs.List.{All}
 use Rattle.std.proofs.lemmas.List.Elements.{All-pop, All-push}
 use Rattle.click_desk.specs.Sittings.{Sitting}
-use Rattle.click_desk_tests.proofs.sessions.acted.Goals as goal
+use Rattle.click_workers_tests.proofs.sessions.acted.Goals as goal
 
 pub returns : goal.returns
 returns g c =
