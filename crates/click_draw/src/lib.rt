@@ -20,6 +20,3 @@ mod wishes;
 pub use drawing::{Drawing, Figure, Frame, Line, Look, Mark, Point, Rectangle};
 pub use laying_out::layout;
 pub use svg_writing::svg;
-
-#[cfg(test)]
-mod tests;

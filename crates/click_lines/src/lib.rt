@@ -18,6 +18,3 @@ pub use line::{Line, entry_line};
 pub use reading::read_line;
 pub use reply::{push_number, reply_line, reply_text};
 pub use spelling::push_words;
-
-#[cfg(test)]
-mod tests;

@@ -1,4 +1,4 @@
-//! Tests of the public calls below the desk, crate by crate; a crate with tests of its own would be proved twice.
+//! Tests of the public calls of what stands beside the desk or below it, crate by crate; a crate with tests of its own would be proved twice.
 #![tactic(auto)]
 
 #[cfg(test)]
@@ -16,6 +16,8 @@ mod faults;
 #[cfg(test)]
 mod handlers;
 #[cfg(test)]
+mod lines;
+#[cfg(test)]
 mod lists;
 #[cfg(test)]
 mod overruns;
@@ -23,6 +25,8 @@ mod overruns;
 mod packet;
 #[cfg(test)]
 mod packets;
+#[cfg(test)]
+mod pictures;
 #[cfg(test)]
 mod ports;
 #[cfg(test)]

@@ -55,7 +55,7 @@ fn states_of(alloc: Global, elements: &[FlatElement]) -> Result<Vec<State>, ArgF
 }
 
 /// The net of a text.
-fn net_of(alloc: Global, text: &[u8]) -> Result<Net, Fail> {
+pub fn net_of(alloc: Global, text: &[u8]) -> Result<Net, Fail> {
     let config = parse(alloc, text)?;
     let flat = flatten(alloc, &config).ok().ok_or("a flat form")?;
     let states = states_of(alloc, flat.elements.as_slice())?;

@@ -1,7 +1,6 @@
-//! Lines by hand.
+//! Lines of calls and replies, by hand.
 
-use crate::line::{Line, entry_line};
-use crate::reading::read_line;
+use click_lines::{Line, entry_line, read_line};
 use click_packet::{Packet, StoredPacket};
 use click_router::{Call, Reply};
 use click_text::sequence::Sequence;
