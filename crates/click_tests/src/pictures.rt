@@ -18,7 +18,7 @@ fn drawing_of(alloc: Global, text: &[u8]) -> Result<Drawing, Fail> {
 /// What stands below the style of a picture of `s :: InfiniteSource -> d :: Discard;`. `InfiniteSource` is 14 letters of 8, with 20 free: 132; its output is in the middle, 66. `Discard` is 7 letters: 76, and its
 /// input at 38.
 const SOURCE_ABOVE_SINK: &[u8] =
-    b"</style>\n<polyline id=\"c0\" points=\"86,86 86,130\"/>\n<g id=\"e0\" transform=\"translate(20,40)\"><rect class=\"box\" width=\"132\" height=\"46\"/><text y=\"21\" x=\"66\">s</text><text class=\"class\" y=\"33\" x=\"66\">InfiniteSource</text><path class=\"push\" d=\"M62 39h8v7h-8z\"/></g>\n<g id=\"e1\" transform=\"translate(48,130)\"><rect class=\"box\" width=\"76\" height=\"46\"/><text y=\"21\" x=\"38\">d</text><text class=\"class\" y=\"33\" x=\"38\">Discard</text><path class=\"push\" d=\"M33 0h10l-5 7z\"/><path class=\"rim\" d=\"M29 0h18l-9 12z\"/></g>\n</svg>\n";
+    b"</marker>\n<polyline id=\"c0\" points=\"86,86 86,130\"/>\n<g id=\"e0\" transform=\"translate(20,40)\"><rect class=\"box\" width=\"132\" height=\"46\"/><text y=\"21\" x=\"66\">s</text><text class=\"class\" y=\"33\" x=\"66\">InfiniteSource</text><path class=\"push\" d=\"M62 39h8v7h-8z\"/></g>\n<g id=\"e1\" transform=\"translate(48,130)\"><rect class=\"box\" width=\"76\" height=\"46\"/><text y=\"21\" x=\"38\">d</text><text class=\"class\" y=\"33\" x=\"38\">Discard</text><path class=\"push\" d=\"M33 0h10l-5 7z\"/><path class=\"rim\" d=\"M29 0h18l-9 12z\"/></g>\n</svg>\n";
 
 #[test]
 fn a_source_above_a_sink(rt: HostRuntime) -> Result<(), Fail> {
