@@ -37,6 +37,8 @@ LONGEST, PLACES = 1600, 1024
 FEWEST_READS, LONGEST_WAIT = 50, 2
 # Beside a source without end the program ends after so many seconds at most.
 LONGEST_END = 5
+# After so many seconds without a packet no more comes.
+QUIET = 5
 FORK = multiprocessing.get_context("fork")
 
 Counts = namedtuple("Counts", "received elsewhere long room memory entered sent failed")
@@ -255,11 +257,14 @@ def gives_all(link, way, count, rate):
 
 def takes_all(link, way, count):
     """Takes packets until none comes: how many came. Each is as it was sent, none comes twice, and none before one that was sent before it."""
-    link.socket.settimeout(2)
+    # (whoever sends makes all packets first, which takes long where others have the processors)
+    link.socket.settimeout(SECONDS)
     came, next_one = 0, 0
     try:
         while next_one < count:
             packet = link.take()
+            if not came:
+                link.socket.settimeout(QUIET)
             number = struct.unpack(">4sQ", packet[:12])[1] if len(packet) >= 12 else -1
             if number < next_one or packet != packet_of(way, number):
                 raise Wrong(f"{way}: {packet!r} came where number {next_one} or a later one was next")
