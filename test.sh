@@ -45,5 +45,5 @@ tools/swap_faults.sh
 tools/swap_sizes.sh
 tools/refuse.sh
 took 'what tries the programs and the pages'
-tools/wrong_programs.sh
+tools/wrong_programs.sh --half $((16#${sources:0:8}))
 took 'what shows that these checks can fail'

@@ -2,11 +2,15 @@
 # Shows that the scripts of the gate can fail: each is run against programs that answer wrongly, pages that say something wrong and edits that are none, and has
 # to refuse each that concerns it: with status 1, and saying why. A wrong program runs the real one and changes what comes. One that changes nothing has to pass,
 # so that it is the change that is refused. The programs must have been built.
+#
+#     tools/wrong_programs.sh                  all of them
+#     tools/wrong_programs.sh --half SEED      each second program and page, the even or the odd ones by the seed, and all edits: what the gate tries
 set -eu
 . "$(dirname "$(readlink -f "$0")")/lib/checking.sh"
 is_built "$program" "$bench" "$calls" "$pcap"
 cd "$top"
-refused=0
+left_out=none tried=0 refused=0
+if [ "${1:-}" = --half ]; then left_out=$((($2 + 1) % 2)); fi
 
 # wrapped FILE PROGRAM CHANGE: makes the wrong program. CHANGE is a piece of script over $status and the files $out and $err. Over /dev/full the real
 # program writes for itself, since a failed write is its own.
@@ -48,6 +52,11 @@ script_of() {
 is_refused() {
     local what=$1
     shift
+    tried=$((tried + 1))
+    if [ $((tried % 2)) = $left_out ]; then
+        : > "$work/err"
+        return
+    fi
     ran "$@"
     same_status 1 "$status" "$what, by $(basename "$1")"
     is_not_empty "$work/err" "$what, by $(basename "$1"): why"
@@ -642,6 +651,7 @@ for change in 's/in src specs proofs/in src proofs/' 's/"\$version" //' 's/find 
 done
 echo "$refused times a wrong run.sh was refused"
 
+left_out=none
 # Without a C compiler nothing can be refused, and that is a failure.
 mkdir "$work/without"
 for word in bash dirname readlink mktemp rm; do ln -s "$(command -v $word)" "$work/without/$word"; done
