@@ -411,26 +411,6 @@ fn takes_a_large_payload(rt: HostRuntime) -> Result<(), Fail> {
     Ok(())
 }
 
-/// Many commands in one piece; and none after `QUIT`.
-#[test]
-fn takes_many_commands(rt: HostRuntime) -> Result<(), Fail> {
-    let mut session = Session::new(rt.alloc());
-    let mut piece = Vec::new(rt.alloc());
-    for _ in 0..100_000 {
-        piece.extend_from_slice(b"READ c.count\n")?;
-    }
-    session.feed(&piece)?;
-    for _ in 0..100_000 {
-        assert!(rt; matches!(session.next(rt.alloc())?, Some(Command::Read { .. })));
-    }
-    assert!(rt; session.next(rt.alloc())?.is_none());
-    session.feed(b"QUIT\nREAD c.count\n")?;
-    assert!(rt; matches!(session.next(rt.alloc())?, Some(Command::Quit)));
-    session.feed(b"READ c.count\n")?;
-    assert!(rt; session.next(rt.alloc())?.is_none());
-    Ok(())
-}
-
 /// A line of so many bytes, whose command word is `FOO`, with the next line.
 fn long_line(alloc: Global, len: usize) -> Result<Vec<u8>, AllocError> {
     let mut line = vec![in alloc; b' '; len]?;
