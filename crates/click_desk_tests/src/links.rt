@@ -228,6 +228,13 @@ fn moved<T: Handlers + Drop, R: Wait>(rt: &R, alloc: Global, table: T) -> Option
     )
 }
 
+/// One link less has datagrams that come; with the last one the run is told to stop.
+fn count_down(left: &AtomicUsize, stop: &AtomicBool) {
+    if left.fetch_sub(1, Ordering::SeqCst) == 1 {
+        stop.store(true, Ordering::SeqCst);
+    }
+}
+
 /// Datagrams over memory. When those of all such links have come, the run is told to stop.
 #[derive(Drop)]
 struct Closing<'a> {
@@ -242,15 +249,11 @@ impl Inbound for Closing<'_> {
     ghost current = { λ c. ⟦<Listed as Inbound>⟧.current c.listed };
 
     fn receive(&mut self) -> Result<bool, LinkFailed> {
-        match self.listed.receive() {
-            Ok(one) => Ok(one),
-            Err(failed) => {
-                if self.left.fetch_sub(1, Ordering::SeqCst) == 1 {
-                    self.stop.store(true, Ordering::SeqCst);
-                }
-                Err(failed)
-            }
-        }
+        let Ok(one) = self.listed.receive() else {
+            count_down(self.left, self.stop);
+            return Err(LinkFailed);
+        };
+        Ok(one)
     }
 
     fn bytes(&self) -> &[u8] {
