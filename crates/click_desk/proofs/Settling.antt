@@ -1,9 +1,9 @@
 -- What a settlement rests on.
-use Rattle.std.proofs.Common.{◌≡◌, ℕ, zero, suc, ◌<◌, Bool, true, false, if◌then◌else◌, List, [], ◌∷◌, map, length, slice_index_or, slice_set, sym, refl, ap, ◌∙◌, true≢false, arith}
+use Rattle.std.proofs.Common.{◌≡◌, ℕ, zero, suc, ◌<◌, Bool, true, false, ◌||◌, if◌then◌else◌, List, [], ◌∷◌, map, length, slice_index_or, slice_set, sym, refl, ap, ◌∙◌, true≢false, arith}
 use Rattle.std.specs.List.{All, remove}
 use Rattle.std.specs.Str.{bytes_eq}
 use Rattle.click_rings.specs.Feeds.{Drawing, FeedName, name_of, has_feed, are_apart, IsPlace}
-use Rattle.click_rings.proofs.Draws.{has_at, none_first, none_rest, first_apart, rest_apart, other_first, is_itself}
+use Rattle.click_rings.proofs.Draws.{has_at, none_first, none_rest, first_apart, rest_apart, other_first, is_itself, same_device}
 use Rattle.click_desk.specs.Polls.{without}
 
 -- taking the inlet of a device out
@@ -44,6 +44,26 @@ has_without : (d device : List ℕ) (is : List Drawing) → has_feed d (map name
 has_without d device [] none = none
 has_without d device (i ∷ is) none =
     none_choice d i is (without device is) (bytes_eq i.device device) none (has_without d device is (none_rest (bytes_eq i.device d) (has_feed d (map name_of is)) none))
+
+-- a device's own feed is not that of another one
+or_other : (a b : Bool) → (a ≡ true → ⊥) → (a || b) ≡ true → b ≡ true
+or_other true b never has = absurd (never refl)
+or_other false b never has = has
+
+or_either : (a b c : Bool) → (b ≡ true → c ≡ true) → (a || b) ≡ true → (a || c) ≡ true
+or_either true b c kept has = refl
+or_either false b c kept has = kept has
+
+has_choice : (d device : List ℕ) (i : Drawing) (is rest : List Drawing) (b : Bool) → bytes_eq i.device device ≡ b → (d ≡ device → ⊥)
+    → (has_feed d (map name_of is) ≡ true → has_feed d (map name_of rest) ≡ true) → has_feed d (map name_of (i ∷ is)) ≡ true → has_feed d (map name_of (if b then is else (i ∷ rest))) ≡ true
+has_choice d device i is rest true here other kept has =
+    or_other (bytes_eq i.device d) (has_feed d (map name_of is)) (λ same. other (sym (same_device i.device d same) ∙ same_device i.device device here)) has
+has_choice d device i is rest false here other kept has = or_either (bytes_eq i.device d) (has_feed d (map name_of is)) (has_feed d (map name_of rest)) kept has
+
+-- what is left has each other device's
+pub has_others : (d device : List ℕ) (is : List Drawing) → (d ≡ device → ⊥) → has_feed d (map name_of is) ≡ true → has_feed d (map name_of (without device is)) ≡ true
+has_others d device [] other has = has
+has_others d device (i ∷ is) other has = has_choice d device i is (without device is) (bytes_eq i.device device) refl other (has_others d device is other) has
 
 apart_cons : (i : Drawing) (is : List Drawing) → has_feed i.device (map name_of is) ≡ false → are_apart (map name_of is) ≡ true → are_apart (map name_of (i ∷ is)) ≡ true
 apart_cons i is none apart = rw none apart

@@ -1,7 +1,8 @@
 //! What is left of a closed desk.
 
-ghost use Rattle.std.specs.Prelude.{◌≡◌, ◌++◌, ◌↔◌, map, true, false, IfOk, IfErr, OnOk};
+ghost use Rattle.std.specs.Prelude.{◌≡◌, ◌++◌, ◌↔◌, List, map, true, false, IfOk, IfErr, OnOk};
 ghost use Rattle.std.specs.List.{All};
+ghost use Rattle.click_packet.specs.Packet.{Packet};
 ghost use Rattle.click_rings.specs.Feeds.{name_of, has_feed};
 ghost use Rattle.click_views.specs.Showing.{BeginsWith};
 ghost use Rattle.click_desk.specs.History.{installs};
@@ -72,7 +73,7 @@ impl<T> Book<T> {
         self.published.meet(&view.shown);
     }
 
-    /// The packets that the feed of this device put and that no poll took. The end is of that feed.
+    /// The packets that the feed of this device put and that no poll took. The end is of that feed. What the history polled of the device is a beginning of what the feed put, also where memory runs out.
     pub fn settle(
         &mut self,
         alloc: Global,
@@ -81,6 +82,7 @@ impl<T> Book<T> {
     ) -> Result<Vec<StoredPacket>, SettleRefused>
         requires { All (λ t. t.device ≡ device.now → t.ring ≡ end.ring) self.old.taps }
         ensures left { IfOk result (λ left. end.put ≡ polled self.old.entries device.now ++ left.items) }
+        ensures begins { has_feed device.now (map name_of self.old.taps) ≡ true → (rest : List Packet) × (end.put ≡ polled self.old.entries device.now ++ rest) }
         ensures settled { OnOk result (self.new ≡ record self.old { taps = without device.now self.old.taps }) }
         ensures refused { IfErr result (λ r. (r.end ≡ end) × (self.new ≡ self.old)) }
         ensures unknown { IfErr result (λ r. (r.fault ≡ SettleFault.NoFeed) ↔ (has_feed device.now (map name_of self.old.taps) ≡ false)) }

@@ -4,6 +4,8 @@ use Rattle.std.proofs.Math.Bool.{not}
 use Rattle.std.proofs.lemmas.Bool.{not-true}
 use Rattle.std.proofs.lemmas.Slice.Eq.{bytes_eq-Decides}
 use Rattle.std.specs.Str.{bytes_eq}
+use Rattle.std.specs.List.{All}
+use Rattle.std.proofs.lemmas.List.Elements.{All-nil, All-cons}
 use Rattle.click_packet.specs.Packet.{Packet}
 use Rattle.click_rings.specs.Feeds.{Drawing, FeedName, name_of, has_feed, are_apart, drew, IsPlace}
 
@@ -61,12 +63,26 @@ has_at device [] k at = let h = at.0 in absurd (omega arith)
 has_at device (i ∷ is) zero at = or_first (bytes_eq i.device device) (has_feed device (map name_of is)) (at.1 i)
 has_at device (i ∷ is) (suc k) at = or_rest (bytes_eq i.device device) (has_feed device (map name_of is)) (has_at device is k (let h = at.0 in omega arith, at.1))
 
+-- each of these feeds is one of them
+pub each_has : (fs : List FeedName) → All (λ (f : FeedName). has_feed f.device fs ≡ true) fs
+each_has [] = All-nil (λ (f : FeedName). has_feed f.device [] ≡ true)
+each_has (f ∷ fs) =
+    All-cons (λ (n : FeedName). has_feed n.device (f ∷ fs) ≡ true) f fs (or_first (bytes_eq f.device f.device) (has_feed f.device fs) (is_itself f.device))
+    (λ k n below. or_rest (bytes_eq f.device (slice_index_or fs k n).device) (has_feed (slice_index_or fs k n).device fs) (each_has fs k n below))
+
 -- the first of several apart is of no device of the others
+pub head_apart : (f : FeedName) (fs : List FeedName) → are_apart (f ∷ fs) ≡ true → has_feed f.device fs ≡ false
+head_apart f fs e = not-true (has_feed f.device fs) (both_first (not (has_feed f.device fs)) (are_apart fs) e)
+
+pub tail_apart : (f : FeedName) (fs : List FeedName) → are_apart (f ∷ fs) ≡ true → are_apart fs ≡ true
+tail_apart f fs e = both_rest (not (has_feed f.device fs)) (are_apart fs) e
+
+-- the same of inlets
 pub first_apart : (i : Drawing) (is : List Drawing) → are_apart (map name_of (i ∷ is)) ≡ true → has_feed i.device (map name_of is) ≡ false
-first_apart i is e = not-true (has_feed i.device (map name_of is)) (both_first (not (has_feed i.device (map name_of is))) (are_apart (map name_of is)) e)
+first_apart i is e = head_apart (name_of i) (map name_of is) e
 
 pub rest_apart : (i : Drawing) (is : List Drawing) → are_apart (map name_of (i ∷ is)) ≡ true → are_apart (map name_of is) ≡ true
-rest_apart i is e = both_rest (not (has_feed i.device (map name_of is))) (are_apart (map name_of is)) e
+rest_apart i is e = tail_apart (name_of i) (map name_of is) e
 
 -- where one of the others is of the device, the first is not
 pub other_first : (device : List ℕ) (i : Drawing) (is : List Drawing) (b : Bool) → bytes_eq i.device device ≡ b → has_feed i.device (map name_of is) ≡ false → has_feed device (map name_of is) ≡ true → b ≡ false

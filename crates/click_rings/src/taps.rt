@@ -1,6 +1,7 @@
 //! Inlets of several devices, and what is drawn from them.
 
-ghost use Rattle.std.specs.Prelude.{◌≡◌, ◌≤◌, ◌++◌, [], length, map, true, false, vec_capacity, IfOk, IfSome, IfNone, OnErr};
+ghost use Rattle.std.specs.Prelude.{◌≡◌, ◌≤◌, ◌++◌, List, [], length, map, true, false, vec_capacity, IfOk, IfSome, IfNone, OnErr};
+ghost use Rattle.click_packet.specs.Packet.{Packet};
 ghost use Rattle.click_rings.specs.Feeds.{name_of, has_feed, are_apart as apart, drew, IsPlace};
 
 use crate::ends::{FeedEnd, Inlet};
@@ -65,7 +66,7 @@ impl Tap {
         }
     }
 
-    /// What is left in the ring of a feed that has ended. Where memory runs out, nothing is drawn.
+    /// What is left in the ring of a feed that has ended. Where memory runs out, nothing is drawn. What was drawn before is a beginning of what was put, however this ends.
     pub fn drain(
         &mut self,
         alloc: Global,
@@ -74,6 +75,7 @@ impl Tap {
         requires { end.old.ring ≡ self.old.ring }
         ensures name { name_of self.new ≡ name_of self.old }
         ensures end { end.new ≡ end.old }
+        ensures begins { (rest : List Packet) × (end.old.put ≡ self.old.drawn ++ rest) }
         ensures ok { IfOk result (λ left. (end.old.put ≡ self.old.drawn ++ left.items) × (self.new.drawn ≡ end.old.put)) }
         ensures err { OnErr result (self.new.drawn ≡ self.old.drawn) }
     {

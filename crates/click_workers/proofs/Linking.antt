@@ -1,16 +1,17 @@
 -- Feeds of links, and lists that go together.
-use Rattle.std.proofs.Common.{◌≡◌, inr, ℕ, true, false, true≢false, List, Option, Some, None, IfSome, option_map, [], ◌∷◌, map, refl, sym, ap, subst, ◌∙◌}
+use Rattle.std.proofs.Common.{◌≡◌, inr, ℕ, true, false, true≢false, List, Option, [], ◌∷◌, map, refl, sym, ap, subst, ◌∙◌}
 use Rattle.std.specs.Str.{bytes_eq}
 use Rattle.std.specs.List.{All, AllZip}
 use Rattle.std.proofs.lemmas.List.Elements.{All-nil, All-cons, All-head, All-tail}
 use Rattle.click_rings.specs.Feeds.{Drawing, FeedName, RingName, name_of, has_feed, are_apart}
-use Rattle.click_rings.proofs.Draws.{none_first, none_rest, first_apart, rest_apart, is_itself}
-use Rattle.click_desk.proofs.Settling.{own_ring}
+use Rattle.click_rings.proofs.Draws.{none_first, none_rest, head_apart, first_apart, rest_apart, is_itself, each_has}
+use Rattle.click_desk.proofs.Settling.{own_ring, all_without, has_others}
 use Rattle.click_desk.proofs.Viewless.{viewless}
 use Rattle.click_desk.specs.Booklet.{Booklet}
 use Rattle.click_desk.specs.Openings.{IsViewFault}
+use Rattle.click_desk.specs.Polls.{without}
 use Rattle.click_desk.specs.declared.open.OpenFault.{OpenFault}
-use Rattle.click_workers.specs.Linked.{FitsTaps, IsTrueOpening}
+use Rattle.click_workers.specs.Linked.{FitsTaps, HasRing, IsTrueOpening}
 use Rattle.click_workers.specs.Runs.{HeadlineWith}
 use Rattle.click_workers.specs.Work.{SideBySide}
 
@@ -33,17 +34,30 @@ widen t ts (f ∷ fs) gone fit =
     (widen t ts fs (All-tail (λ (f : FeedName). t.device ≡ f.device → ⊥) f fs gone) (All-tail (λ (f : FeedName). FitsTaps ts f.device f.ring) f fs fit))
 
 -- each of the feeds, where no two are of one device, is the one of its device
-pub fits : (taps : List Drawing) → are_apart (map name_of taps) ≡ true → All (λ (f : FeedName). FitsTaps taps f.device f.ring) (map name_of taps)
+fits : (taps : List Drawing) → are_apart (map name_of taps) ≡ true → All (λ (f : FeedName). FitsTaps taps f.device f.ring) (map name_of taps)
 fits [] apart = All-nil (λ (f : FeedName). FitsTaps [] f.device f.ring)
 fits (t ∷ ts) apart =
     All-cons (λ (f : FeedName). FitsTaps (t ∷ ts) f.device f.ring) (name_of t) (map name_of ts)
     (own_ring (name_of t) (map name_of ts) (t ∷ ts) refl apart)
     (widen t ts (map name_of ts) (away t.device (map name_of ts) (first_apart t ts apart)) (fits ts (rest_apart t ts apart)))
 
+pub own-feeds : (taps : List Drawing) → are_apart (map name_of taps) ≡ true → All (λ (f : FeedName). HasRing taps f.device f.ring) (map name_of taps)
+own-feeds taps apart = λ k f below. (each_has (map name_of taps) k f below, fits taps apart k f below)
+
+-- once a device's feed is settled, each other device has its own
+pub others-kept : (taps : List Drawing) (device other : List ℕ) (ring : RingName) → (other ≡ device → ⊥) → HasRing taps other ring → HasRing (without device taps) other ring
+others-kept taps device other ring differ has =
+    (has_others other device taps differ has.0, all_without (λ (t : Drawing). t.device ≡ other → t.ring ≡ ring) device taps has.1)
+
 -- what holds of each image holds of what it is the image of
 pub from-map : {X Y : Type 0} (P : Y → Type 0) (g : X → Y) (xs : List X) → All P (map g xs) → All (λ x. P (g x)) xs
 from-map P g [] h = All-nil (λ x. P (g x))
 from-map P g (x ∷ xs) h = All-cons (λ x. P (g x)) x xs (All-head P (g x) (map g xs) h) (from-map P g xs (All-tail P (g x) (map g xs) h))
+
+-- where no two of these feeds are of one device, the others are of other devices than the first
+pub others-differ : {X : Type 0} (feed : X → FeedName) (x : X) (xs : List X) → are_apart (map feed (x ∷ xs)) ≡ true → All (λ y. (feed y).device ≡ (feed x).device → ⊥) xs
+others-differ feed x xs apart = λ k y below same.
+    from-map (λ (f : FeedName). (feed x).device ≡ f.device → ⊥) feed xs (away (feed x).device (map feed xs) (head_apart (feed x) (map feed xs) apart)) k y below (sym same)
 
 -- images that are the same place by place
 pub same-map : {X Y Z : Type 0} (R : X → Y → Type 0) (f : X → Z) (g : Y → Z) → ((x : X) (y : Y) → R x y → g y ≡ f x) → (xs : List X) (ys : List Y) → AllZip R xs ys → map g ys ≡ map f xs
@@ -82,11 +96,6 @@ resettled feeds room text n book taps none h = record {
   no_feeds = λ bare. none (h.no_feeds bare);
   terms = h.terms;
 }
-
--- what holds of the image of what there is
-pub mapped : {X Y : Type 0} (f : X → Y) (P : Y → Type 0) (o : Option X) → IfSome o (λ x. P (f x)) → IfSome (option_map f o) P
-mapped f P None h = h
-mapped f P (Some x) h = h
 
 -- what a desk tells that is not opened, of which no views were asked
 pub no-desk : (seats : ℕ) (feeds : List FeedName) (text : List ℕ) (f : OpenFault) → IsViewFault seats feeds 0 text f → IsTrueOpening seats (map (λ (x : FeedName). x.device) feeds) text f

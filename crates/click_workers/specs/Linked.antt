@@ -1,8 +1,8 @@
 -- What a run with links leaves.
-use Rattle.std.specs.Prelude.{◌≡◌, ◌⊎◌, ℕ, ◌+◌, List, [], ◌∷◌, ◌++◌, map, Bool, Option, None, IfSome}
+use Rattle.std.specs.Prelude.{◌≡◌, ◌⊎◌, ℕ, ◌+◌, List, [], ◌∷◌, ◌++◌, map, Bool, true, Option, None, IfSome}
 use Rattle.std.specs.List.{All}
 use Rattle.click_packet.specs.Packet.{Packet}
-use Rattle.click_rings.specs.Feeds.{RingName, FeedName, Drawing}
+use Rattle.click_rings.specs.Feeds.{RingName, FeedName, Drawing, name_of, has_feed}
 use Rattle.click_router.specs.declared.call.Call.{Call}
 use Rattle.click_router.specs.declared.call.Reply.{Reply}
 use Rattle.click_desk.specs.Booklet.{Booklet}
@@ -29,6 +29,10 @@ calls_in history = map (λ e. (e.call, e.reply)) history
 abbrev pub FitsTaps : List Drawing → List ℕ → RingName → Type 0
 FitsTaps taps device ring = All (λ t. t.device ≡ device → t.ring ≡ ring) taps
 
+-- of these feeds one is of this device, and that is of this ring
+abbrev pub HasRing : List Drawing → List ℕ → RingName → Type 0
+HasRing taps device ring = (has_feed device (map name_of taps) ≡ true) × FitsTaps taps device ring
+
 -- the headline of a desk that keeps no book, with one feed for each of these devices
 abbrev pub LinkedHeadline : List (List ℕ) → List ℕ → ℕ → Booklet → Type 0
 LinkedHeadline devices text n book = (feeds : List FeedName) × (map (λ (f : FeedName). f.device) feeds ≡ devices) × HeadlineWith feeds None text n book
@@ -43,14 +47,18 @@ pub record LinkedWork (attends : Sitting → SessionEnd → Type 0) (drives : Si
   pub worked : Worked attends drives places (places + workers) served ended drivers
   pub forwards : Forwards devices [] forwarder.calls before after
 
--- Datagrams came over the link of a device, each of which became a packet of its feed, which was new and had the places of a link, or was dropped for its cause and counted. What became packets is what the history polled of the device, followed by what is left
--- (where there was memory to tell it), in order, each once.
+-- What the feed of a device put is what the history polled of that device, followed by the rest, in order, each once; what is told as left is just the rest.
+abbrev pub IsSettled : List Entry → List ℕ → List Packet → Option (List Packet) → Type 0
+IsSettled history device put left = (rest : List Packet) × (put ≡ polled history device ++ rest) × IfSome left (λ l. l ≡ rest)
+
+-- Datagrams came over the link of a device, each of which became a packet of its feed, which was new and had the places of a link, or was dropped for its cause and counted. What became packets is what the history polled of the device, followed by what is left,
+-- in order, each once, also where there was no memory to tell what is left.
 pub record LinkRan (history : List Entry) (device : List ℕ) (came came2 : List Datagram) (dropped : Dropped) (left : Option (List Packet)) : Type 0 where
   pub from : Offering
   pub to : Offering
   pub fresh : IsNewFeed from
   pub receives : Receives came came2 from to dropped
-  pub settled : IfSome left (λ l. to.feed.put ≡ polled history device ++ l)
+  pub settled : IsSettled history device to.feed.put left
 
 -- Why there is no run of so many seats with links of these devices: want of memory, which may come first; else what a desk tells that has so many seats and one feed for each of these devices.
 abbrev pub IsTrueOpening : ℕ → List (List ℕ) → List ℕ → OpenFault → Type 0

@@ -1,16 +1,15 @@
 //! A router that stays, with links.
 
-ghost use Rattle.std.specs.Prelude.{◌≡◌, ◌<◌, ◌≤◌, ◌+◌, ◌++◌, ◌∷◌, List, ℕ, [], true, None, IfOk, IfErr, IfSome, length, map, option_map, vec_len, vec_capacity};
+ghost use Rattle.std.specs.Prelude.{◌≡◌, ◌<◌, ◌≤◌, ◌+◌, ◌++◌, ◌∷◌, List, ℕ, [], true, None, IfOk, IfErr, length, map, option_map, vec_len, vec_capacity};
 ghost use Rattle.std.specs.List.{All, AllZip};
 ghost use Rattle.std.specs.Thread.{IsSend, IsSync};
 ghost use Rattle.click_rings.specs.Feeds.{FeedName, RingName, are_apart};
 ghost use Rattle.click_desk.specs.Booklet.{Booklet};
-ghost use Rattle.click_desk.specs.Polls.{polled};
 ghost use Rattle.click_desk.specs.Sittings.{new_seat};
 ghost use Rattle.click_links.specs.Fates.{Receives};
 ghost use Rattle.click_links.specs.Forwarding.{Forwards, sent_by, gifts_by};
 ghost use Rattle.click_links.specs.Turns.{SameSeat, names_of};
-ghost use Rattle.click_workers.specs.Linked.{calls_in, FitsTaps, LinkedHeadline, LinkedWork, LinkRan, IsTrueOpening};
+ghost use Rattle.click_workers.specs.Linked.{calls_in, HasRing, IsSettled, LinkedHeadline, LinkedWork, LinkRan, IsTrueOpening};
 ghost use Rattle.click_workers.specs.Runs.{HeadlineWith, IsOpenedFor};
 ghost use Rattle.click_workers.specs.Seats.{IsOf};
 ghost use Rattle.click_workers.specs.Work.{AttendedInTurn, DroveFor, Ready, SideBySide, Worked, numbers_below};
@@ -197,11 +196,11 @@ fn left_of<T>(
     device: &[u8],
     feed: Feed,
 ) -> Option<Vec<StoredPacket>>
-    requires { FitsTaps book.old.taps device.now feed.ring }
+    requires { HasRing book.old.taps device.now feed.ring }
     ensures book { book.new ≡ record book.old { taps = book.new.taps } }
-    ensures fits { (device : List ℕ) (ring : RingName) → FitsTaps book.old.taps device ring → FitsTaps book.new.taps device ring }
+    ensures others { (other : List ℕ) (ring : RingName) → (other ≡ device.now → ⊥) → HasRing book.old.taps other ring → HasRing book.new.taps other ring }
     ensures none { book.old.taps ≡ [] → book.new.taps ≡ [] }
-    ensures left { IfSome result (λ l. feed.put ≡ polled book.old.entries device.now ++ l.items) }
+    ensures left { IsSettled book.old.entries device.now feed.put (option_map (λ l. l.items) result) }
 {
     let Some(end) = feed.finish() else {
         unreachable!()
@@ -214,12 +213,12 @@ fn left_of<T>(
 
 /// Settles the feed of a link.
 fn settle_one<T, L>(alloc: Global, book: &mut Book<T>, receiver: Receiving<L>) -> LinkEnd<L>
-    requires { FitsTaps book.old.taps receiver.device receiver.intake.feed.ring }
+    requires { HasRing book.old.taps receiver.device receiver.intake.feed.ring }
     ensures book { book.new ≡ record book.old { taps = book.new.taps } }
-    ensures fits { (device : List ℕ) (ring : RingName) → FitsTaps book.old.taps device ring → FitsTaps book.new.taps device ring }
+    ensures others { (other : List ℕ) (ring : RingName) → (other ≡ receiver.device → ⊥) → HasRing book.old.taps other ring → HasRing book.new.taps other ring }
     ensures none { book.old.taps ≡ [] → book.new.taps ≡ [] }
     ensures same { (result.device ≡ receiver.device) × (result.link ≡ receiver.link) × (result.received ≡ receiver.received) }
-    ensures left { IfSome result.left (λ l. receiver.intake.feed.put ≡ polled book.old.entries receiver.device ++ l.items) }
+    ensures left { IsSettled book.old.entries receiver.device receiver.intake.feed.put (option_map (λ l. l.items) result.left) }
 {
     let Receiving {
         device,
@@ -243,11 +242,12 @@ fn settle_all<T, L: Drop>(
     receivers: Vec<Receiving<L>>,
     ends: &mut Vec<LinkEnd<L>>,
 )
-    requires fits { All (λ r. FitsTaps book.old.taps r.device r.intake.feed.ring) receivers.items }
+    requires feeds { All (λ r. HasRing book.old.taps r.device r.intake.feed.ring) receivers.items }
+    requires apart { are_apart (map (λ r. record { device = r.device; ring = r.intake.feed.ring }) receivers.items) ≡ true }
     requires room { (ends.old.items ≡ []) × (length receivers.items ≤ vec_capacity ends.old) }
     ensures book { book.new ≡ record book.old { taps = book.new.taps } }
     ensures none { book.old.taps ≡ [] → book.new.taps ≡ [] }
-    ensures ends { SideBySide (λ r e. (e.device ≡ r.device) × (e.link ≡ r.link) × (e.received ≡ r.received) × IfSome e.left (λ l. r.intake.feed.put ≡ polled book.old.entries r.device ++ l.items)) receivers.items ends.new.items }
+    ensures ends { SideBySide (λ r e. (e.device ≡ r.device) × (e.link ≡ r.link) × (e.received ≡ r.received) × IsSettled book.old.entries r.device r.intake.feed.put (option_map (λ l. l.items) e.left)) receivers.items ends.new.items }
 {
     for receiver in receivers {
         ends.push_reserved(settle_one(alloc, book, receiver));
@@ -270,7 +270,7 @@ fn close_and_settle<T: Drop, L: Drop, S, R: Wait>(
     requires ends { (links.items ≡ []) × (length linked.links.items ≤ vec_capacity links) }
     ensures headline { (text : List ℕ) (n : ℕ) → IsOpenedFor None text n desk.entry → HeadlineWith (map (λ r. record { device = r.device; ring = r.intake.feed.ring }) linked.links.items) None text n result.book }
     ensures seats { result.book.seats ≡ work.seats.items ++ linked.seat ∷ [] }
-    ensures links { SideBySide (λ r e. (e.device ≡ r.device) × (e.link ≡ r.link) × (e.received ≡ r.received) × IfSome e.left (λ l. r.intake.feed.put ≡ polled result.book.entries r.device ++ l.items)) linked.links.items result.links.items }
+    ensures links { SideBySide (λ r e. (e.device ≡ r.device) × (e.link ≡ r.link) × (e.received ≡ r.received) × IsSettled result.book.entries r.device r.intake.feed.put (option_map (λ l. l.items) e.left)) linked.links.items result.links.items }
     ensures rest { (result.ended.items ≡ work.ended.items) × (result.drivers.items ≡ work.drivers.items) × (result.sender ≡ linked.sender) }
 {
     let Work {
@@ -299,7 +299,7 @@ fn close_and_settle<T: Drop, L: Drop, S, R: Wait>(
 /// Runs a router that stays, as `run_live` does, with links beside its sessions and drivers: datagrams that come over a link are packets of its device, and packets that the device gives go out over it. One
 /// forwarder moves the packets of all links and makes Rounds while they have work; it has the last seat. Once every place has served its sessions the links end, the desk is closed, and the links' feeds are settled.
 ///
-/// The headline is that of `run_live`. What came over a link and was not dropped is what the history polled of its device, followed by what is left; what was sent by the link of a device are, in order, just the
+/// The headline is that of `run_live`. What came over a link and was not dropped is what the history polled of its device, followed by what is left, whether or not there was memory to tell that; what was sent by the link of a device are, in order, just the
 /// packets of the replies to its Transmits in the one history, and only the forwarder makes any.
 pub fn run_linked<
     T: Handlers + Send + Drop,

@@ -1,19 +1,17 @@
-use Rattle.std.proofs.Common.{◌≡◌, ◌+◌, ◌++◌, ◌∷◌, [], ℕ, suc, List, None, IfSome, length, map, option_map, arith, ap, subst, sym, ◌∙◌}
+use Rattle.std.proofs.Common.{◌≡◌, ◌+◌, ◌++◌, ◌∷◌, [], ℕ, suc, List, None, length, map, option_map, arith, ap, subst, sym, ◌∙◌}
 use Rattle.std.specs.List.{All}
 use Rattle.std.proofs.lemmas.List.{length-map}
 use Rattle.std.proofs.lemmas.List.Elements.{All-push}
 use Rattle.std.proofs.lemmas.Result.{err_from_is_err_and}
 use Rattle.std.proofs.lemmas.Slice.Zip.{AllZip-long}
-use Rattle.click_packet.specs.Packet.{Packet}
 use Rattle.click_rings.specs.Feeds.{FeedName, RingName, are_apart}
-use Rattle.click_desk.specs.Polls.{polled}
 use Rattle.click_desk.specs.Sittings.{Sitting}
 use Rattle.click_links.specs.Ends.{IsNewFeed}
 use Rattle.click_links.specs.Fates.{Receives}
 use Rattle.click_links.specs.declared.device.Device.{Device}
 use Rattle.click_links.specs.declared.receiving.Received.{Received}
 use Rattle.click_links.specs.declared.run.Receiving.{Receiving}
-use Rattle.click_workers.specs.Linked.{LinkRan}
+use Rattle.click_workers.specs.Linked.{IsSettled, LinkRan}
 use Rattle.click_workers.specs.Seats.{IsOf}
 use Rattle.click_links.proofs.Gifts.{link_sends}
 use Rattle.click_links.specs.Forwarding.{sent_by, gifts_by}
@@ -21,7 +19,7 @@ use Rattle.click_links.specs.Turns.{names_of}
 use Rattle.click_workers.specs.Work.{AttendedInTurn, DroveFor, numbers_below}
 use Rattle.click_workers.proofs.Sending.{served-quiet, place-quiet, driver-quiet, gives-alone}
 use Rattle.click_workers.specs.declared.linked.LinkEnd.{LinkEnd}
-use Rattle.click_workers.proofs.Linking.{same-map, weave, devices-named, mapped, no-run}
+use Rattle.click_workers.proofs.Linking.{same-map, weave, devices-named, no-run}
 use Rattle.click_workers.proofs.Workings.{map-push}
 use Rattle.click_workers.proofs.linked.run_linked.Goals as goal
 
@@ -91,7 +89,7 @@ returns-clause-links g c =
     let es = c.close_and_settle.result.book.entries in
     let P : R → Type 0 = λ r. IsNewFeed r.intake in
     let Rel : R → R → Type 0 = λ old new. (new.device ≡ old.device) × Receives (came old.link) (came new.link) old.intake new.intake new.received.dropped in
-    let Q : R → E → Type 0 = λ r e. (e.device ≡ r.device) × (e.link ≡ r.link) × (e.received ≡ r.received) × IfSome e.left (λ l. r.intake.feed.put ≡ polled es r.device ++ l.items) in
+    let Q : R → E → Type 0 = λ r e. (e.device ≡ r.device) × (e.link ≡ r.link) × (e.received ≡ r.received) × IsSettled es r.device r.intake.feed.put (option_map (λ l. l.items) e.left) in
     let S : R → E → Type 0 = λ r e. (e.device ≡ r.device) × LinkRan es r.device (came r.link) (came e.link) e.received.dropped (option_map (λ l. l.items) e.left) in
     weave P Rel Q S
     (λ o n e p r q. (
@@ -102,8 +100,7 @@ returns-clause-links g c =
         fresh = p;
         receives = subst (λ l. Receives (came o.link) (came l) o.intake n.intake e.received.dropped) (sym q.1)
             (subst (λ (x : Received). Receives (came o.link) (came n.link) o.intake n.intake x.dropped) (sym q.2) r.1);
-        settled = mapped (λ l. l.items) (λ (l : List Packet). n.intake.feed.put ≡ polled es o.device ++ l) e.left
-            (subst (λ d. IfSome e.left (λ l. n.intake.feed.put ≡ polled es d ++ l.items)) r.0 q.3);
+        settled = subst (λ d. IsSettled es d n.intake.feed.put (option_map (λ l. l.items) e.left)) r.0 q.3;
       },
     ))
     _ _ _ c.args.links.fresh c.serve_and_link-work.ensures.receives c.close_and_settle.ensures.links
