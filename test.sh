@@ -29,7 +29,7 @@ if [ "$(sum_of_sources)" != "$sources" ]; then
 fi
 write_stamp "$sources"
 took 'what is proved from nothing, with the tests and the stored runs,'
-# Which third of the crates and which tenth of their by-hand it is changes with the sources, and is the same for the same sources.
+# Which fifth of the crates and which tenth of their by-hand it is changes with the sources, and is the same for the same sources.
 tools/wrong_bodies.py --gate $((16#${sources:0:8}))
 took 'what is wrong and has to be refused'
 tools/front_door.sh

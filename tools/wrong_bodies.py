@@ -3,7 +3,7 @@
 
     tools/wrong_bodies.py [NAME..]                 all of wrong-bodies
     tools/wrong_bodies.py --by-hand [NAME..]       all of by-hand
-    tools/wrong_bodies.py --gate SEED [NAME..]     what the gate tries: those of a third of the crates, and a tenth of the by-hand of these, both by the seed
+    tools/wrong_bodies.py --gate SEED [NAME..]     what the gate tries: those of a fifth of the crates, and a tenth of the by-hand of these, both by the seed
 
 An edit has lines 'file: src/lib.rt' and pairs of lines 'old: TEXT' and 'new: TEXT', each TEXT one line, the old one standing just once in that file. One that changes
 more than bodies, as a constant, may have lines 'refused: PATH', each with a function that is to be refused for it; else any may be.
@@ -365,11 +365,11 @@ def edits_of(names, kind):
     return found
 
 
-def third_of(names, seed):
-    """A third of the crates that have edits: these are dealt in three, to and fro, so that each third has about as many edits, and the seed says which it is."""
+def fifth_of(names, seed):
+    """A fifth of the crates that have edits: these are dealt in five, to and fro, so that each fifth has about as many edits, and the seed says which it is."""
     dealt = sorted((it for it in names if edits_of([it], "wrong-bodies")), key=lambda it: (-len(edits_of([it], "wrong-bodies")), it))
-    third = seed % min(3, max(1, len(dealt)))
-    return [it for at, it in enumerate(dealt) if third == (at % 3 if at // 3 % 2 == 0 else 2 - at % 3)]
+    fifth = seed % min(5, max(1, len(dealt)))
+    return [it for at, it in enumerate(dealt) if fifth == (at % 5 if at // 5 % 2 == 0 else 4 - at % 5)]
 
 
 def tenth_of(edits, seed):
@@ -390,7 +390,7 @@ def main():
             reader.error(f"there is no crate {name}")
     names = asked.names or list(crates)
     if asked.gate is not None:
-        names = third_of(names, asked.gate)
+        names = fifth_of(names, asked.gate)
     edits = edits_of(names, "by-hand" if asked.by_hand else "wrong-bodies")
     if asked.gate is not None:
         tenth = tenth_of(edits_of(names, "by-hand"), asked.gate)

@@ -711,7 +711,7 @@ wrong_edit 'did not reach the prover' no_such_name '    next(n + 1)' '    next_o
 edit no_pair '    next(n + 1)' '    next(n)'
 sed -i '$d' "$tree/crates/small/wrong-bodies/no_pair.edit"
 TREE=$tree is_refused 'an edit without its new text' tools/wrong_bodies.py
-# A tenth of those of by-hand, one of this one, is tried where the gate's are asked for. The gate's are those of a third of the crates, here of the one.
+# A tenth of those of by-hand, one of this one, is tried where the gate's are asked for. The gate's are those of a fifth of the crates, here of the one.
 edit same_number '    next(n + 1)' '    next(n)'
 mkdir "$tree/crates/small/by-hand"
 printf 'file: src/lib.rt\nold:     n + 1\nnew:     1 + n\n' > "$tree/crates/small/by-hand/other_order.edit"
