@@ -1,4 +1,4 @@
-use Rattle.std.proofs.Common.{◌≡◌, ◌++◌, ◌∷◌, [], ◌<◌, true, List, None, length, map, option_map, arith, ap, subst, sym, ◌∙◌, length-append}
+use Rattle.std.proofs.Common.{◌≡◌, ◌∷◌, [], ◌<◌, true, List, None, length, map, option_map, arith, ap, subst, sym, ◌∙◌, length-append}
 use Rattle.std.specs.List.{All}
 use Rattle.click_rings.specs.Feeds.{FeedName, name_of, are_apart}
 use Rattle.click_desk.specs.Booklet.{Booklet}

@@ -1,4 +1,4 @@
-use Rattle.std.proofs.Common.{◌≡◌, ◌∙◌, List, ap, subst, sym, refl}
+use Rattle.std.proofs.Common.{◌≡◌, List, ap, subst, sym}
 use Rattle.click_rings.specs.Feeds.{Drawing}
 use Rattle.click_desk.specs.Booklet.{Booklet}
 use Rattle.click_desk.specs.Polls.{without}
