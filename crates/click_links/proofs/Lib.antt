@@ -1,6 +1,7 @@
 pub mod EachTurns
 pub mod Fated
 pub mod Gifts
-pub mod Going
+pub mod Known
+mod Going
 pub mod Turning
 pub mod Zips

@@ -3,3 +3,4 @@ pub mod Fates
 pub mod Forwarding
 pub mod Sweeps
 pub mod Turns
+pub mod kept

@@ -33,6 +33,11 @@ pub trait Inbound {
     /// Whether the one that came last is from the peer.
     fn is_known(&self) -> bool
         ensures { result ≡ (current self.now).known };
+
+    /// Whether another may be there already. It waits for nothing. An end that cannot tell says yes.
+    fn has_more(&self) -> bool {
+        true
+    }
 }
 
 /// The end at which packets of all links go out, each as a datagram of its bytes over the link of its device.

@@ -64,6 +64,10 @@ impl Inbound for Listed {
             None => false,
         }
     }
+
+    fn has_more(&self) -> bool {
+        self.next < self.all.len()
+    }
 }
 
 /// Keeps the packets that went out over the links of these devices, up to so many in all. One more, one of another device, or one for which there is no memory, is lost.

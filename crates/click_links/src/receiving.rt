@@ -73,35 +73,33 @@ fn receive_one<L: Inbound>(
     }
 }
 
-/// Counts a datagram, and wakes whoever takes the packets where its packet was put.
-fn tell(fate: Fate, wake: &Parker, counts: &Counts) {
-    counts.came(fate);
-    if fate == Fate::Put {
-        wake.unpark();
-    }
-}
-
-/// Waits for a datagram, counts it, and wakes whoever takes the packets where its packet was put.
-fn receive_next<L: Inbound>(
+/// Waits for a datagram, and counts it. Says whether its packet was put.
+pub(crate) fn receive_next<L: Inbound>(
     alloc: Global,
     intake: &mut Intake,
     link: &mut L,
-    wake: &Parker,
     counts: &Counts,
     dropped: &mut Dropped,
-) -> Result<(), LinkFailed>
+) -> Result<bool, LinkFailed>
     requires { AllBelow dropped.old (2 ^ 64 - 1) }
     ensures ok { OnOk result (Steps (L.came link.old) (L.came link.new) intake.old intake.new dropped.old dropped.new) }
     ensures err { OnErr result ((L.came link.new ≡ L.came link.old) × (intake.new ≡ intake.old) × (dropped.new ≡ dropped.old)) }
 {
     match receive_one(alloc, intake, link) {
-        Ok(None) => Ok(()),
+        Ok(None) => Ok(false),
         Ok(Some(fate)) => {
             dropped.add(fate);
-            tell(fate, wake, counts);
-            Ok(())
+            counts.came(fate);
+            Ok(fate == Fate::Put)
         }
         Err(failed) => Err(failed),
+    }
+}
+
+/// Wakes whoever takes the packets where one was put.
+fn tell(put: bool, wake: &Parker) {
+    if put {
+        wake.unpark();
     }
 }
 
@@ -121,8 +119,8 @@ pub fn receive<L: Inbound>(
         if stop.load(Ordering::SeqCst) {
             break;
         }
-        match receive_next(alloc, intake, link, wake, counts, &mut dropped) {
-            Ok(()) => {}
+        match receive_next(alloc, intake, link, counts, &mut dropped) {
+            Ok(put) => tell(put, wake),
             Err(LinkFailed) => {
                 return Received {
                     dropped,

@@ -1,6 +1,6 @@
 //! Links that run: a receiver for each, and one forwarder for all, each in a thread of its own.
 
-ghost use Rattle.std.specs.Prelude.{◌≡◌, ◌≤◌, length, map, vec_len, vec_capacity};
+ghost use Rattle.std.specs.Prelude.{◌≡◌, ◌≤◌, length, map, vec_len, vec_capacity, Some};
 ghost use Rattle.std.specs.List.{AllZip};
 ghost use Rattle.std.specs.Thread.{IsSend, IsSync};
 ghost use Rattle.click_links.specs.Fates.{Receives};
@@ -11,18 +11,20 @@ use crate::counts::Counts;
 use crate::device::Device;
 use crate::dropped::Dropped;
 use crate::intake::Intake;
-use crate::link::{Inbound, Outbound};
+use crate::link::{Inbound, LinkFailed, Outbound};
+use crate::outfit::{Began, Outfit};
 use crate::pause::Pause;
-use crate::receiving::{Ended, Received, receive};
-use crate::sweeping::{Swept, sweep};
+use crate::receiving::{Ended, Received, receive_next};
+use crate::sharing::{Helper, Made, Shared, Sweeper};
 use click_desk::{Desk, DeskFault, Seat};
 use click_router::Handlers;
 use click_text::sequence::Sequence;
 use std::alloc::Global;
+use std::marker::Brand;
 use std::sync::Wait;
 use std::sync::atomic::{AtomicBool, Ordering};
 use std::thread;
-use std::thread::{Parker, Threads};
+use std::thread::Threads;
 
 /// The most sweeps that a forwarder makes once the run is over: as many as empty a feed of 4,096 places, and as many again. A configuration that makes packets of its own would not let it end.
 const MOST_LAST: u32 = 256;
@@ -65,34 +67,43 @@ pub struct Linked<T, L, S> {
     pub fault: Option<DeskFault>,
 }
 
-/// What is left of the forwarder.
-#[derive(Drop)]
-struct Spoken<T, S> {
-    seat: Seat<T>,
-    sender: S,
-    fault: Option<DeskFault>,
-}
-
-/// Whether all receivers have ended, and how the forwarder is woken.
-#[derive(Drop)]
-struct Signals {
-    ended: AtomicBool,
-    wake: Parker,
-}
-
-impl Signals {
-    /// Whether all receivers have ended, and the run was told to stop.
-    fn are_over(&self, stop: &AtomicBool) -> bool {
-        stop.load(Ordering::SeqCst) && self.ended.load(Ordering::SeqCst)
+/// Puts what comes in the feed, as `receive` does, and helps with the sweeps.
+fn receive_helping<T: Handlers, L: Inbound, S: Outbound, R: Wait, B: Began>(
+    helper: &mut Helper<'_, '_, '_, T, S, R, B>,
+    alloc: Global,
+    intake: &mut Intake,
+    link: &mut L,
+    stop: &AtomicBool,
+    counts: &Counts,
+) -> Received
+    ensures { Receives (L.came link.old) (L.came link.new) intake.old intake.new result.dropped }
+{
+    let mut dropped = Dropped::none();
+    for _ in 0..u64::MAX {
+        if stop.load(Ordering::SeqCst) {
+            break;
+        }
+        match receive_next(alloc, intake, link, counts, &mut dropped) {
+            Ok(put) => helper.help(put, link),
+            Err(LinkFailed) => {
+                return Received {
+                    dropped,
+                    ended: Ended::Link,
+                };
+            }
+        }
+    }
+    Received {
+        dropped,
+        ended: Ended::Stopped,
     }
 }
 
 /// Receives until told to stop, or the link fails.
-fn hear<L: Inbound>(
-    alloc: Global,
+fn hear<T: Handlers, L: Inbound, S: Outbound, R: Wait, B: Began>(
+    sweeper: &Sweeper<'_, '_, T, S, R, B>,
     receiving: Receiving<L>,
     stop: &AtomicBool,
-    wake: &Parker,
     counts: &Counts,
 ) -> Receiving<L>
     ensures { (result.device ≡ receiving.device) × Receives (L.came receiving.link) (L.came result.link) receiving.intake result.intake result.received.dropped }
@@ -103,7 +114,15 @@ fn hear<L: Inbound>(
         mut link,
         received: _,
     } = receiving;
-    let received = receive(alloc, &mut intake, &mut link, stop, wake, counts);
+    let mut helper = Helper::new(sweeper);
+    let received = receive_helping(
+        &mut helper,
+        sweeper.alloc,
+        &mut intake,
+        &mut link,
+        stop,
+        counts,
+    );
     Receiving {
         device,
         intake,
@@ -113,32 +132,35 @@ fn hear<L: Inbound>(
 }
 
 /// The receiver of each link, one beside the rest, each in a thread of its own where one can be made.
-fn hear_all<L: Inbound + Send + Drop, R: Threads + Sync>(
-    rt: &R,
-    alloc: Global,
+fn hear_all<
+    T: Handlers + Send + Drop,
+    L: Inbound + Send + Drop,
+    S: Outbound + Send + Drop,
+    R: Threads + Wait + Sync,
+    B: Began + Send + Sync,
+>(
+    sweeper: &Sweeper<'_, '_, T, S, R, B>,
     mut links: Vec<Receiving<L>>,
-    devices: &[Device],
     stop: &AtomicBool,
-    wake: &Parker,
 ) -> Vec<Receiving<L>>
-    requires { vec_len links ≤ length devices.now }
+    requires { vec_len links ≤ length sweeper.now.devices.now }
     ensures receives { AllZip (λ old new. (new.device ≡ old.device) × Receives (L.came old.link) (L.came new.link) old.intake new.intake new.received.dropped) links.items result.items }
     ensures room { vec_capacity links ≤ vec_capacity result }
 {
     let Some(last) = links.pop() else {
         return links;
     };
-    let counts = &devices[links.len()].counts;
+    let counts = &sweeper.devices[links.len()].counts;
     let (heard, mut all) = thread::join(
-        rt,
+        sweeper.rt,
         move || -> Receiving<L>
             ensures { (result.device ≡ last.device) × Receives (L.came last.link) (L.came result.link) last.intake result.intake result.received.dropped }
-        { hear(alloc, last, stop, wake, counts) },
+        { hear(sweeper, last, stop, counts) },
         move || -> Vec<Receiving<L>>
-            requires { IsSync R.row × IsSend L.row × (vec_len links ≤ length devices.now) }
+            requires { IsSync R.row × IsSend T.row × IsSend L.row × IsSend S.row × IsSend B.row × (vec_len links ≤ length sweeper.now.devices.now) }
             ensures { AllZip (λ old new. (new.device ≡ old.device) × Receives (L.came old.link) (L.came new.link) old.intake new.intake new.received.dropped) links.items result.items
                 × (vec_capacity links ≤ vec_capacity result) }
-        { hear_all(rt, alloc, links, devices, stop, wake) },
+        { hear_all(sweeper, links, stop) },
     );
     all.push_reserved(heard);
     all
@@ -152,54 +174,115 @@ enum Next {
 }
 
 impl Next {
-    /// `last`: the run is over but for what is left to send. `spent`: as many sweeps were made since as there may be.
-    fn after(swept: &Result<Swept, DeskFault>, last: bool, spent: bool) -> Next {
-        match swept {
-            Err(DeskFault::HistoryFull) => Next::End,
-            Ok(swept) if !swept.is_idle() && !spent => Next::Sweep,
-            _ if last => Next::End,
-            _ => Next::Sleep,
+    /// `made`: the sweep, or none where a receiver makes one. `last`: the run is over but for what is left to send. `spent`: as many sweeps were made since as there may be.
+    fn after(made: &Option<Made>, last: bool, spent: bool) -> Next {
+        match made {
+            None => Next::Sleep,
+            Some(made) => match &made.swept {
+                Err(DeskFault::HistoryFull) => Next::End,
+                Ok(_) if !made.is_all() && !spent => Next::Sweep,
+                _ if last => Next::End,
+                _ => Next::Sleep,
+            },
         }
     }
 }
 
 /// Sweeps until the run is over and nothing is left to do, or as much was done since as may be, or the history is full, which ends the receivers too. After a sweep that did nothing, or that was
-/// refused for want of memory, it sleeps until a receiver put something, or its time is over.
-fn speak<T: Handlers, S: Outbound, R: Wait>(
-    rt: &R,
-    alloc: Global,
-    desk: &Desk<T, &R>,
-    mut seat: Seat<T>,
-    devices: &[Device],
-    mut sender: S,
+/// refused for want of memory, or while a receiver sweeps, it sleeps until it is woken, or its time is over.
+fn speak<T: Handlers, S: Outbound, R: Wait, B: Began>(
+    sweeper: &Sweeper<'_, '_, T, S, R, B>,
     stop: &AtomicBool,
-    signals: &Signals,
-) -> Spoken<T, S>
-    requires { seat.desk ≡ desk.now }
-    ensures same { SameSeat seat result.seat }
-    ensures forwards { Forwards (names_of devices.now) seat.calls result.seat.calls (S.tried sender) (S.tried result.sender) }
-{
+) -> Option<DeskFault> {
     let mut pause = Pause::new();
     let mut left = MOST_LAST;
-    for _ in rt.forever() {
+    for _ in sweeper.rt.forever() {
         // It is looked at before the sweep, so that what came last still goes out.
-        let last = signals.are_over(stop);
+        let last = sweeper.shared.are_over(stop);
         left = left.saturating_sub(u32::from(last));
-        let swept = sweep(rt, alloc, desk, &mut seat, devices, &mut sender);
-        match Next::after(&swept, last, left == 0) {
+        let made = sweeper.sweep();
+        match Next::after(&made, last, left == 0) {
             Next::Sweep => pause.begin_anew(),
-            Next::Sleep => pause.sleep(rt, &signals.wake),
+            Next::Sleep => sweeper.sleep(&mut pause),
             Next::End => {
                 stop.store(true, Ordering::SeqCst);
-                return Spoken {
-                    seat,
-                    sender,
-                    fault: swept.err(),
-                };
+                return made?.swept.err();
             }
         }
     }
     unreachable!()
+}
+
+/// The receivers beside the forwarder. Answers why the forwarder ended before all was sent, if it did.
+fn run_beside<
+    T: Handlers + Send + Drop,
+    L: Inbound + Send + Drop,
+    S: Outbound + Send + Drop,
+    R: Threads + Wait + Sync,
+    B: Began + Send + Sync,
+>(
+    sweeper: &Sweeper<'_, '_, T, S, R, B>,
+    links: Vec<Receiving<L>>,
+    stop: &AtomicBool,
+) -> (Vec<Receiving<L>>, Option<DeskFault>)
+    requires { vec_len links ≤ length sweeper.now.devices.now }
+    ensures { AllZip (λ old new. (new.device ≡ old.device) × Receives (L.came old.link) (L.came new.link) old.intake new.intake new.received.dropped) links.items result.0.items }
+{
+    thread::join(
+        sweeper.rt,
+        move || -> Vec<Receiving<L>>
+            requires { IsSync R.row × IsSend T.row × IsSend L.row × IsSend S.row × IsSend B.row × (vec_len links ≤ length sweeper.now.devices.now) }
+            ensures { AllZip (λ old new. (new.device ≡ old.device) × Receives (L.came old.link) (L.came new.link) old.intake new.intake new.received.dropped) links.items result.items }
+        {
+            let links = hear_all(sweeper, links, stop);
+            sweeper.shared.end();
+            links
+        },
+        move || -> Option<DeskFault> { speak(sweeper, stop) },
+    )
+}
+
+/// A run of links, which picks what it began with.
+fn run_as<
+    T: Handlers + Send + Drop,
+    L: Inbound + Send + Drop,
+    S: Outbound + Send + Drop,
+    R: Threads + Wait + Sync,
+    B: Began + Send + Sync,
+>(
+    rt: &R,
+    alloc: Global,
+    desk: &Desk<T, &R>,
+    seat: Seat<T>,
+    devices: &[Device],
+    links: Vec<Receiving<L>>,
+    sender: S,
+    stop: &AtomicBool,
+) -> Linked<T, L, S>
+    requires devices { vec_len links ≤ length devices.now }
+    requires at { (Some desk.now ≡ B.desk) × (names_of devices.now ≡ B.names) }
+    requires same { (Some seat.desk ≡ B.desk) × (seat.number ≡ B.number) × (seat.feeds ≡ B.feeds) }
+    requires new { (seat.calls ≡ B.calls) × (S.tried sender ≡ B.tried) }
+    ensures receives { AllZip (λ old new. (new.device ≡ old.device) × Receives (L.came old.link) (L.came new.link) old.intake new.intake new.received.dropped) links.items result.links.items }
+    ensures same { (result.seat.desk ≡ desk.now) × (result.seat.number ≡ B.number) × (result.seat.feeds ≡ B.feeds) }
+    ensures forwards { Forwards B.names B.calls result.seat.calls B.tried (S.tried result.sender) }
+{
+    let shared: Shared<T, S, B> = Shared::new(Outfit::new(seat, sender));
+    let sweeper = Sweeper {
+        rt,
+        alloc,
+        desk,
+        devices,
+        shared: &shared,
+    };
+    let (links, fault) = run_beside(&sweeper, links, stop);
+    let (seat, sender) = shared.into_outfit().into_parts();
+    Linked {
+        links,
+        seat,
+        sender,
+        fault,
+    }
 }
 
 /// Runs links at one desk: a receiver for each, which puts what comes in its feed, and one forwarder for all devices, over one seat, each in a thread of its own where one can be made. The receiver
@@ -226,37 +309,5 @@ pub fn run_links<
     ensures same { SameSeat seat result.seat }
     ensures forwards { Forwards (names_of devices.now) seat.calls result.seat.calls (S.tried sender) (S.tried result.sender) }
 {
-    let signals = Signals {
-        ended: AtomicBool::new(false),
-        wake: Parker::new(),
-    };
-    let signals = &signals;
-    let (links, spoken) = thread::join(
-        rt,
-        move || -> Vec<Receiving<L>>
-            requires { IsSync R.row × IsSend L.row × (vec_len links ≤ length devices.now) }
-            ensures { AllZip (λ old new. (new.device ≡ old.device) × Receives (L.came old.link) (L.came new.link) old.intake new.intake new.received.dropped) links.items result.items }
-        {
-            let links = hear_all(rt, alloc, links, devices, stop, &signals.wake);
-            signals.ended.store(true, Ordering::SeqCst);
-            signals.wake.unpark();
-            links
-        },
-        move || -> Spoken<T, S>
-            requires { IsSync R.row × (seat.desk ≡ desk.now) }
-            ensures same { SameSeat seat result.seat }
-            ensures forwards { Forwards (names_of devices.entry.now) seat.calls result.seat.calls (S.tried sender) (S.tried result.sender) }
-        { speak(rt, alloc, desk, seat, devices, sender, stop, signals) },
-    );
-    let Spoken {
-        seat,
-        sender,
-        fault,
-    } = spoken;
-    Linked {
-        links,
-        seat,
-        sender,
-        fault,
-    }
+    run_as::<_, _, _, _, Brand>(rt, alloc, desk, seat, devices, links, sender, stop)
 }

@@ -8,11 +8,14 @@ use crate::trials::Trials;
 use click_packet::StoredPacket;
 use click_text::sequence::Sequence;
 use http_server::Log;
+use libc::net::{POLLIN, poll};
+use libc::types::pollfd;
 use std::alloc::Global;
 use std::io;
 use std::io::ErrorKind;
 use std::marker::Model;
 use std::net::{Net, SocketAddr, UdpSocket};
+use std::os::fd::AsRawFd;
 use std::time::Duration;
 
 /// More bytes than a datagram has, so that none is cut.
@@ -45,6 +48,16 @@ fn listen(ear: &mut Ear) -> io::Result<()>
     ear.from = from;
     ear.known = from == ear.peer;
     Ok(())
+}
+
+/// Whether a datagram waits at the socket, or a fault.
+fn is_ready(socket: &UdpSocket) -> bool {
+    let mut asked = [pollfd {
+        fd: socket.as_raw_fd(),
+        events: POLLIN,
+        revents: 0,
+    }];
+    poll(&mut asked, 0) != 0
 }
 
 fn heard(ear: &Ear) -> &[u8]
@@ -100,6 +113,10 @@ impl Inbound for UdpIn {
 
     fn is_known(&self) -> bool {
         self.ear.known
+    }
+
+    fn has_more(&self) -> bool {
+        is_ready(&self.ear.socket)
     }
 }
 

@@ -1,0 +1,14 @@
+use Rattle.std.proofs.Common.{arith}
+use Rattle.click_links.proofs.Fated.{received_step, steps_small, below_more}
+use Rattle.click_links.proofs.run.receive_helping.Goals as goal
+
+pub receive_next-requires : goal.receive_next-requires
+receive_next-requires g c = below_more _ _ _ c.loop.invariant.below (omega (arith, c.loop-test.true))
+
+pub loop-preserved : goal.loop-preserved
+loop-preserved g c =
+    let h = c.loop.invariant in
+    record {
+      received = received_step _ _ _ _ _ _ _ _ h.received c.in-Ok.ensures.ok;
+      below = steps_small _ _ _ _ _ _ _ h.below c.in-Ok.ensures.ok;
+    }
