@@ -31,8 +31,8 @@ const CROSSED: &[u8] =
 const MOVED: &[u8] =
     b"FromDevice(a) -> Queue(8) -> Unqueue -> Queue(8) -> ToDevice(b); Idle -> ToDevice(a);";
 
-/// A datagram of one byte more than a packet has.
-const LONG: [u8; 1601] = [0; 1601];
+/// The bytes of a datagram that has one more than a packet.
+const TOO_MANY: usize = 1601;
 
 fn name_of(alloc: Global, name: &[u8]) -> Result<Sequence<u8>, AllocError> {
     Ok(Sequence::of(Vec::from_slice(alloc, name)?))
@@ -48,7 +48,7 @@ fn mixed(alloc: Global) -> Result<Listed, AllocError> {
     let mut all = Vec::new(alloc);
     all.push(datagram(alloc, b"ab", true)?)?;
     all.push(datagram(alloc, b"xy", false)?)?;
-    all.push(datagram(alloc, &LONG, true)?)?;
+    all.push(datagram(alloc, &vec![in alloc; 0; TOO_MANY]?, true)?)?;
     all.push(datagram(alloc, b"", true)?)?;
     all.push(datagram(alloc, b"cd", true)?)?;
     Ok(Listed::new(all))
