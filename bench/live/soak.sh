@@ -17,7 +17,8 @@ port=$((20000 + RANDOM % 20000))
 "$program" -e "$text" -p "$port" -n 8 -w 1 --live < /dev/null &
 router=$!
 sleep 1
-memory() { sed -n 's/^VmRSS:[[:space:]]*//p' "/proc/$router/status"; }
+# What it has, and how much of it is its own and not of the program's file.
+memory() { awk '/^VmRSS:/ { all = $2 } /^RssAnon:/ { own = $2 } END { print all " kB, of its own " own " kB" }' "/proc/$router/status"; }
 started=$SECONDS
 "$work/soak" "$port" $((calls / 8)) "$text" "$other" > "$work/said" &
 clients=$!
