@@ -16,7 +16,7 @@ mod written;
 
 pub use blanks::{is_blank, trimmed, without_front};
 pub use fault::{HandlerFault, TableFault};
-pub use names::{has_read, has_write};
+pub use names::{READS, WRITES, has_read, has_write, read_name, write_name};
 pub use rows::{ReadCall, ReadRow, WriteCall, WriteRow};
 pub use standard::{TakesRows, TakesTable, with_counted_table, with_rows, with_table};
 pub use table::Table;

@@ -6,10 +6,10 @@ ghost use Rattle.click_handlers.specs.Names.{active_name, of_class, is_named, ha
 use click_classes::Class;
 
 /// How many handlers can be read.
-pub(crate) const READS: usize = 31;
+pub const READS: usize = 31;
 
 /// How many handlers can be written.
-pub(crate) const WRITES: usize = 27;
+pub const WRITES: usize = 27;
 
 /// The name of the handler of a Suppressor's port.
 #[tactic(auto, unfolding(crate::specs::Names::active_name))]
@@ -39,7 +39,7 @@ pub(crate) fn active_name(port: u16) -> &'static [u8]
 
 /// The class and the name of the read handler at a place of the list.
 #[tactic(auto, unfolding(crate::specs::Names::read_names))]
-pub(crate) fn read_name(at: usize) -> (Class, &'static [u8])
+pub fn read_name(at: usize) -> (Class, &'static [u8])
     requires { at < 31 }
     ensures { slice_get read_names at ≡ Some (of_class result.0 result.1.now) }
 {
@@ -80,7 +80,7 @@ pub(crate) fn read_name(at: usize) -> (Class, &'static [u8])
 
 /// The class and the name of the write handler at a place of the list.
 #[tactic(auto, unfolding(crate::specs::Names::write_names))]
-pub(crate) fn write_name(at: usize) -> (Class, &'static [u8])
+pub fn write_name(at: usize) -> (Class, &'static [u8])
     requires { at < 27 }
     ensures { slice_get write_names at ≡ Some (of_class result.0 result.1.now) }
 {
