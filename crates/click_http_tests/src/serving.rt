@@ -1,0 +1,125 @@
+//! What peers get of a server that a service tells to stop.
+
+use bytes::{BufMut, Bytes};
+use click_http::{Ended, Front, PLACES, open_front, serve_until};
+use http::Request;
+use http_server::{Response, Service};
+use std::alloc::{AllocError, Global};
+use std::io;
+use std::io::{Read, Write};
+use std::net::TcpStream;
+use std::sync::Wait;
+use std::sync::atomic::{AtomicBool, Ordering};
+use std::test::Fail;
+use std::time::Clock;
+
+const ASKS: &[u8] = b"GET / HTTP/1.1\r\nHost: h\r\n\r\n";
+
+const ANSWER: &[u8] = b"HTTP/1.1 200 OK\r\ncontent-length: 2\r\n\r\nhi";
+
+/// Says `hi` so many times, and with the last has the server stop.
+#[derive(Drop)]
+struct Greeter<'a> {
+    left: u32,
+    stop: &'a AtomicBool,
+}
+
+impl<'a> Service for Greeter<'a> {
+    ghost answers = { λ old request response new. Unit {0} };
+
+    fn call(&mut self, _: &Request<Bytes>, response: &mut Response) -> Result<(), AllocError> {
+        response.body.put_slice(b"hi")?;
+        self.left = self.left.saturating_sub(1);
+        if self.left == 0 {
+            self.stop.store(true, Ordering::SeqCst);
+        }
+        Ok(())
+    }
+}
+
+/// Serves until so many requests were answered. Says why it ended, and how many were not.
+fn serve<R: Wait + Clock>(rt: &R, alloc: Global, front: Front, answers: u32) -> (Ended, u32) {
+    let stop = AtomicBool::new(false);
+    let mut greeter = Greeter {
+        left: answers,
+        stop: &stop,
+    };
+    let ended = serve_until(rt, rt, alloc, front, &mut greeter, &stop);
+    (ended, greeter.left)
+}
+
+/// A value that may go to another thread.
+fn movable<T: Send>(value: T) -> T {
+    value
+}
+
+/// A peer that has sent this.
+fn peer(rt: &HostRuntime, front: &Front, sent: &[u8]) -> io::Result<TcpStream> {
+    let mut stream = TcpStream::connect(rt, front.local_addr()?)?;
+    stream.write_all(sent)?;
+    Ok(stream)
+}
+
+/// All that it gets until the connection is closed.
+fn received(rt: &HostRuntime, mut peer: TcpStream) -> io::Result<Vec<u8>> {
+    let mut all = Vec::new(rt.alloc());
+    peer.read_to_end(&mut all)?;
+    Ok(all)
+}
+
+#[test]
+fn answers_what_was_sent_at_once(rt: HostRuntime) -> Result<(), Fail> {
+    let front = open_front(&rt, rt.alloc(), 0)?;
+    assert_eq!(rt; front.port(), 0);
+    let mut two = peer(&rt, &front, ASKS)?;
+    two.write_all(ASKS)?;
+    let head = peer(&rt, &front, b"HEAD / HTTP/1.1\r\nHost: h\r\n\r\n")?;
+    let (ended, left) = serve(&rt, rt.alloc(), front, 3);
+    assert_eq!(rt; ended, Ended::Stopped);
+    assert_eq!(rt; left, 0);
+    let answers = received(&rt, two)?;
+    assert!(rt; answers.starts_with(ANSWER) && answers.ends_with(ANSWER));
+    assert_eq!(rt; answers.len(), 2 * ANSWER.len());
+    let answer = received(&rt, head)?;
+    assert_eq!(rt;
+        answer.as_slice(),
+        b"HTTP/1.1 200 OK\r\ncontent-length: 2\r\n\r\n".as_slice()
+    );
+    Ok(())
+}
+
+#[test]
+fn refuses_what_is_no_request(rt: HostRuntime) -> Result<(), Fail> {
+    let front = open_front(&rt, rt.alloc(), 0)?;
+    let wrong = peer(&rt, &front, b"nothing that HTTP knows\r\n\r\n")?;
+    let good = peer(&rt, &front, ASKS)?;
+    let (ended, _) = serve(&rt, rt.alloc(), movable(front), 1);
+    assert_eq!(rt; ended, Ended::Stopped);
+    let answer = received(&rt, good)?;
+    assert_eq!(rt; answer.as_slice(), ANSWER);
+    let refusal = received(&rt, wrong)?;
+    assert!(rt; refusal.starts_with(b"HTTP/1.1 400 Bad Request\r\n"));
+    Ok(())
+}
+
+#[test]
+fn refuses_what_has_no_place(rt: HostRuntime) -> Result<(), Fail> {
+    let front = open_front(&rt, rt.alloc(), 0)?;
+    let first = peer(&rt, &front, ASKS)?;
+    let mut others = Vec::new(rt.alloc());
+    for _ in 1..PLACES {
+        others.push(peer(&rt, &front, b"")?)?;
+    }
+    let last = peer(&rt, &front, b"")?;
+    let (ended, _) = serve(&rt, rt.alloc(), front, 1);
+    assert_eq!(rt; ended, Ended::Stopped);
+    let answer = received(&rt, first)?;
+    assert_eq!(rt; answer.as_slice(), ANSWER);
+    let refusal = received(&rt, last)?;
+    assert!(rt; refusal.starts_with(b"HTTP/1.1 503 Service Unavailable\r\n"));
+    for other in others {
+        let nothing = received(&rt, other)?;
+        assert!(rt; nothing.is_empty());
+    }
+    Ok(())
+}
