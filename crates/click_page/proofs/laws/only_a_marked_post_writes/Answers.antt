@@ -1,0 +1,5 @@
+use Rattle.click_page.proofs.Lawful.{unmarked}
+use Rattle.click_page.proofs.laws.only_a_marked_post_writes.Goals as goal
+
+pub returns : goal.returns
+returns c = unmarked

@@ -1,0 +1,25 @@
+-- What the page does with a request: the state of the page before and after it.
+use Rattle.std.specs.Prelude.{◌≡◌, ◌⊎◌, ℕ, List, Bool, Result}
+use Rattle.http.specs.declared.request.Request.{Request}
+use Rattle.http.specs.Request.{head_of, body_of}
+use Rattle.http_server.specs.declared.response.Response.{Response}
+use Rattle.click_router.specs.declared.call.Call.{Call}
+use Rattle.click_router.specs.declared.call.Reply.{Reply}
+use Rattle.click_control.specs.Serving.{Asked}
+use Rattle.click_control.specs.declared.command.Answer.{Answer}
+use Rattle.click_control.specs.declared.port.AskFault.{AskFault}
+use Rattle.click_page.specs.Asking.{wish_of, commands_of}
+use Rattle.click_page.specs.Saying.{SaysFor, SaysNoMemory}
+
+-- a page: where its calls go, whether it may only read, and the port of 127.0.0.1 that it is at
+pub record Paged (P : Type 0) : Type 0 where
+  pub port : P
+  pub readonly : Bool
+  pub at : ℕ
+
+-- The page answers a request: of the port it asked just the commands of the request's wish, in order, as a session does, and the response is what these answers are told as; or memory ran out.
+pub record AnswersSo {P : Type 0} (asks : P → Call → Result Reply AskFault → P → Type 0) (old : Paged P) (request : Request (List ℕ)) (response : Response) (new : Paged P) : Type 0 where
+  pub same : (new.readonly ≡ old.readonly) × (new.at ≡ old.at)
+  pub answers : List Answer
+  pub asked : Asked asks old.readonly old.port (commands_of (wish_of old.at (head_of request) (body_of request))) answers new.port
+  pub says : SaysFor (wish_of old.at (head_of request) (body_of request)) answers response ⊎ SaysNoMemory response

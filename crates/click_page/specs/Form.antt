@@ -1,0 +1,71 @@
+-- The running configuration's flat form, as JSON.
+use Rattle.std.specs.Prelude.{◌≡◌, ℕ, List, [], ◌∷◌, map, filter, codes, encode_utf8_all}
+use Rattle.std.specs.Str.{bytes_eq}
+use Rattle.serde_json.specs.Data.{Data, no_members, member, string, boolean, number, array, object, unsigned}
+use Rattle.serde_json.specs.View.{items_of}
+use Rattle.serde_json.specs.Written.{compact_text}
+use Rattle.click_classes.specs.Classes.{name}
+use Rattle.click_classes.specs.declared.class.Class.{Class}
+use Rattle.click_handlers.specs.Names.{HandlerName, read_names, write_names}
+use Rattle.click_draw.specs.declared.drawing.Figure.{Figure}
+use Rattle.click_draw.specs.declared.drawing.Mark.{Mark}
+use Rattle.click_draw.specs.declared.drawing.Drawing.{Drawing}
+use Rattle.click_expand.specs.declared.flat.Connection.{Connection}
+use Rattle.click_expand.specs.declared.flat.Flat.{Flat}
+use Rattle.click_expand.specs.declared.flat.FlatElement.{FlatElement}
+use Rattle.click_ports.specs.Net.{Net}
+use Rattle.click_router.specs.Opened.{IsOpened}
+use Rattle.click_router.specs.State.{RouterState}
+use Rattle.click_page.specs.Drawn.{IsFormNet, Shows}
+
+-- Bytes as a text of JSON: each byte is the character of its number, so that none is lost.
+abbrev pub bytes_data : List ℕ → Data
+bytes_data bytes = string (encode_utf8_all bytes)
+
+abbrev pub list_data : List Data → Data
+list_data ds = array (items_of ds)
+
+abbrev pub number_data : ℕ → Data
+number_data n = number (unsigned n)
+
+-- a port: whether its class leaves it open, and whether it is pull
+abbrev pub port_data : Mark → Data
+port_data m = object (member (codes "agnostic") (boolean m.agnostic) (member (codes "pull") (boolean m.pull) no_members))
+
+-- the names of a class's handlers among these
+abbrev pub handlers_of : Class → List HandlerName → List (List ℕ)
+handlers_of class names = map (λ h. h.name) (filter (λ h. bytes_eq (name h.class) (name class)) names)
+
+-- an element: its class, name and text, its ports, and the handlers that can be read and written
+abbrev pub element_data : FlatElement → Figure → Data
+element_data e f = object (
+    member (codes "class") (bytes_data (name f.look.class)) (
+    member (codes "inputs") (list_data (map port_data f.look.inputs)) (
+    member (codes "name") (bytes_data e.name) (
+    member (codes "outputs") (list_data (map port_data f.look.outputs)) (
+    member (codes "reads") (list_data (map bytes_data (handlers_of f.look.class read_names))) (
+    member (codes "text") (bytes_data e.text) (
+    member (codes "writes") (list_data (map bytes_data (handlers_of f.look.class write_names))) no_members)))))))
+
+-- the elements, each with its figure
+abbrev pub elements_data : List FlatElement → List Figure → List Data
+elements_data [] figures = []
+elements_data (e ∷ es) [] = []
+elements_data (e ∷ es) (f ∷ figures) = element_data e f ∷ elements_data es figures
+
+-- a connection: the element it leaves and its output, the element it enters and its input
+abbrev pub connection_data : Connection → Data
+connection_data c = list_data (number_data c.from ∷ number_data c.out_port ∷ number_data c.to ∷ number_data c.in_port ∷ [])
+
+abbrev pub flat_data : Flat → Drawing → Data
+flat_data flat d = object (
+    member (codes "connections") (list_data (map connection_data flat.connections)) (
+    member (codes "elements") (list_data (elements_data flat.elements d.figures)) no_members))
+
+-- the JSON of the flat form, with the marks of its ports as a drawing of its net has them
+abbrev pub IsFormText : Flat → Net → List ℕ → Type 0
+IsFormText flat net made = (d : Drawing) × Shows net d × (made ≡ compact_text (flat_data flat d))
+
+-- the JSON of the flat form that the text opens
+abbrev pub IsFlatText : List ℕ → List ℕ → Type 0
+IsFlatText text made = (state : RouterState) × IsOpened text state × (net : Net) × IsFormNet state.flat net × IsFormText state.flat net made

@@ -1,0 +1,7 @@
+pub mod Answering
+pub mod Asking
+pub mod Drawn
+pub mod Form
+pub mod Reads
+pub mod Saying
+pub mod kept

@@ -1,0 +1,2 @@
+-- What the code keeps on its way; no public contract cites it.
+pub mod Calls

@@ -1,0 +1,107 @@
+//! The calls of a wish, and asking a port for them.
+
+ghost use Rattle.std.specs.Prelude.{◌≡◌, ◌≤◌, ℕ, List, [], Bool, Some, length, map, vec_capacity, IfOk, IfSome, false};
+ghost use Rattle.click_router.specs.Polls.{is_poll};
+ghost use Rattle.click_control.specs.Serving.{Answered, Asked, call_of};
+ghost use Rattle.click_control.specs.declared.command.Command.{Command};
+ghost use Rattle.click_page.specs.Asking.{commands_of, reading};
+ghost use Rattle.click_page.specs.kept.Calls.{AreNoPolls, read_call, write_call};
+
+use crate::copies::copy;
+use crate::wish::Wish;
+use click_control::{Answer, Port};
+use click_router::Call;
+use click_text::sequence::Sequence;
+use std::alloc::{AllocError, Global};
+
+/// The calls of a wish's commands, in order. All their memory is taken here. A read-only page has none that would write.
+pub(crate) fn calls_of(
+    alloc: Global,
+    wish: &Wish,
+    readonly: bool,
+) -> Result<Vec<Option<Call>>, AllocError>
+    ensures calls { IfOk result (λ calls. calls.items ≡ map (call_of readonly) (commands_of wish.now)) }
+    ensures no_polls { IfOk result (λ calls. AreNoPolls calls.items) }
+{
+    match wish {
+        Wish::Page | Wish::Refused(_) => Ok(Vec::new(alloc)),
+        Wish::Picture | Wish::Flat => {
+            Ok(Vec::from_array(alloc, [read_call(alloc, b"config")?])?)
+        }
+        Wish::Read { handlers } => read_calls(alloc, handlers.as_slice()),
+        Wish::Write { handler, text } => {
+            let call = write_call(alloc, handler.as_slice(), text.as_slice(), readonly)?;
+            Ok(Vec::from_array(alloc, [call])?)
+        }
+    }
+}
+
+/// The calls that read these handlers.
+fn read_calls(alloc: Global, handlers: &[Sequence<u8>]) -> Result<Vec<Option<Call>>, AllocError>
+    ensures { IfOk result (λ calls. calls.items ≡ map read_call handlers.now) }
+{
+    let mut calls = Vec::with_capacity(alloc, handlers.len())?;
+    for handler in handlers {
+        calls.push_reserved(read_call(alloc, handler.as_slice())?);
+    }
+    Ok(calls)
+}
+
+/// The call that reads a handler, with no text.
+fn read_call(alloc: Global, handler: &[u8]) -> Result<Option<Call>, AllocError>
+    ensures { IfOk result (λ call. call ≡ read_call handler.now) }
+{
+    let name = copy(alloc, handler)?;
+    let text = Sequence::new(alloc);
+    Ok(Some(Call::Read { name, text }))
+}
+
+/// The call that writes a handler, where it may be made.
+fn write_call(
+    alloc: Global,
+    handler: &[u8],
+    text: &[u8],
+    readonly: bool,
+) -> Result<Option<Call>, AllocError>
+    ensures { IfOk result (λ call. call ≡ write_call readonly handler.now text.now) }
+{
+    if readonly {
+        return Ok(None);
+    }
+    let name = copy(alloc, handler)?;
+    let text = copy(alloc, text)?;
+    Ok(Some(Call::Write { name, text }))
+}
+
+/// Asks the port each call, in order, once. It takes no memory for the list of answers, which has room for them.
+pub(crate) fn ask_all<P: Port>(
+    alloc: Global,
+    port: &mut P,
+    calls: Vec<Option<Call>>,
+    mut answers: Vec<Answer>,
+) -> Vec<Answer>
+    requires no_polls { AreNoPolls calls.items }
+    requires none_yet { answers.items ≡ [] }
+    requires room { length calls.items ≤ vec_capacity answers }
+    ensures { (readonly : Bool) (commands : List Command) → calls.items ≡ map (call_of readonly) commands
+        → Asked P.asks readonly port.old commands result.items port.new }
+{
+    for call in calls {
+        answers.push_reserved(ask_one(alloc, port, call));
+    }
+    answers
+}
+
+/// Asks the port, where there is a call.
+fn ask_one<P: Port>(alloc: Global, port: &mut P, call: Option<Call>) -> Answer
+    requires { IfSome call (λ c. is_poll c ≡ false) }
+    ensures { Answered P.asks port.old call result port.new }
+{
+    match call {
+        None => Answer::NoCall,
+        Some(call) => match port.ask(alloc, call) {
+            Ok(reply) => Answer::Replied(reply),
+            Err(fault) => Answer::Failed(fault),
+        },
+    }
+}

@@ -1,0 +1,167 @@
+//! The flat form of a configuration, as JSON.
+
+ghost use Rattle.std.specs.Prelude.{◌≡◌, ◌≤◌, ◌∷◌, [], ◌++◌, map, length, IfOk, IfErr, OnOk};
+ghost use Rattle.std.specs.Str.{bytes_eq};
+ghost use Rattle.serde_json.specs.View.{view};
+ghost use Rattle.click_classes.specs.Classes.{name};
+ghost use Rattle.click_handlers.specs.Names.{of_class, read_names, write_names};
+ghost use Rattle.click_router.specs.Opened.{IsFirstFault, IsMemoryOr};
+ghost use Rattle.click_page.specs.Drawn.{IsFormNet};
+ghost use Rattle.click_page.specs.Form.{IsFlatText, IsFormText, bytes_data, connection_data, element_data, elements_data, flat_data, handlers_of, list_data, port_data};
+
+use crate::picture::resolved;
+use crate::values::{json_text, push, text_value};
+use click_classes::Class;
+use click_draw::{Drawing, Figure, Mark, layout};
+use click_expand::{Connection, Flat, FlatElement};
+use click_handlers::{READS, WRITES, read_name, write_name};
+use click_ports::Net;
+use click_router::{ConfigFault, prepare};
+use serde_json::{Value, json};
+use std::alloc::{AllocError, Global};
+
+/// A port as a value.
+fn port_value(alloc: Global, mark: &Mark) -> Result<Value, AllocError>
+    ensures { IfOk result (λ value. view value ≡ port_data mark.now) }
+{
+    json!(in alloc; {"agnostic": mark.agnostic, "pull": mark.pull})
+}
+
+/// The ports of a side as values.
+fn ports_value(alloc: Global, marks: &[Mark]) -> Result<Value, AllocError>
+    ensures { IfOk result (λ value. view value ≡ list_data (map port_data marks.now)) }
+{
+    let mut values = Vec::new(alloc);
+    for mark in marks {
+        push(&mut values, port_value(alloc, mark)?)?;
+    }
+    Ok(Value::from(values))
+}
+
+/// Whether a handler is the class's.
+fn is_of(class: Class, of: Class) -> bool
+    ensures { result ≡ bytes_eq (name of) (name class) }
+{
+    of.name() == class.name()
+}
+
+/// Adds a handler's name, if the handler is the class's.
+fn push_if_of(
+    alloc: Global,
+    names: &mut Vec<Value>,
+    class: Class,
+    of: Class,
+    name: &[u8],
+) -> Result<(), AllocError>
+    ensures { OnOk result (map view names.new.items ≡ map view names.old.items ++ map bytes_data (handlers_of class (of_class of name.now ∷ []))) }
+{
+    if is_of(class, of) {
+        push(names, text_value(alloc, name)?)?;
+    }
+    Ok(())
+}
+
+/// The handlers of a class that can be read, as values.
+fn reads_value(alloc: Global, class: Class) -> Result<Value, AllocError>
+    ensures { IfOk result (λ value. view value ≡ list_data (map bytes_data (handlers_of class read_names))) }
+{
+    let mut names = Vec::new(alloc);
+    for at in 0..READS {
+        let (of, name) = read_name(at);
+        push_if_of(alloc, &mut names, class, of, name)?;
+    }
+    Ok(Value::from(names))
+}
+
+/// The handlers of a class that can be written, as values.
+fn writes_value(alloc: Global, class: Class) -> Result<Value, AllocError>
+    ensures { IfOk result (λ value. view value ≡ list_data (map bytes_data (handlers_of class write_names))) }
+{
+    let mut names = Vec::new(alloc);
+    for at in 0..WRITES {
+        let (of, name) = write_name(at);
+        push_if_of(alloc, &mut names, class, of, name)?;
+    }
+    Ok(Value::from(names))
+}
+
+/// An element as a value.
+fn element_value(alloc: Global, element: &FlatElement, figure: &Figure) -> Result<Value, AllocError>
+    ensures { IfOk result (λ value. view value ≡ element_data element.now figure.now) }
+{
+    let look = &figure.look;
+    json!(in alloc; {
+        "class": text_value(alloc, look.class.name())?,
+        "inputs": ports_value(alloc, look.inputs.as_slice())?,
+        "name": text_value(alloc, element.name.as_slice())?,
+        "outputs": ports_value(alloc, look.outputs.as_slice())?,
+        "reads": reads_value(alloc, look.class)?,
+        "text": text_value(alloc, element.text.as_slice())?,
+        "writes": writes_value(alloc, look.class)?,
+    })
+}
+
+/// The elements as values, each with its figure.
+fn elements_value(
+    alloc: Global,
+    elements: &[FlatElement],
+    figures: &[Figure],
+) -> Result<Value, AllocError>
+    requires all { length figures.now ≡ length elements.now }
+    ensures { IfOk result (λ value. view value ≡ list_data (elements_data elements.now figures.now)) }
+{
+    let mut values = Vec::new(alloc);
+    for (at, element) in elements.iter().enumerate() {
+        push(&mut values, element_value(alloc, element, &figures[at])?)?;
+    }
+    Ok(Value::from(values))
+}
+
+/// A connection as a value.
+fn connection_value(alloc: Global, connection: &Connection) -> Result<Value, AllocError>
+    ensures { IfOk result (λ value. view value ≡ connection_data connection.now) }
+{
+    json!(in alloc; [connection.from, connection.out_port, connection.to, connection.in_port])
+}
+
+/// The connections as values.
+fn connections_value(alloc: Global, connections: &[Connection]) -> Result<Value, AllocError>
+    ensures { IfOk result (λ value. view value ≡ list_data (map connection_data connections.now)) }
+{
+    let mut values = Vec::new(alloc);
+    for connection in connections {
+        push(&mut values, connection_value(alloc, connection)?)?;
+    }
+    Ok(Value::from(values))
+}
+
+/// A flat form as a value, with the marks of its ports as the drawing has them.
+fn flat_value(alloc: Global, flat: &Flat, drawing: &Drawing) -> Result<Value, AllocError>
+    requires all { length drawing.now.figures ≡ length flat.now.elements }
+    ensures { IfOk result (λ value. view value ≡ flat_data flat.now drawing.now) }
+{
+    json!(in alloc; {
+        "connections": connections_value(alloc, flat.connections.as_slice())?,
+        "elements": elements_value(alloc, flat.elements.as_slice(), drawing.figures.as_slice())?,
+    })
+}
+
+/// The JSON of a flat form, by a drawing of its net.
+fn form_text(alloc: Global, flat: &Flat, net: &Net) -> Result<Vec<u8>, AllocError>
+    requires net { IsFormNet flat.now net.now }
+    requires few { length net.now.shapes ≤ 4096 }
+    ensures { IfOk result (λ made. IsFormText flat.now net.now made.items) }
+{
+    let drawing = layout(alloc, net)?;
+    json_text(alloc, &flat_value(alloc, flat, &drawing)?)
+}
+
+/// The JSON of the flat form of the text's configuration, or the first fault that the configuration has.
+pub fn flat_text(alloc: Global, text: &[u8]) -> Result<Vec<u8>, ConfigFault>
+    ensures text { IfOk result (λ made. IsFlatText text.now made.items) }
+    ensures fault { IfErr result (λ fault. IsMemoryOr fault (IsFirstFault text.now fault)) }
+{
+    let prepared = prepare(alloc, text)?;
+    let net = resolved(alloc, prepared.flat())?;
+    Ok(form_text(alloc, prepared.flat(), &net)?)
+}

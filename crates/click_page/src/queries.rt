@@ -1,0 +1,75 @@
+//! The handlers that a query names.
+
+ghost use Rattle.std.specs.Prelude.{◌≡◌, ◌<◌, ◌^◌, length, Some, None, if◌then◌else◌, IfOk};
+ghost use Rattle.form_urlencoded.specs.Form.{decode, raw_pairs};
+ghost use Rattle.std.specs.Str.Lossy.{utf8_lossy};
+ghost use Rattle.click_page.specs.Asking.{are_handlers, handlers_in, read_of, write_of};
+
+use crate::copies::copy;
+use crate::wish::{Refusal, Wish};
+use click_text::sequence::Sequence;
+use form_urlencoded::{decode, raw_pairs};
+use std::alloc::{AllocError, Global};
+
+/// How many handlers may be read at once.
+const MOST_READ: usize = 256;
+
+/// What a query asks to read.
+pub(crate) fn read_of(alloc: Global, query: &[u8]) -> Result<Wish, AllocError>
+    ensures { IfOk result (λ w. w ≡ read_of (raw_pairs query.now)) }
+{
+    match handler_count(query) {
+        Some(1..=MOST_READ) => Ok(Wish::Read {
+            handlers: Sequence::of(handlers_in(alloc, query)?),
+        }),
+        _ => Ok(Wish::Refused(Refusal::WrongQuery)),
+    }
+}
+
+/// What a query asks to write, with this text.
+pub(crate) fn write_of(alloc: Global, query: &[u8], text: &[u8]) -> Result<Wish, AllocError>
+    ensures { IfOk result (λ w. w ≡ write_of (raw_pairs query.now) text.now) }
+{
+    let Some(1) = handler_count(query) else {
+        return Ok(Wish::Refused(Refusal::WrongQuery));
+    };
+    match handlers_in(alloc, query)?.pop() {
+        Some(handler) => Ok(Wish::Write {
+            handler,
+            text: copy(alloc, text)?,
+        }),
+        None => unreachable!(),
+    }
+}
+
+/// How many handlers a query has, where it has nothing else.
+fn handler_count(query: &[u8]) -> Option<usize>
+    ensures { result ≡ (if are_handlers (raw_pairs query.now) then Some (length (raw_pairs query.now)) else None) }
+{
+    let mut count = 0;
+    for (name, _) in raw_pairs(query) {
+        if name != b"handler".as_slice() {
+            return None;
+        }
+        count += 1;
+    }
+    Some(count)
+}
+
+/// The handlers that the values of a query name.
+fn handlers_in(alloc: Global, query: &[u8]) -> Result<Vec<Sequence<u8>>, AllocError>
+    ensures { IfOk result (λ handlers. handlers.items ≡ handlers_in (raw_pairs query.now)) }
+{
+    let mut handlers = Vec::new(alloc);
+    for (_, value) in raw_pairs(query) {
+        handlers.push(decoded(alloc, value)?)?;
+    }
+    Ok(handlers)
+}
+
+/// What a value stands for: what is not UTF-8 in it becomes U+FFFD.
+fn decoded(alloc: Global, value: &[u8]) -> Result<Sequence<u8>, AllocError>
+    ensures { IfOk result (λ text. text ≡ utf8_lossy (decode value.now)) }
+{
+    Ok(Sequence::of(decode(alloc, value)?.into_owned(alloc)?.into_bytes()))
+}

@@ -1,0 +1,166 @@
+//! What a request is answered.
+
+ghost use Rattle.std.specs.Prelude.{◌≡◌, codes, false, length, MatchResult, OnOk};
+ghost use Rattle.serde_json.specs.View.{view};
+ghost use Rattle.serde_json.specs.Written.{compact_text, has_float};
+ghost use Rattle.http_server.specs.Response.{IsBlank};
+ghost use Rattle.click_router.specs.FaultText.{fault_text};
+ghost use Rattle.click_router.specs.Opened.{IsMemory};
+ghost use Rattle.click_page.specs.Asking.{commands_of, reading};
+ghost use Rattle.click_page.specs.Drawn.{IsPicture};
+ghost use Rattle.click_page.specs.Form.{IsFlatText};
+ghost use Rattle.click_page.specs.Saying.{Says, SaysFor, SaysMade, entry_of, fault_data, refusal_line, status_of};
+
+use crate::entries::{fault_entry, read_entries, read_entry, write_entry};
+use crate::form::flat_text;
+use crate::heads::{say_bytes, say_text};
+use crate::looks::Kind;
+use crate::page_text::PAGE;
+use crate::picture::picture_of;
+use crate::values::json_text;
+use crate::wish::{Refusal, Wish};
+use bytes::Bytes;
+use click_control::Answer;
+use click_router::{ConfigFault, FaultKind, Reply};
+use http::StatusCode;
+use http_server::Response;
+use serde_json::Value;
+use std::alloc::{AllocError, Global};
+
+/// The status of a refusal.
+fn status_of(why: Refusal) -> StatusCode
+    ensures { result ≡ status_of why }
+{
+    match why {
+        Refusal::Stranger | Refusal::NoMark => StatusCode::FORBIDDEN,
+        Refusal::NoPlace => StatusCode::NOT_FOUND,
+        Refusal::WrongMethod => StatusCode::METHOD_NOT_ALLOWED,
+        Refusal::WrongQuery => StatusCode::BAD_REQUEST,
+    }
+}
+
+/// The line of a refusal.
+fn refusal_line(why: Refusal) -> &'static [u8]
+    ensures { result.now ≡ refusal_line why }
+{
+    match why {
+        Refusal::Stranger => b"this page is at 127.0.0.1 alone\n",
+        Refusal::NoPlace => b"there is nothing of that name\n",
+        Refusal::WrongMethod => b"another method is wanted here\n",
+        Refusal::NoMark => b"a write needs the header x-click-page\n",
+        Refusal::WrongQuery => b"the query names no handlers, or too many\n",
+    }
+}
+
+/// Says why a request is refused.
+fn say_refusal(why: Refusal, response: &mut Response) -> Result<(), AllocError>
+    requires { IsBlank response.old }
+    ensures { OnOk result (Says (status_of why) Kind.Text (refusal_line why) response.new) }
+{
+    let line = Bytes::from_static(refusal_line(why));
+    say_bytes(status_of(why), Kind::Text, line, response)
+}
+
+/// Says a value, as JSON.
+fn say_value(alloc: Global, value: &Value, response: &mut Response) -> Result<(), AllocError>
+    requires blank { IsBlank response.old }
+    requires whole { has_float (view value.now) ≡ false }
+    ensures { OnOk result (Says 200 Kind.Json (compact_text (view value.now)) response.new) }
+{
+    say_text(Kind::Json, json_text(alloc, value)?, response)
+}
+
+/// Says why a text opens nothing.
+fn say_fault(alloc: Global, fault: &ConfigFault, response: &mut Response) -> Result<(), AllocError>
+    requires { IsBlank response.old }
+    ensures { OnOk result (Says 200 Kind.Json (compact_text (fault_data 520 (fault_text fault.now))) response.new) }
+{
+    let text = fault.text(alloc)?;
+    say_value(alloc, &fault_entry(alloc, 520, text.as_slice())?, response)
+}
+
+/// Says what was made of a text, or why the text opens nothing.
+fn say_made(
+    alloc: Global,
+    kind: Kind,
+    made: Result<Vec<u8>, ConfigFault>,
+    response: &mut Response,
+) -> Result<(), AllocError>
+    requires { IsBlank response.old }
+    ensures { OnOk result (MatchResult made (λ made. Says 200 kind made.items response.new)
+        (λ fault. (IsMemory fault → ⊥) × Says 200 Kind.Json (compact_text (fault_data 520 (fault_text fault))) response.new)) }
+{
+    match made {
+        Ok(made) => say_text(kind, made, response),
+        Err(fault) if fault.kind == FaultKind::NoMemory => Err(AllocError),
+        Err(fault) => say_fault(alloc, &fault, response),
+    }
+}
+
+/// Says why the text that runs was not read.
+fn say_unread(alloc: Global, answer: &Answer, response: &mut Response) -> Result<(), AllocError>
+    requires { IsBlank response.old }
+    ensures { OnOk result (Says 200 Kind.Json (compact_text (entry_of (reading (codes "config")) answer.now)) response.new) }
+{
+    say_value(alloc, &read_entry(alloc, b"config", answer)?, response)
+}
+
+/// Says the picture of the text that was read.
+fn say_picture(alloc: Global, answer: &Answer, response: &mut Response) -> Result<(), AllocError>
+    requires { IsBlank response.old }
+    ensures { OnOk result (SaysMade Kind.Svg IsPicture answer.now response.new) }
+{
+    match answer {
+        Answer::Replied(Reply::Value(text)) => {
+            let picture = picture_of(alloc, text.as_slice());
+            say_made(alloc, Kind::Svg, picture, response)
+        }
+        _ => say_unread(alloc, answer, response),
+    }
+}
+
+/// Says the flat form of the text that was read.
+fn say_flat(alloc: Global, answer: &Answer, response: &mut Response) -> Result<(), AllocError>
+    requires { IsBlank response.old }
+    ensures { OnOk result (SaysMade Kind.Json IsFlatText answer.now response.new) }
+{
+    match answer {
+        Answer::Replied(Reply::Value(text)) => {
+            let form = flat_text(alloc, text.as_slice());
+            say_made(alloc, Kind::Json, form, response)
+        }
+        _ => say_unread(alloc, answer, response),
+    }
+}
+
+/// Answers a wish, the commands of which were answered so. After an error part of the response may be written.
+pub(crate) fn say(
+    alloc: Global,
+    wish: &Wish,
+    answers: &[Answer],
+    response: &mut Response,
+) -> Result<(), AllocError>
+    requires blank { IsBlank response.old }
+    requires many { length answers.now ≡ length (commands_of wish.now) }
+    ensures { OnOk result (SaysFor wish.now answers.now response.new) }
+{
+    match wish {
+        Wish::Page => say_bytes(
+            StatusCode::OK,
+            Kind::Html,
+            Bytes::from_static(PAGE),
+            response,
+        ),
+        Wish::Picture => say_picture(alloc, &answers[0], response),
+        Wish::Flat => say_flat(alloc, &answers[0], response),
+        Wish::Read { handlers } => {
+            let told = read_entries(alloc, handlers.as_slice(), answers)?;
+            say_value(alloc, &told, response)
+        }
+        Wish::Write { handler, .. } => {
+            let told = write_entry(alloc, handler.as_slice(), &answers[0])?;
+            say_value(alloc, &told, response)
+        }
+        Wish::Refused(why) => say_refusal(*why, response),
+    }
+}

@@ -1,0 +1,93 @@
+//! A page as a service of HTTP.
+
+ghost use Rattle.std.specs.Prelude.{◌≡◌, ◌⊎◌, length};
+ghost use Rattle.http_server.specs.Response.{IsBlank};
+ghost use Rattle.click_page.specs.Asking.{commands_of};
+ghost use Rattle.click_page.specs.Saying.{SaysFor, SaysNoMemory};
+
+use crate::asking::{ask_all, calls_of};
+use crate::requests::wish_of;
+use crate::saying::say;
+use crate::wish::Wish;
+use bytes::Bytes;
+use click_control::{Answer, Port};
+use http::{Request, StatusCode};
+use http_server::{Response, Service};
+use std::alloc::{AllocError, Global};
+use std::marker::Model;
+
+/// A page over a port, which answers its calls. Contracts see the port, whether the page may only read, and the port of 127.0.0.1 that it is at.
+#[derive(Drop)]
+pub struct Page<P> {
+    alloc: Global,
+    port: P,
+    readonly: bool,
+    at: u16,
+}
+
+impl<P> Model for Page<P> {
+    ghost use Rattle.click_page.specs.Answering.{Paged};
+
+    ghost Value = { Paged P };
+
+    ghost view = { λ p. record { port = p.port; readonly = p.readonly; at = p.at } };
+}
+
+impl<P> Page<P> {
+    /// A page that is served at this port of 127.0.0.1. Where it may only read, it makes no call that writes.
+    pub fn new(alloc: Global, port: P, readonly: bool, at: u16) -> Page<P>
+        ensures { result ≡ record { port = port; readonly = readonly; at = at } }
+    {
+        Page {
+            alloc,
+            port,
+            readonly,
+            at,
+        }
+    }
+
+    /// The port that answered its calls.
+    pub fn into_port(self) -> P
+        ensures { result ≡ self.port }
+    {
+        let Page {
+            alloc: _,
+            port,
+            readonly: _,
+            at: _,
+        } = self;
+        port
+    }
+}
+
+impl<P: Port> Service for Page<P> {
+    ghost use Rattle.click_page.specs.Answering.{AnswersSo};
+
+    ghost answers = { AnswersSo P.asks };
+
+    /// All memory that the calls take is taken before the first of them.
+    fn call(
+        &mut self,
+        request: &Request<Bytes>,
+        response: &mut Response,
+    ) -> Result<(), AllocError> {
+        let wish = wish_of(self.alloc, self.at, request)?;
+        let calls = calls_of(self.alloc, &wish, self.readonly)?;
+        let answers = Vec::with_capacity(self.alloc, calls.len())?;
+        let answers = ask_all(self.alloc, &mut self.port, calls, answers);
+        tell(self.alloc, &wish, answers.as_slice(), response);
+        Ok(())
+    }
+}
+
+/// Tells the answers, or that memory ran out.
+fn tell(alloc: Global, wish: &Wish, answers: &[Answer], response: &mut Response)
+    requires blank { IsBlank response.old }
+    requires each { length answers.now ≡ length (commands_of wish.now) }
+    ensures { SaysFor wish.now answers.now response.new ⊎ SaysNoMemory response.new }
+{
+    if say(alloc, wish, answers, response).is_err() {
+        response.clear();
+        response.status = StatusCode::SERVICE_UNAVAILABLE;
+    }
+}
