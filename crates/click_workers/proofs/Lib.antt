@@ -6,4 +6,5 @@ pub mod Gating
 pub mod Entering
 pub mod ShownAtEnd
 pub mod Linking
+pub mod Besides
 pub mod Sending

@@ -1,5 +1,5 @@
 -- Feeds of links, and lists that go together.
-use Rattle.std.proofs.Common.{◌≡◌, inr, ℕ, true, false, true≢false, List, Option, [], ◌∷◌, map, refl, sym, ap, subst, ◌∙◌}
+use Rattle.std.proofs.Common.{◌≡◌, ◌⊎◌, inl, inr, ℕ, true, false, true≢false, List, Option, [], ◌∷◌, map, refl, sym, ap, subst, ◌∙◌}
 use Rattle.std.specs.Str.{bytes_eq}
 use Rattle.std.specs.List.{All, AllZip}
 use Rattle.std.proofs.lemmas.List.Elements.{All-nil, All-cons, All-head, All-tail}
@@ -11,6 +11,7 @@ use Rattle.click_desk.specs.Booklet.{Booklet}
 use Rattle.click_desk.specs.Openings.{IsViewFault}
 use Rattle.click_desk.specs.Polls.{without}
 use Rattle.click_desk.specs.declared.open.OpenFault.{OpenFault}
+use Rattle.click_desk.specs.declared.open.OpenFault.TheVariants as told
 use Rattle.click_workers.specs.Linked.{FitsTaps, HasRing, IsTrueOpening}
 use Rattle.click_workers.specs.Runs.{HeadlineWith}
 use Rattle.click_workers.specs.Work.{SideBySide}
@@ -98,8 +99,10 @@ resettled feeds room text n book taps none h = record {
 }
 
 -- what a desk tells that is not opened, of which no views were asked
-pub no-desk : (seats : ℕ) (feeds : List FeedName) (text : List ℕ) (f : OpenFault) → IsViewFault seats feeds 0 text f → IsTrueOpening seats (map (λ (x : FeedName). x.device) feeds) text f
-no-desk seats feeds text f why = inr (feeds, refl, viewless seats feeds text f why)
+pub no-desk : (seats : ℕ) (feeds : List FeedName) (text : List ℕ) (f : OpenFault) → (f ≡ told.NoMemory) ⊎ IsViewFault seats feeds 0 text f
+    → IsTrueOpening seats (map (λ (x : FeedName). x.device) feeds) text f
+no-desk seats feeds text f (inl none) = inl none
+no-desk seats feeds text f (inr why) = inr (feeds, refl, viewless seats feeds text f why)
 
 -- the same, by other words for the devices
 pub no-run : (seats : ℕ) (devices devices2 : List (List ℕ)) (text : List ℕ) (f : OpenFault) → devices ≡ devices2 → IsTrueOpening seats devices text f → IsTrueOpening seats devices2 text f

@@ -1,5 +1,5 @@
 -- What whole runs leave.
-use Rattle.std.proofs.Common.{◌≡◌, ◌↔◌, ℕ, ◌+◌, ◌==◌, ◌<◌, ◌≤◌, inl, inr, Bool, true, false, true≢false, cond, List, [], ◌∷◌, map, length, Option, is_some, count_by, refl, sym, ap, ◌∙◌, subst, arith}
+use Rattle.std.proofs.Common.{◌≡◌, ◌↔◌, ◌⊎◌, ℕ, ◌+◌, ◌==◌, ◌<◌, ◌≤◌, inl, inr, Bool, true, false, true≢false, cond, List, [], ◌∷◌, map, length, Option, Some, None, is_some, count_by, refl, sym, ap, ◌∙◌, subst, arith}
 use Rattle.std.proofs.lemmas.Bool.Decides.{nat_tests}
 use Rattle.std.specs.List.{All}
 use Rattle.std.proofs.lemmas.List.Elements.{All-head, All-tail}
@@ -17,7 +17,7 @@ use Rattle.click_desk.specs.declared.open.OpenFault.{OpenFault}
 use Rattle.click_desk.specs.declared.open.OpenFault.TheVariants as told
 use Rattle.click_workers.specs.declared.runs.RunFault.{RunFault}
 use Rattle.click_workers.specs.declared.runs.RunFault.TheVariants as run
-use Rattle.click_workers.specs.Runs.{Headline, HeadlineWith, IsOpenedFor, IsTrueFault, IsLate, entries_of}
+use Rattle.click_workers.specs.Runs.{Headline, HeadlineWith, IsOpenedFor, IsTrueFault, IsLate, IsViewAsked, entries_of, views_for}
 
 none-named : (taps : List Drawing) → map name_of taps ≡ [] → taps ≡ []
 none-named [] e = refl
@@ -66,6 +66,37 @@ late-fault seats views text (told.Config f) some within few why = tt
 late-fault seats views text told.NoMemory some within few why = tt
 late-fault seats views text told.ViewCount some within few why = let h = why.1 in absurd (omega arith)
 late-fault seats views text told.NoView some within few why = tt
+
+-- the same of an opening that began with want of memory, or not
+pub late-begun : (seats views : ℕ) (text : List ℕ) (fault : OpenFault) → 0 < seats → seats ≤ 256 → views ≤ 1 → (fault ≡ told.NoMemory) ⊎ IsViewFault seats [] views text fault → IsLate fault
+late-begun seats views text fault some within few (inl none) = subst IsLate (sym none) tt
+late-begun seats views text fault some within few (inr why) = late-fault seats views text fault some within few why
+
+pub true-begun : (seats views : ℕ) (text : List ℕ) (fault : OpenFault) (result : RunFault) → ((f : ConfigFault) → (result ≡ run.Config f) ↔ (fault ≡ told.Config f))
+    → (fault ≡ told.NoMemory) ⊎ IsViewFault seats [] views text fault → IsTrueFault text result
+true-begun seats views text fault (run.Config f) same (inl none) = absurd (let is : told.Config f ≡ told.NoMemory = sym ((same f).0 refl) ∙ none in cc)
+true-begun seats views text fault run.NoMemory same (inl none) = tt
+true-begun seats views text fault (run.Close code) same (inl none) = tt
+true-begun seats views text fault run.NoView same (inl none) = tt
+true-begun seats views text fault result same (inr why) = true-fault seats views text fault result same why
+
+-- a view was not to be had only where one was asked for
+pub view-begun : (seats : ℕ) (name : Option (List ℕ)) (text : List ℕ) (fault : OpenFault) (result : RunFault) → ((result ≡ run.NoView) ↔ (fault ≡ told.NoView))
+    → (fault ≡ told.NoMemory) ⊎ IsViewFault seats [] (views_for name) text fault → IsViewAsked name result
+view-begun seats (Some name) text fault result same why = tt
+view-begun seats None text fault (run.Config f) same why = tt
+view-begun seats None text fault run.NoMemory same why = tt
+view-begun seats None text fault (run.Close code) same why = tt
+view-begun seats None text fault run.NoView same (inl none) = absurd (let is : told.NoView ≡ told.NoMemory = sym (same.0 refl) ∙ none in cc)
+view-begun seats None text fault run.NoView same (inr why) =
+    let h : IsViewFault seats [] 0 text told.NoView = subst (λ x. IsViewFault seats [] 0 text x) (same.0 refl) why in
+    let some : 0 < 0 = h.3 in
+    absurd (omega arith)
+
+-- there is one view at most
+pub few-views : (name : Option (List ℕ)) → views_for name ≤ 1
+few-views None = omega arith
+few-views (Some name) = omega arith
 
 is-so : (b : Bool) (n : ℕ) → n ≡ cond b 1 0 + 0 → n ≡ 1 → b ≡ true
 is-so true n e h = refl

@@ -2,7 +2,7 @@
 use Rattle.std.proofs.Common.{◌≡◌, ℕ, zero, suc, ◌==◌, ◌⊎◌, inl, inr, slice_index_or, Bool, true, false, true≢false, if◌then◌else◌, List, Option, Some, None, IfSome, Result, [], ◌∷◌, ◌++◌, count_by, refl, sym, ap, ◌∙◌, subst, arith}
 use Rattle.std.proofs.lemmas.Bool.Decides.{nat_tests}
 use Rattle.std.specs.List.{All}
-use Rattle.std.proofs.lemmas.List.Elements.{All-nil, All-cons, All-head, All-tail, All-push}
+use Rattle.std.proofs.lemmas.List.Elements.{All-nil, All-cons, All-head, All-tail}
 use Rattle.click_router.specs.One.{is_transmit}
 use Rattle.click_router.specs.declared.call.Call.{Call}
 use Rattle.click_router.specs.declared.call.Call.TheVariants as call
@@ -20,19 +20,16 @@ use Rattle.click_desk.specs.History.{entries}
 use Rattle.click_desk.specs.Sittings.{Sitting, new_seat}
 use Rattle.click_desk.specs.declared.entry.Entry.{Entry}
 use Rattle.click_links.specs.Forwarding.{given_by, gifts_by}
-use Rattle.click_workers.specs.Linked.{calls_in}
+use Rattle.click_workers.specs.Linked.{AreQuiet, calls_in}
 use Rattle.click_workers.specs.Seats.{SeatServes, made, made_one}
 use Rattle.click_workers.specs.Work.{Attends, AttendedInTurn, DroveFor, InTurn, SideBySide, Worked}
 use Rattle.click_workers.specs.declared.session.SessionEnd.{SessionEnd}
 use Rattle.click_workers.specs.declared.session.SessionEnd.TheVariants as end
+use Rattle.click_workers.proofs.Besides.{both-all, each-part}
 use Rattle.click_workers.proofs.ShownAtEnd.{seat-of}
 use Rattle.click_workers.proofs.Workings.{drove-alone}
 
--- none of these calls is a Transmit
-abbrev pub AreQuiet : List (Call × Reply) → Type 0
-AreQuiet calls = All (λ (p : Call × Reply). is_transmit p.0 ≡ false) calls
-
-quiet-both : (xs ys : List (Call × Reply)) → AreQuiet xs → AreQuiet ys → AreQuiet (xs ++ ys)
+pub quiet-both : (xs ys : List (Call × Reply)) → AreQuiet xs → AreQuiet ys → AreQuiet (xs ++ ys)
 quiet-both [] ys a b = b
 quiet-both (x ∷ xs) ys a b =
     All-cons (λ (p : Call × Reply). is_transmit p.0 ≡ false) x (xs ++ ys) (All-head (λ (p : Call × Reply). is_transmit p.0 ≡ false) x xs a)
@@ -57,7 +54,8 @@ one-quiet (Some c) (answer.Replied r) h = All-cons (λ (p : Call × Reply). is_t
 one-quiet (Some c) (answer.Failed f) h = All-nil (λ (p : Call × Reply). is_transmit p.0 ≡ false)
 one-quiet (Some c) answer.NoCall h = All-nil (λ (p : Call × Reply). is_transmit p.0 ≡ false)
 
-made-quiet : (readonly : Bool) (cs : List Command) (answers : List Answer) → AreQuiet (made readonly cs answers)
+-- a session makes no Transmit
+pub made-quiet : (readonly : Bool) (cs : List Command) (answers : List Answer) → AreQuiet (made readonly cs answers)
 made-quiet readonly [] answers = All-nil (λ (p : Call × Reply). is_transmit p.0 ≡ false)
 made-quiet readonly (c ∷ cs) [] = All-nil (λ (p : Call × Reply). is_transmit p.0 ≡ false)
 made-quiet readonly (c ∷ cs) (a ∷ answers) =
@@ -97,17 +95,13 @@ each-of R P f [] (y ∷ ys) h = absurd h
 each-of R P f (x ∷ xs) [] h = absurd h
 each-of R P f (x ∷ xs) (y ∷ ys) h = All-cons P x xs (f x y h.0) (each-of R P f xs ys h.1)
 
-all-both : (P : Sitting → Type 0) (xs ys : List Sitting) → All P xs → All P ys → All P (xs ++ ys)
-all-both P [] ys a b = b
-all-both P (x ∷ xs) ys a b = All-cons P x (xs ++ ys) (All-head P x xs a) (all-both P xs ys (All-tail P x xs a) b)
-
 -- nobody at a place and no driver makes a Transmit
 pub served-quiet : (attends : Sitting → SessionEnd → Type 0) (drives : Sitting → Bool → Type 0) → ((s : Sitting) (e : SessionEnd) → attends s e → AreQuiet s.calls)
     → ((s : Sitting) (all : Bool) → drives s all → AreQuiet s.calls) → (sessions n : ℕ) (seats : List Sitting) (ended : List SessionEnd) (drivers : List Bool)
     → Worked attends drives sessions n seats ended drivers → All (λ (s : Sitting). AreQuiet s.calls) seats
 served-quiet attends drives f g sessions n seats ended drivers w =
     subst (λ (l : List Sitting). All (λ (s : Sitting). AreQuiet s.calls) l) (sym w.parts)
-    (all-both (λ (s : Sitting). AreQuiet s.calls) w.first w.others (each-of attends (λ (s : Sitting). AreQuiet s.calls) f w.first ended w.attended)
+    (both-all (λ (s : Sitting). AreQuiet s.calls) w.first w.others (each-of attends (λ (s : Sitting). AreQuiet s.calls) f w.first ended w.attended)
     (each-of drives (λ (s : Sitting). AreQuiet s.calls) g w.others drivers w.driven))
 
 -- no entry of this seat is a Transmit
@@ -151,29 +145,30 @@ gifts-apart device n (e ∷ es) h =
 same-number : (a b : ℕ) → a ≡ b → (a == b) ≡ true
 same-number a b h = grind (arith, nat_tests, h)
 
--- what a device gave in a history is what it gave by the calls of the last seat, where the others make no Transmit
-pub gives-alone : (device : List ℕ) (es : List Entry) (seats served : List Sitting) (last : Sitting) → seats ≡ served ++ last ∷ [] → All (λ (s : Sitting). AreQuiet s.calls) served
-    → All (IsEntered es) seats → All (λ e. count_by (λ s. s.number == e.seat) seats ≡ 1) es → gifts_by device (calls_in es) ≡ gifts_by device last.calls
-gives-alone device es seats served last parts quiet entered numbered =
-    let P : Sitting → Type 0 = λ s. (s.number ≡ last.number) ⊎ IsQuietSeat es s.number in
-    let whole : All (IsEntered es) (served ++ last ∷ []) = subst (λ (l : List Sitting). All (IsEntered es) l) parts entered in
-    let split = halves es served last quiet whole in
-    let all : All P seats = subst (λ (l : List Sitting). All P l) (sym parts) (All-push P served last split.0 (inl refl)) in
-    let others : All (λ (e : Entry). (e.seat == last.number) ≡ false → is_transmit e.call ≡ false) es =
+-- of each of these seats no entry is a Transmit
+each-quiet : (es : List Entry) (own : ℕ) (ss : List Sitting) → All (λ (s : Sitting). AreQuiet s.calls) ss → All (IsEntered es) ss
+    → All (λ (s : Sitting). (s.number ≡ own) ⊎ IsQuietSeat es s.number) ss
+each-quiet es own [] quiet entered = All-nil (λ (s : Sitting). (s.number ≡ own) ⊎ IsQuietSeat es s.number)
+each-quiet es own (s ∷ ss) quiet entered =
+    let mine : AreQuiet (entries es s.number) = subst AreQuiet (sym (All-head (IsEntered es) s ss entered).0) (All-head (λ (t : Sitting). AreQuiet t.calls) s ss quiet) in
+    All-cons (λ (t : Sitting). (t.number ≡ own) ⊎ IsQuietSeat es t.number) s ss (inr (quiet-seat es s.number mine))
+    (each-quiet es own ss (All-tail (λ (t : Sitting). AreQuiet t.calls) s ss quiet) (All-tail (IsEntered es) s ss entered))
+
+-- what a device gave in a history is what it gave by the calls of one seat, where the others make no Transmit
+pub gives-alone : (device : List ℕ) (es : List Entry) (seats served rest : List Sitting) (one : Sitting) → seats ≡ served ++ one ∷ rest → All (λ (s : Sitting). AreQuiet s.calls) served
+    → All (λ (s : Sitting). AreQuiet s.calls) rest → All (IsEntered es) seats → All (λ e. count_by (λ s. s.number == e.seat) seats ≡ 1) es → gifts_by device (calls_in es) ≡ gifts_by device one.calls
+gives-alone device es seats served rest one parts quiet quiet_rest entered numbered =
+    let P : Sitting → Type 0 = λ s. (s.number ≡ one.number) ⊎ IsQuietSeat es s.number in
+    let halves = each-part (IsEntered es) served (one ∷ rest) (subst (λ (l : List Sitting). All (IsEntered es) l) parts entered) in
+    let own : entries es one.number ≡ one.calls = (All-head (IsEntered es) one rest halves.1).0 in
+    let behind = All-cons P one rest (inl refl) (each-quiet es one.number rest quiet_rest (All-tail (IsEntered es) one rest halves.1)) in
+    let all : All P seats = subst (λ (l : List Sitting). All P l) (sym parts) (both-all P served (one ∷ rest) (each-quiet es one.number served quiet halves.0) behind) in
+    let others : All (λ (e : Entry). (e.seat == one.number) ≡ false → is_transmit e.call ≡ false) es =
     λ k d below. λ other.
     let e = slice_index_or es k d in
     let found = seat-of P e.seat seats all (numbered k d below) in
     elim found.2 [
-      | inl same ↦ absurd (true≢false (sym (same-number e.seat last.number (sym found.1 ∙ same)) ∙ other))
+      | inl same ↦ absurd (true≢false (sym (same-number e.seat one.number (sym found.1 ∙ same)) ∙ other))
       | inr none ↦ none k d below (same-number e.seat found.0.number (sym found.1))
     ] in
-    gifts-apart device last.number es others ∙ ap (gifts_by device) split.1
-  where
-    halves : (es : List Entry) (served : List Sitting) (last : Sitting) → All (λ (s : Sitting). AreQuiet s.calls) served → All (IsEntered es) (served ++ last ∷ [])
-        → All (λ (s : Sitting). (s.number ≡ last.number) ⊎ IsQuietSeat es s.number) served × (entries es last.number ≡ last.calls)
-    halves es [] last quiet whole = (All-nil (λ (s : Sitting). (s.number ≡ last.number) ⊎ IsQuietSeat es s.number), (All-head (IsEntered es) last [] whole).0)
-    halves es (s ∷ ss) last quiet whole =
-        let rest = halves es ss last (All-tail (λ (t : Sitting). AreQuiet t.calls) s ss quiet) (All-tail (IsEntered es) s (ss ++ last ∷ []) whole) in
-        let mine : AreQuiet (entries es s.number) =
-        subst AreQuiet (sym (All-head (IsEntered es) s (ss ++ last ∷ []) whole).0) (All-head (λ (t : Sitting). AreQuiet t.calls) s ss quiet) in
-        (All-cons (λ (t : Sitting). (t.number ≡ last.number) ⊎ IsQuietSeat es t.number) s ss (inr (quiet-seat es s.number mine)) rest.0, rest.1)
+    gifts-apart device one.number es others ∙ ap (gifts_by device) own

@@ -1,8 +1,9 @@
 -- What a run with links leaves.
-use Rattle.std.specs.Prelude.{◌≡◌, ◌⊎◌, ℕ, ◌+◌, List, [], ◌∷◌, ◌++◌, map, Bool, true, Option, None, IfSome}
+use Rattle.std.specs.Prelude.{◌≡◌, ◌⊎◌, ℕ, ◌+◌, List, [], ◌∷◌, ◌++◌, drop, map, Bool, true, false, Option, None, IfSome}
 use Rattle.std.specs.List.{All}
 use Rattle.click_packet.specs.Packet.{Packet}
 use Rattle.click_rings.specs.Feeds.{RingName, FeedName, Drawing, name_of, has_feed}
+use Rattle.click_router.specs.One.{is_transmit}
 use Rattle.click_router.specs.declared.call.Call.{Call}
 use Rattle.click_router.specs.declared.call.Reply.{Reply}
 use Rattle.click_desk.specs.Booklet.{Booklet}
@@ -46,6 +47,18 @@ pub record LinkedWork (attends : Sitting → SessionEnd → Type 0) (drives : Si
   pub number : forwarder.number ≡ places + workers
   pub worked : Worked attends drives places (places + workers) served ended drivers
   pub forwards : Forwards devices [] forwarder.calls before after
+
+-- none of these calls is a Transmit
+abbrev pub AreQuiet : List (Call × Reply) → Type 0
+AreQuiet calls = All (λ (p : Call × Reply). is_transmit p.0 ≡ false) calls
+
+-- of these seats none but the first n made a Transmit
+abbrev pub AreQuietFrom : ℕ → List Sitting → Type 0
+AreQuietFrom n seats = All (λ (s : Sitting). AreQuiet s.calls) (drop n seats)
+
+-- The seat of a forwarder of these devices, and those of other work: the calls of the forwarder are its own, and just the packets that its Transmits gave were sent; what the other work did.
+abbrev pub ForwardsBeside : {Seats Done : Type 0} → List (List ℕ) → List Attempt → List Attempt → (Seats → Seats → Done → Type 0) → Sitting × Seats → Sitting × Seats → Done → Type 0
+ForwardsBeside devices before after does old new done = Forwards devices old.0.calls new.0.calls before after × does old.1 new.1 done
 
 -- What the feed of a device put is what the history polled of that device, followed by the rest, in order, each once; what is told as left is just the rest.
 abbrev pub IsSettled : List Entry → List ℕ → List Packet → Option (List Packet) → Type 0

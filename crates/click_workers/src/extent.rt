@@ -3,8 +3,6 @@
 /// How far a run goes.
 #[derive(Clone, Copy)]
 pub(crate) struct Extent {
-    /// How many entries its history may have; none: it has no bound, and is not kept.
-    pub(crate) room: Option<usize>,
     /// How many sessions each place serves, one after another.
     pub(crate) turns: u64,
     /// How many Rounds each driver makes; none: it goes on until every place has served its sessions.

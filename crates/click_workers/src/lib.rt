@@ -1,7 +1,10 @@
 //! Sessions and drivers at one desk, each in a thread of its own.
 #![tactic(auto)]
 
+mod beside;
 mod checking;
+mod clients;
+mod crew;
 mod door;
 mod driver;
 mod extent;
@@ -9,17 +12,23 @@ mod gate;
 pub mod laws;
 mod linked;
 mod listening;
+mod opening;
 mod pause;
 mod places;
 mod runs;
 mod seated;
+mod seating;
 mod session;
 mod work;
 
+pub use beside::{Alone, Beside};
+pub use clients::Clients;
 pub use door::Door;
 pub use gate::{Gate, OpenGate};
-pub use linked::{Clients, LinkEnd, LinkedRan, run_linked};
+pub use linked::{LinkEnd, LinkedRan, Wiring, run_linked, run_linked_beside};
 pub use listening::Listening;
-pub use runs::{AllRan, Ran, RunFault, run, run_live, run_workers};
+pub use opening::Opening;
+pub use runs::{AllRan, BesideRan, Ran, RunFault, run, run_beside, run_live, run_workers};
 pub use seated::Seated;
+pub use seating::Seating;
 pub use session::{SessionEnd, serve_at};

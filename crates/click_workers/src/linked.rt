@@ -3,28 +3,29 @@
 ghost use Rattle.std.specs.Prelude.{◌≡◌, ◌<◌, ◌≤◌, ◌+◌, ◌++◌, ◌∷◌, List, ℕ, [], true, None, IfOk, IfErr, length, map, option_map, vec_len, vec_capacity};
 ghost use Rattle.std.specs.List.{All, AllZip};
 ghost use Rattle.std.specs.Thread.{IsSend, IsSync};
-ghost use Rattle.click_rings.specs.Feeds.{FeedName, RingName, are_apart};
-ghost use Rattle.click_desk.specs.Booklet.{Booklet};
-ghost use Rattle.click_desk.specs.Sittings.{new_seat};
+ghost use Rattle.click_rings.specs.Feeds.{FeedName, RingName, are_apart, name_of};
 ghost use Rattle.click_links.specs.Fates.{Receives};
 ghost use Rattle.click_links.specs.Forwarding.{Forwards, sent_by, gifts_by};
-ghost use Rattle.click_links.specs.Turns.{SameSeat, names_of};
-ghost use Rattle.click_workers.specs.Linked.{calls_in, HasRing, IsSettled, LinkedHeadline, LinkedWork, LinkRan, IsTrueOpening};
+ghost use Rattle.click_links.specs.Turns.{names_of};
+ghost use Rattle.click_workers.specs.Beside.{BesideWork};
+ghost use Rattle.click_workers.specs.Linked.{calls_in, AreQuietFrom, ForwardsBeside, HasRing, IsSettled, LinkedHeadline, LinkedWork, LinkRan, IsTrueOpening};
 ghost use Rattle.click_workers.specs.Runs.{HeadlineWith, IsOpenedFor};
-ghost use Rattle.click_workers.specs.Seats.{IsOf};
+ghost use Rattle.click_workers.specs.Seats.{IsOf, SameSeat};
 ghost use Rattle.click_workers.specs.Work.{AttendedInTurn, DroveFor, Ready, SideBySide, Worked, numbers_below};
 
-use crate::checking::close_all;
+use crate::beside::{Alone, Beside};
+use crate::clients::Clients;
+use crate::crew::{Begun, Crew, begin, finish, serve_beside};
 use crate::door::Door;
-use crate::extent::Extent;
 use crate::gate::Gate;
-use crate::places::Places;
+use crate::opening::Opening;
+use crate::runs::AllRan;
+use crate::seating::Seating;
 use crate::session::SessionEnd;
-use crate::work::{Work, work_all};
 use click_desk::{Book, Desk, OpenFault, Seat};
 use click_links::{Device, Inbound, Linked, Links, Outbound, Received, Receiving, run_links};
 use click_packet::StoredPacket;
-use click_rings::{Feed, Inlet};
+use click_rings::Feed;
 use click_router::Handlers;
 use click_text::sequence::Sequence;
 use std::alloc::Global;
@@ -32,17 +33,6 @@ use std::sync::Wait;
 use std::sync::atomic::{AtomicBool, Ordering};
 use std::thread;
 use std::thread::Threads;
-
-/// Sessions and drivers of a router that stays, and how they come in: so many places, each of which serves `turns` sessions, one after another, and drivers beside them.
-#[derive(Clone, Copy)]
-pub struct Clients<'a, D, G> {
-    pub door: &'a D,
-    pub gate: &'a G,
-    pub readonly: bool,
-    pub places: usize,
-    pub workers: usize,
-    pub turns: u64,
-}
 
 /// What came of a link.
 #[derive(Drop)]
@@ -65,128 +55,108 @@ pub struct LinkedRan<T, L, S> {
     pub book: Book<T>,
 }
 
-/// A desk with new seats, of which the last is apart from the others.
-struct Begun<'a, T, R: Wait> {
-    desk: Desk<T, &'a R>,
-    work: Work<T>,
-    forwarder: Seat<T>,
+/// The links of a run: the devices that they are of, in one order with them, and the end by which packets go out.
+#[derive(Drop)]
+pub struct Wiring<'a, L, S> {
+    pub devices: &'a [Device],
+    pub links: Links<L>,
+    pub sender: S,
 }
 
-/// Opens a desk that keeps no book, with these inlets, and takes the room for what comes of each: nothing that comes later can fail.
-fn begin<'a, T: Drop, R: Wait>(
-    rt: &'a R,
-    alloc: Global,
-    table: T,
-    text: &[u8],
-    places: usize,
-    workers: usize,
-    inlets: Vec<Inlet>,
-) -> Result<Begun<'a, T, R>, OpenFault>
-    requires { (0 < places + workers) × (places + workers < 256) }
-    ensures desk { IfOk result (λ b. IsOpenedFor None text.now (places + workers + 1) b.desk) }
-    ensures count { IfOk result (λ b. vec_len b.work.seats ≡ places + workers) }
-    ensures of { IfOk result (λ b. All (IsOf b.desk inlets.items) b.work.seats.items) }
-    ensures ready { IfOk result (λ b. Ready b.desk places (vec_len b.work.seats) b.work.seats.items b.work.ended.items b.work.drivers.items (vec_capacity b.work.ended) (vec_capacity b.work.drivers)) }
-    ensures room { IfOk result (λ b. vec_len b.work.seats < vec_capacity b.work.seats) }
-    ensures forwarder { IfOk result (λ b. b.forwarder ≡ new_seat b.desk inlets.items (places + workers)) }
-    ensures apart { IfOk result (λ b. are_apart inlets.items ≡ true) }
-    ensures config { IfErr result (IsTrueOpening (places + workers + 1) (map (λ (f : FeedName). f.device) inlets.items) text.now) }
-{
-    let Ok(ended) = Vec::with_capacity(alloc, places) else {
-        return Err(OpenFault::NoMemory);
-    };
-    let Ok(drivers) = Vec::with_capacity(alloc, workers) else {
-        return Err(OpenFault::NoMemory);
-    };
-    let many = places + workers + 1;
-    let (desk, mut seats) = match Desk::open_live(rt, alloc, table, text, many, inlets, 0) {
-        Ok((desk, seats, _views)) => (desk, seats),
-        Err(refused) => return Err(refused.fault),
-    };
-    let Some(forwarder) = seats.pop() else {
-        unreachable!()
-    };
-    let work = Work {
-        seats,
-        ended,
-        drivers,
-    };
-    Ok(Begun {
-        desk,
-        work,
-        forwarder,
-    })
+/// The same without the inlets, which the desk has: what runs, and what is left of it.
+#[derive(Drop)]
+struct Wires<'a, L, S> {
+    devices: &'a [Device],
+    receivers: Vec<Receiving<L>>,
+    sender: S,
 }
 
-/// Serves at each place, drives, and runs the links, until all places have served; then the links end.
-fn serve_and_link<
+/// Serves at each place, drives, and works beside them, until all places have served, and meanwhile runs the links, of which the first seat is.
+fn serve_linked<
     T: Handlers + Send + Drop,
     D: Door,
     G: Gate,
     L: Inbound + Send + Drop,
     S: Outbound + Send + Drop,
+    B: Beside<T>,
     R: Threads + Wait + Sync,
 >(
     rt: &R,
     alloc: Global,
     desk: &Desk<T, &R>,
     clients: Clients<D, G>,
-    work: Work<T>,
-    forwarder: Seat<T>,
-    devices: &[Device],
-    receivers: Vec<Receiving<L>>,
-    sender: S,
-) -> (Work<T>, Linked<T, L, S>)
-    requires ready { Ready desk.now clients.places (vec_len work.seats) work.seats.items work.ended.items work.drivers.items (vec_capacity work.ended) (vec_capacity work.drivers) }
+    wires: Wires<L, S>,
+    beside: B,
+    crew: Crew<T, (Seat<T>, B::Seats)>,
+) -> (Crew<T, B::Seats>, B::Done, Linked<T, L, S>)
+    requires ready { Ready desk.now clients.places (vec_len crew.work.seats) crew.work.seats.items crew.work.ended.items crew.work.drivers.items (vec_capacity crew.work.ended) (vec_capacity crew.work.drivers) }
     requires turns { 0 < clients.turns }
-    requires forwarder { forwarder.desk ≡ desk.now }
-    requires devices { vec_len receivers ≤ length devices.now }
-    ensures desk { (feeds : List FeedName) → All (IsOf desk.now feeds) work.seats.items → All (IsOf desk.now feeds) result.0.seats.items }
+    requires forwarder { crew.beside.0.desk ≡ desk.now }
+    requires of { All (λ s. s.desk ≡ desk.now) (B.Seats.sittings crew.beside.1) }
+    requires devices { vec_len wires.receivers ≤ length wires.devices.now }
+    ensures desk { (feeds : List FeedName) → All (IsOf desk.now feeds) crew.work.seats.items → All (IsOf desk.now feeds) result.0.work.seats.items }
     ensures worked { Worked (AttendedInTurn D.lets_in D.Reader.input D.Writer.output G.gives G.told clients.entry.door.now clients.entry.gate.now clients.entry.readonly clients.entry.turns)
-        (DroveFor G.gives G.told clients.entry.gate.now None) clients.entry.places (vec_len work.seats) result.0.seats.items result.0.ended.items result.0.drivers.items }
-    ensures room { vec_capacity work.seats ≤ vec_capacity result.0.seats }
-    ensures receives { AllZip (λ old new. (new.device ≡ old.device) × Receives (L.came old.link) (L.came new.link) old.intake new.intake new.received.dropped) receivers.items result.1.links.items }
-    ensures same { SameSeat forwarder result.1.seat }
-    ensures forwards { Forwards (names_of devices.now) forwarder.calls result.1.seat.calls (S.tried sender) (S.tried result.1.sender) }
+        (DroveFor G.gives G.told clients.entry.gate.now None) clients.entry.places (vec_len crew.work.seats) result.0.work.seats.items result.0.work.ended.items result.0.work.drivers.items }
+    ensures room { vec_capacity crew.work.seats ≤ vec_capacity result.0.work.seats }
+    ensures beside { AllZip SameSeat (B.Seats.sittings crew.beside.1) (B.Seats.sittings result.0.beside) }
+    ensures does { B.does beside crew.beside.1 result.0.beside result.1 }
+    ensures receives { AllZip (λ old new. (new.device ≡ old.device) × Receives (L.came old.link) (L.came new.link) old.intake new.intake new.received.dropped) wires.entry.receivers.items result.2.links.items }
+    ensures same { SameSeat crew.beside.0 result.2.seat }
+    ensures forwards { Forwards (names_of wires.entry.devices.now) crew.beside.0.calls result.2.seat.calls (S.tried wires.entry.sender) (S.tried result.2.sender) }
 {
     let stop = AtomicBool::new(false);
     let stop = &stop;
-    let places = Places::new(clients.places);
-    let places = &places;
-    let extent = Extent {
-        room: None,
-        turns: clients.turns,
-        rounds: None,
-    };
     let Clients {
         door,
         gate,
         readonly,
-        places: sessions,
-        ..
+        places,
+        workers,
+        turns,
     } = clients;
-    thread::join(
+    let Wires {
+        devices,
+        receivers,
+        sender,
+    } = wires;
+    let Crew {
+        work,
+        beside: (forwarder, seats),
+    } = crew;
+    let (linked, (crew, done)) = thread::join(
         rt,
-        move || -> Work<T>
-            requires { IsSync R.row × IsSync D.row × IsSync G.row × IsSend T.row × Ready desk.now sessions (vec_len work.seats) work.seats.items work.ended.items work.drivers.items (vec_capacity work.ended) (vec_capacity work.drivers) × (0 < extent.turns) }
-            ensures { ((feeds : List FeedName) → All (IsOf desk.entry.now feeds) work.seats.items → All (IsOf desk.entry.now feeds) result.seats.items)
-                × Worked (AttendedInTurn D.lets_in D.Reader.input D.Writer.output G.gives G.told door.entry.now gate.entry.now readonly extent.turns) (DroveFor G.gives G.told gate.entry.now extent.rounds)
-                sessions (vec_len work.seats) result.seats.items result.ended.items result.drivers.items
-                × (vec_capacity work.seats ≤ vec_capacity result.seats) }
-        {
-            let done = work_all(
-                rt, alloc, desk, readonly, door, gate, sessions, extent, places, work,
-            );
-            stop.store(true, Ordering::SeqCst);
-            done
-        },
         move || -> Linked<T, L, S>
             requires { IsSync R.row × IsSend L.row × IsSend S.row × IsSend T.row × (forwarder.desk ≡ desk.now) × (vec_len receivers ≤ length devices.now) }
             ensures { AllZip (λ old new. (new.device ≡ old.device) × Receives (L.came old.link) (L.came new.link) old.intake new.intake new.received.dropped) receivers.items result.links.items
                 × SameSeat forwarder result.seat
                 × Forwards (names_of devices.entry.now) forwarder.calls result.seat.calls (S.tried sender) (S.tried result.sender) }
         { run_links(rt, alloc, desk, forwarder, devices, receivers, sender, stop) },
-    )
+        move || -> (Crew<T, B::Seats>, B::Done)
+            requires { IsSync R.row × IsSync D.row × IsSync G.row × IsSend T.row × IsSend B.row × Ready desk.now places (vec_len work.seats) work.seats.items work.ended.items work.drivers.items (vec_capacity work.ended) (vec_capacity work.drivers) × (0 < turns) × All (λ s. s.desk ≡ desk.now) (B.Seats.sittings seats) }
+            ensures { ((feeds : List FeedName) → All (IsOf desk.entry.now feeds) work.seats.items → All (IsOf desk.entry.now feeds) result.0.work.seats.items)
+                × Worked (AttendedInTurn D.lets_in D.Reader.input D.Writer.output G.gives G.told door.entry.now gate.entry.now readonly turns) (DroveFor G.gives G.told gate.entry.now None)
+                places (vec_len work.seats) result.0.work.seats.items result.0.work.ended.items result.0.work.drivers.items
+                × (vec_capacity work.seats ≤ vec_capacity result.0.work.seats)
+                × AllZip SameSeat (B.Seats.sittings seats) (B.Seats.sittings result.0.beside) × B.does beside seats result.0.beside result.1 }
+        {
+            let clients = Clients {
+                door,
+                gate,
+                readonly,
+                places,
+                workers,
+                turns,
+            };
+            let crew = Crew {
+                work,
+                beside: seats,
+            };
+            let served = serve_beside(rt, alloc, desk, clients, None, beside, crew);
+            stop.store(true, Ordering::SeqCst);
+            served
+        },
+    );
+    (crew, done, linked)
 }
 
 /// Settles the feed of a device: the packets of it that did not enter, where there is memory to tell them.
@@ -254,38 +224,28 @@ fn settle_all<T, L: Drop>(
     }
 }
 
-/// Closes the desk with all its seats, and settles the links' feeds.
-fn close_and_settle<T: Drop, L: Drop, S, R: Wait>(
-    rt: &R,
+/// Settles the links' feeds in the book of a run.
+fn settle<T: Drop, L: Drop, S>(
     alloc: Global,
-    desk: Desk<T, &R>,
-    work: Work<T>,
-    linked: Linked<T, L, S>,
+    all: AllRan<T>,
+    receivers: Vec<Receiving<L>>,
+    sender: S,
     mut links: Vec<LinkEnd<L>>,
 ) -> LinkedRan<T, L, S>
-    requires of { All (IsOf desk (map (λ r. record { device = r.device; ring = r.intake.feed.ring }) linked.links.items)) (work.seats.items ++ linked.seat ∷ []) }
-    requires numbers { map (λ s. s.number) (work.seats.items ++ linked.seat ∷ []) ≡ numbers_below desk.terms.seats }
-    requires apart { are_apart (map (λ r. record { device = r.device; ring = r.intake.feed.ring }) linked.links.items) ≡ true }
-    requires room { vec_len work.seats < vec_capacity work.seats }
-    requires ends { (links.items ≡ []) × (length linked.links.items ≤ vec_capacity links) }
-    ensures headline { (text : List ℕ) (n : ℕ) → IsOpenedFor None text n desk.entry → HeadlineWith (map (λ r. record { device = r.device; ring = r.intake.feed.ring }) linked.links.items) None text n result.book }
-    ensures seats { result.book.seats ≡ work.seats.items ++ linked.seat ∷ [] }
-    ensures links { SideBySide (λ r e. (e.device ≡ r.device) × (e.link ≡ r.link) × (e.received ≡ r.received) × IsSettled result.book.entries r.device r.intake.feed.put (option_map (λ l. l.items) e.left)) linked.links.items result.links.items }
-    ensures rest { (result.ended.items ≡ work.ended.items) × (result.drivers.items ≡ work.drivers.items) × (result.sender ≡ linked.sender) }
+    requires feeds { map name_of all.book.taps ≡ map (λ r. record { device = r.device; ring = r.intake.feed.ring }) receivers.items }
+    requires apart { are_apart (map (λ r. record { device = r.device; ring = r.intake.feed.ring }) receivers.items) ≡ true }
+    requires ends { (links.items ≡ []) × (length receivers.items ≤ vec_capacity links) }
+    ensures book { result.book ≡ record all.book { taps = result.book.taps } }
+    ensures none { all.book.taps ≡ [] → result.book.taps ≡ [] }
+    ensures links { SideBySide (λ r e. (e.device ≡ r.device) × (e.link ≡ r.link) × (e.received ≡ r.received) × IsSettled all.book.entries r.device r.intake.feed.put (option_map (λ l. l.items) e.left)) receivers.items result.links.items }
+    ensures rest { (result.ended.items ≡ all.ended.items) × (result.drivers.items ≡ all.drivers.items) × (result.sender ≡ sender) }
 {
-    let Work {
-        mut seats,
+    let AllRan {
         ended,
         drivers,
-    } = work;
-    let Linked {
-        links: receivers,
-        seat,
-        sender,
-        fault: _,
-    } = linked;
-    seats.push_reserved(seat);
-    let mut book = close_all(rt, desk, seats);
+        mut book,
+        checked: _,
+    } = all;
     settle_all(alloc, &mut book, receivers, &mut links);
     LinkedRan {
         ended,
@@ -294,6 +254,118 @@ fn close_and_settle<T: Drop, L: Drop, S, R: Wait>(
         sender,
         book,
     }
+}
+
+/// Closes the desk with all its seats, and settles the links' feeds.
+fn close_and_settle<T: Send + Drop, L: Drop, S, H: Seating<T>, R: Wait>(
+    rt: &R,
+    alloc: Global,
+    desk: Desk<T, &R>,
+    crew: Crew<T, H>,
+    linked: Linked<T, L, S>,
+    links: Vec<LinkEnd<L>>,
+) -> LinkedRan<T, L, S>
+    requires of { All (IsOf desk (map (λ r. record { device = r.device; ring = r.intake.feed.ring }) linked.links.items)) (crew.work.seats.items ++ linked.seat ∷ H.sittings crew.beside) }
+    requires numbers { map (λ s. s.number) (crew.work.seats.items ++ linked.seat ∷ H.sittings crew.beside) ≡ numbers_below desk.terms.seats }
+    requires apart { are_apart (map (λ r. record { device = r.device; ring = r.intake.feed.ring }) linked.links.items) ≡ true }
+    requires some { 0 < vec_len crew.work.seats }
+    requires room { vec_len crew.work.seats + length (H.sittings crew.beside) < vec_capacity crew.work.seats }
+    requires ends { (links.items ≡ []) × (length linked.links.items ≤ vec_capacity links) }
+    ensures headline { (text : List ℕ) (n : ℕ) → IsOpenedFor None text n desk.entry → HeadlineWith (map (λ r. record { device = r.device; ring = r.intake.feed.ring }) linked.links.items) None text n result.book }
+    ensures seats { result.book.seats ≡ crew.work.seats.items ++ linked.seat ∷ H.sittings crew.beside }
+    ensures links { SideBySide (λ r e. (e.device ≡ r.device) × (e.link ≡ r.link) × (e.received ≡ r.received) × IsSettled result.book.entries r.device r.intake.feed.put (option_map (λ l. l.items) e.left)) linked.links.items result.links.items }
+    ensures rest { (result.ended.items ≡ crew.work.ended.items) × (result.drivers.items ≡ crew.work.drivers.items) × (result.sender ≡ linked.sender) }
+{
+    let Crew { work, beside } = crew;
+    let Linked {
+        links: receivers,
+        seat,
+        sender,
+        fault: _,
+    } = linked;
+    let crew = Crew {
+        work,
+        beside: (seat, beside),
+    };
+    let all = finish(rt, desk, crew, None);
+    settle(alloc, all, receivers, sender, links)
+}
+
+/// Runs a router that stays, as `run_beside` does, with links beside its sessions and drivers, and work beside all of them: what `run_linked` promises, of more seats. The forwarder has the seat behind those of
+/// places and drivers, and the other work has those behind it. The links end once all places have served and that work has ended.
+///
+/// What was sent by the link of a device are just the packets of the replies to its Transmits in the one history, where the work beside makes no Transmit.
+///
+/// Where no thread can be made, the links begin once they are told to end.
+pub fn run_linked_beside<
+    T: Handlers + Send + Drop,
+    D: Door,
+    G: Gate,
+    L: Inbound + Send + Drop,
+    S: Outbound + Send + Drop,
+    B: Beside<T>,
+    R: Threads + Wait + Sync,
+>(
+    rt: &R,
+    alloc: Global,
+    table: T,
+    text: &[u8],
+    clients: Clients<D, G>,
+    linking: Wiring<L, S>,
+    beside: B,
+) -> Result<(LinkedRan<T, L, S>, B::Done), OpenFault>
+    requires many { (0 < clients.places + clients.workers) × (clients.places + clients.workers + (1 + B.Seats.many) ≤ 256) }
+    requires turns { 0 < clients.turns }
+    requires devices { names_of linking.devices.now ≡ map (λ r. r.device) linking.links.receivers.items }
+    ensures headline { IfOk result (λ ran. LinkedHeadline (names_of linking.entry.devices.now) text.now (clients.entry.places + clients.entry.workers + (1 + B.Seats.many)) ran.0.book) }
+    ensures work { IfOk result (λ ran. BesideWork (λ s. s.0 ∷ B.Seats.sittings s.1) (1 + B.Seats.many)
+        (ForwardsBeside (names_of linking.entry.devices.now) (S.tried linking.entry.sender) (S.tried ran.0.sender) (B.does beside))
+        (AttendedInTurn D.lets_in D.Reader.input D.Writer.output G.gives G.told clients.entry.door.now clients.entry.gate.now clients.entry.readonly clients.entry.turns)
+        (DroveFor G.gives G.told clients.entry.gate.now None) clients.entry.places clients.entry.workers ran.0.book.seats ran.0.ended.items ran.0.drivers.items ran.1) }
+    ensures sent { IfOk result (λ ran. AreQuietFrom (clients.entry.places + clients.entry.workers + 1) ran.0.book.seats → (device : List ℕ)
+        → sent_by device (S.tried ran.0.sender) ≡ sent_by device (S.tried linking.entry.sender) ++ gifts_by device (calls_in ran.0.book.entries)) }
+    ensures links { IfOk result (λ ran. SideBySide (λ r e. (e.device ≡ r.device) × LinkRan ran.0.book.entries r.device (L.came r.link) (L.came e.link) e.received.dropped (option_map (λ l. l.items) e.left))
+        linking.entry.links.receivers.items ran.0.links.items) }
+    ensures config { IfErr result (IsTrueOpening (clients.entry.places + clients.entry.workers + (1 + B.Seats.many)) (names_of linking.entry.devices.now) text.now) }
+{
+    let Wiring {
+        devices,
+        links,
+        sender,
+    } = linking;
+    let Links { receivers, inlets } = links;
+    let Ok(ends) = Vec::with_capacity(alloc, receivers.len()) else {
+        return Err(OpenFault::NoMemory);
+    };
+    let opening = Opening {
+        text,
+        room: None,
+        check: None,
+    };
+    let Begun {
+        desk,
+        crew,
+        asked: _,
+    } = match begin(
+        rt,
+        alloc,
+        table,
+        opening,
+        clients.places,
+        clients.workers,
+        inlets,
+    ) {
+        Ok(begun) => begun,
+        Err(fault) => return Err(fault),
+    };
+    let wires = Wires {
+        devices,
+        receivers,
+        sender,
+    };
+    let (crew, done, linked) = serve_linked(rt, alloc, &desk, clients, wires, beside, crew);
+    let ran = close_and_settle(rt, alloc, desk, crew, linked, ends);
+    Ok((ran, done))
 }
 
 /// Runs a router that stays, as `run_live` does, with links beside its sessions and drivers: datagrams that come over a link are packets of its device, and packets that the device gives go out over it. One
@@ -329,25 +401,13 @@ pub fn run_linked<
         links.receivers.items ran.links.items) }
     ensures config { IfErr result (IsTrueOpening (clients.entry.places + clients.entry.workers + 1) (names_of devices.now) text.now) }
 {
-    let Links { receivers, inlets } = links;
-    let Ok(ends) = Vec::with_capacity(alloc, receivers.len()) else {
-        return Err(OpenFault::NoMemory);
+    let linking = Wiring {
+        devices,
+        links,
+        sender,
     };
-    let Begun {
-        desk,
-        work,
-        forwarder,
-    } = begin(
-        rt,
-        alloc,
-        table,
-        text,
-        clients.places,
-        clients.workers,
-        inlets,
-    )?;
-    let (work, linked) = serve_and_link(
-        rt, alloc, &desk, clients, work, forwarder, devices, receivers, sender,
-    );
-    Ok(close_and_settle(rt, alloc, desk, work, linked, ends))
+    match run_linked_beside(rt, alloc, table, text, clients, linking, Alone) {
+        Ok((ran, ())) => Ok(ran),
+        Err(fault) => Err(fault),
+    }
 }
