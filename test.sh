@@ -39,11 +39,15 @@ tools/sessions.sh
 tools/hostile.sh
 tools/udp_links.py
 examples/gateway/run.sh
+tools/page_text.py --check
+tools/page.py
 tools/links.py
 tools/definitions.py
 tools/swap_faults.sh
 tools/swap_sizes.sh
 tools/refuse.sh
 took 'what tries the programs and the pages'
+# Those of its wrong routers that need no browser; all of them take twelve minutes.
+tools/page.py --wrongs no-host-check no-mark-check cors no-policy long-bodies other-page
 tools/wrong_programs.sh --half $((16#${sources:0:8}))
 took 'what shows that these checks can fail'

@@ -4,5 +4,6 @@ pub mod Cuts
 pub mod Digits
 pub mod Linked
 pub mod Opening
-pub mod Pictured
+pub mod Paged
 pub mod Spelling
+pub mod Quiet

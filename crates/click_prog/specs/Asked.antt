@@ -42,6 +42,7 @@ pub record Finds (found : Found) (options : Options) : Type 0 where
   pub text : option_map (λ s. s.now) options.text ≡ first_value found (codes "text")
   pub readonly : IsFlag (one_text found (codes "readonly")) options.readonly
   pub port : IsGiven 1 65535 (first_value found (codes "port")) options.port
+  pub page : IsGiven 1 65535 (first_value found (codes "front")) options.page
   pub sessions : IsGivenOr 1 64 1 (first_value found (codes "sessions")) options.sessions
   pub workers : IsGivenOr 0 16 0 (first_value found (codes "workers")) options.workers
   pub rounds : IsGivenOr 0 1000000 1000 (first_value found (codes "number")) options.rounds
@@ -56,6 +57,7 @@ pub record Finds (found : Found) (options : Options) : Type 0 where
 abbrev pub HasNoNumber : Found → Type 0
 HasNoNumber found = (first_value found (codes "port") ≡ None) × (first_value found (codes "sessions") ≡ None) × (first_value found (codes "workers") ≡ None)
     × (first_value found (codes "number") ≡ None) × (first_value found (codes "every") ≡ None)
+    × (first_value found (codes "front") ≡ None)
 
 -- nor any other option
 abbrev pub HasNoWord : Options → Type 0
@@ -83,7 +85,7 @@ abbrev pub IsRefusedFor : Found → Refusal → Type 0
 IsRefusedFor found (why.Clap error) = Unit {0}
 IsRefusedFor found (why.NoNumber n) =
     IsMistyped found (codes "port") 1 65535 n ⊎ (IsMistyped found (codes "sessions") 1 64 n ⊎ (IsMistyped found (codes "workers") 0 16 n
-    ⊎ (IsMistyped found (codes "number") 0 1000000 n ⊎ IsMistyped found (codes "every") 0 86400 n)))
+    ⊎ (IsMistyped found (codes "number") 0 1000000 n ⊎ (IsMistyped found (codes "every") 0 86400 n ⊎ IsMistyped found (codes "front") 1 65535 n))))
 IsRefusedFor found (why.NotDrawn option) = (options : Options) × Finds found options × (DrawsAlone found options → ⊥)
 IsRefusedFor found (why.NotLive option) = (options : Options) × Finds found options × (GoesOn found options → ⊥)
 IsRefusedFor found (why.OnlyLive option) = (options : Options) × Finds found options × (Ends found options → ⊥)

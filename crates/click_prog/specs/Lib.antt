@@ -6,3 +6,4 @@ pub mod Links
 pub mod Numbers
 pub mod Linking
 pub mod Drawn
+pub mod Paging

@@ -1,41 +1,47 @@
 -- A run with links, and its status.
-use Rattle.std.specs.Prelude.{◌≡◌, ◌⊎◌, ℕ, ◌+◌, ◌++◌, List, Bool, Option, None, map, option_map}
+use Rattle.std.specs.Prelude.{◌≡◌, ◌⊎◌, ℕ, ◌+◌, ◌++◌, List, [], ◌∷◌, Bool, Option, Some, None, map, option_map}
 use Rattle.click_control.specs.Peers.{Input, Output}
 use Rattle.click_desk.specs.Booklet.{Booklet}
 use Rattle.click_desk.specs.declared.open.OpenFault.{OpenFault}
 use Rattle.click_links.specs.Ends.{Attempt, Hearing}
 use Rattle.click_links.specs.Forwarding.{sent_by, gifts_by}
 use Rattle.click_links.specs.declared.run.Receiving.{Receiving}
-use Rattle.click_workers.specs.Linked.{calls_in, LinkedHeadline, LinkedWork, LinkRan, IsTrueOpening}
+use Rattle.click_desk.specs.Sittings.{Sitting}
+use Rattle.click_http.specs.declared.serving.Ended.{Ended}
+use Rattle.click_workers.specs.Beside.{BesideWork}
+use Rattle.click_workers.specs.Linked.{calls_in, ForwardsBeside, LinkedHeadline, LinkRan, IsTrueOpening}
 use Rattle.click_workers.specs.Work.{AttendedInTurn, DroveFor, SideBySide}
 use Rattle.click_workers.specs.declared.linked.LinkEnd.{LinkEnd}
 use Rattle.click_workers.specs.declared.session.SessionEnd.{SessionEnd}
+use Rattle.click_prog.specs.Paging.{IsPaged}
 use Rattle.click_prog.specs.Running.{Planned}
 use Rattle.click_prog.specs.Statuses.{opening_status, sessions_status}
 use Rattle.click_prog.specs.declared.status.Status.{Status}
 use Rattle.click_prog.specs.declared.status.Status.TheVariants as status
 
--- Places for sessions, drivers and a forwarder of these receivers' devices were at one desk of this text that keeps nothing, each with a seat of its own, at a gate that they share; each place served so many sessions,
+-- Places for sessions, drivers, a forwarder of these receivers' devices and other work were at one desk of this text that keeps nothing, each with a seat of its own, at a gate that they share; each place served so many sessions,
 -- one after another; there is one history of one thread with just their calls and replies. By the link of each device just the packets of the replies to its Transmits in that history were sent, in order, after those
 -- that were; and what each receiver heard is what was dropped for its cause, what the history polled of its device, and what is left.
-pub record HasLinked {D Rd Wr G : Type 0} (lets_in : D → ℕ → Option (Rd × Wr) → Type 0) (input : Rd → Input) (output : Wr → Output) (gives : G → ℕ → ℕ → Bool → Type 0)
+pub record HasLinked {D Rd Wr G Seats Done : Type 0} (sittings : Seats → List Sitting) (many : ℕ) (does : Seats → Seats → Done → Type 0) (lets_in : D → ℕ → Option (Rd × Wr) → Type 0) (input : Rd → Input) (output : Wr → Output) (gives : G → ℕ → ℕ → Bool → Type 0)
     (told : G → ℕ → ℕ → Type 0) (door : D) (readonly : Bool) (text : List ℕ) (places workers turns : ℕ) (receivers : List (Receiving Hearing)) (before : List Attempt) (book : Booklet) (ended : List SessionEnd)
-    (drivers : List Bool) (after : List Attempt) (ends : List (LinkEnd Hearing)) : Type 0 where
+    (drivers : List Bool) (after : List Attempt) (ends : List (LinkEnd Hearing)) (done : Done) : Type 0 where
   pub gate : G
-  pub headline : LinkedHeadline (map (λ (r : Receiving Hearing). r.device) receivers) text (places + workers + 1) book
-  pub worked : LinkedWork (AttendedInTurn lets_in input output gives told door gate readonly turns) (DroveFor gives told gate None) places workers (map (λ (r : Receiving Hearing). r.device) receivers) before after book.seats ended drivers
+  pub headline : LinkedHeadline (map (λ (r : Receiving Hearing). r.device) receivers) text (places + workers + (1 + many)) book
+  pub work : BesideWork (λ (s : Sitting × Seats). s.0 ∷ sittings s.1) (1 + many) (ForwardsBeside (map (λ (r : Receiving Hearing). r.device) receivers) before after does)
+      (AttendedInTurn lets_in input output gives told door gate readonly turns) (DroveFor gives told gate None) places workers book.seats ended drivers done
   pub sent : (device : List ℕ) → sent_by device after ≡ sent_by device before ++ gifts_by device (calls_in book.entries)
   pub links : SideBySide (λ (r : Receiving Hearing) (e : LinkEnd Hearing). (e.device ≡ r.device) × LinkRan book.entries r.device r.link.came e.link.came e.received.dropped (option_map (λ l. l.items) e.left)) receivers ends
 
 -- the same, and the status is that of the places' last sessions
-pub record HaveLinked {D Rd Wr G : Type 0} (lets_in : D → ℕ → Option (Rd × Wr) → Type 0) (input : Rd → Input) (output : Wr → Output) (gives : G → ℕ → ℕ → Bool → Type 0)
+pub record HaveLinked {D Rd Wr G Seats Done : Type 0} (sittings : Seats → List Sitting) (many : ℕ) (does : Seats → Seats → Done → Type 0) (lets_in : D → ℕ → Option (Rd × Wr) → Type 0) (input : Rd → Input) (output : Wr → Output) (gives : G → ℕ → ℕ → Bool → Type 0)
     (told : G → ℕ → ℕ → Type 0) (door : D) (readonly : Bool) (text : List ℕ) (places workers turns : ℕ) (receivers : List (Receiving Hearing)) (before : List Attempt) (s : Status) : Type 0 where
   pub book : Booklet
   pub ended : List SessionEnd
   pub drivers : List Bool
   pub after : List Attempt
   pub ends : List (LinkEnd Hearing)
-  pub ran : HasLinked lets_in input output gives told door readonly text places workers turns receivers before book ended drivers after ends
+  pub done : Done
+  pub ran : HasLinked sittings many does lets_in input output gives told door readonly text places workers turns receivers before book ended drivers after ends done
   pub is : s ≡ sessions_status ended
 
 -- There was no desk of so many seats with links of these devices, and the status is that of the fault.
@@ -44,15 +50,29 @@ pub record HaveNotLinked (seats : ℕ) (devices : List (List ℕ)) (text : List 
   pub true_fault : IsTrueOpening seats devices text fault
   pub is : s ≡ opening_status fault
 
--- A run with links, none, or no memory to begin.
+-- A run with links and other work, none, or no memory to begin.
+abbrev pub LinkedBesideTo : {D Rd Wr G Seats Done : Type 0} → (Seats → List Sitting) → ℕ → (Seats → Seats → Done → Type 0) → (D → ℕ → Option (Rd × Wr) → Type 0) → (Rd → Input) → (Wr → Output)
+    → (G → ℕ → ℕ → Bool → Type 0) → (G → ℕ → ℕ → Type 0) → D → Bool → List ℕ → ℕ → ℕ → ℕ → List (Receiving Hearing) → List Attempt → Status → Type 0
+LinkedBesideTo sittings many does lets_in input output gives told door readonly text places workers turns receivers before s =
+    HaveLinked sittings many does lets_in input output gives told door readonly text places workers turns receivers before s
+    ⊎ HaveNotLinked (places + workers + (1 + many)) (map (λ (r : Receiving Hearing). r.device) receivers) text s ⊎ (s ≡ status.NoMemory)
+
+-- with no other work
 abbrev pub LinkedRunTo : {D Rd Wr G : Type 0} → (D → ℕ → Option (Rd × Wr) → Type 0) → (Rd → Input) → (Wr → Output) → (G → ℕ → ℕ → Bool → Type 0) → (G → ℕ → ℕ → Type 0)
     → D → Bool → List ℕ → ℕ → ℕ → ℕ → List (Receiving Hearing) → List Attempt → Status → Type 0
 LinkedRunTo lets_in input output gives told door readonly text places workers turns receivers before s =
-    HaveLinked lets_in input output gives told door readonly text places workers turns receivers before s
-    ⊎ HaveNotLinked (places + workers + 1) (map (λ (r : Receiving Hearing). r.device) receivers) text s ⊎ (s ≡ status.NoMemory)
+    LinkedBesideTo (λ (_ : Unit {0}). []) 0 (λ _ _ (_ : Unit {0}). Unit {0}) lets_in input output gives told door readonly text places workers turns receivers before s
 
--- the same as a plan has it, at some door of this kind
+-- with a page at this port, whose seat is the last
+abbrev pub LinkedPageTo : {D Rd Wr G : Type 0} → (D → ℕ → Option (Rd × Wr) → Type 0) → (Rd → Input) → (Wr → Output) → (G → ℕ → ℕ → Bool → Type 0) → (G → ℕ → ℕ → Type 0)
+    → ℕ → D → Bool → List ℕ → ℕ → ℕ → ℕ → List (Receiving Hearing) → List Attempt → Status → Type 0
+LinkedPageTo lets_in input output gives told at door readonly text places workers turns receivers before s =
+    LinkedBesideTo (λ seat. seat ∷ []) 1 (λ old new (_ : Ended). IsPaged readonly at old new) lets_in input output gives told door readonly text places workers turns receivers before s
+
+-- a run with links and with or without a page, as a plan has it, at some door of this kind
 abbrev pub PlanLinksTo : {D Rd Wr G : Type 0} → (D → ℕ → Option (Rd × Wr) → Type 0) → (Rd → Input) → (Wr → Output) → (G → ℕ → ℕ → Bool → Type 0) → (G → ℕ → ℕ → Type 0)
-    → Planned → List ℕ → ℕ → List (Receiving Hearing) → List Attempt → Status → Type 0
-PlanLinksTo {D} {Rd} {Wr} {G} lets_in input output gives told plan text turns receivers before s =
+    → Option ℕ → Planned → List ℕ → ℕ → List (Receiving Hearing) → List Attempt → Status → Type 0
+PlanLinksTo {D} {Rd} {Wr} {G} lets_in input output gives told None plan text turns receivers before s =
     (door : D) × LinkedRunTo lets_in input output gives told door plan.readonly text plan.sessions plan.workers turns receivers before s
+PlanLinksTo {D} {Rd} {Wr} {G} lets_in input output gives told (Some at) plan text turns receivers before s =
+    (door : D) × LinkedPageTo lets_in input output gives told at door plan.readonly text plan.sessions plan.workers turns receivers before s

@@ -22,6 +22,8 @@ pub struct Options<'a> {
     pub readonly: bool,
     /// Where it listens on 127.0.0.1; none: one session on standard input and output.
     pub port: Option<u16>,
+    /// Where on 127.0.0.1 a page shows the router to browsers; none: nowhere.
+    pub page: Option<u16>,
     /// How many sessions it accepts.
     pub sessions: usize,
     /// How many workers drive the router.
@@ -111,7 +113,7 @@ pub struct NoNumber<'a> {
 pub fn options_of<'a>(alloc: Global, words: &'a [String]) -> Result<Options<'a>, Refusal<'a>>
     // Where they are not refused there is a text.
     ensures text { IfOk result (λ options. is_some options.text ≡ true) }
-    ensures port { IfOk result (λ options. IfSome options.port (λ port. 1 ≤ port)) }
+    ensures port { IfOk result (λ options. IfSome options.port (λ port. 1 ≤ port) × IfSome options.page (λ port. 1 ≤ port)) }
     ensures ranges { IfOk result IsInRanges }
     ensures asked { IfOk result (λ options. (command : Command) × (matches : ArgMatches) × IsParsedFrom command matches × AsksFor (found_of matches) options) }
     ensures refused { IfErr result IsRefused }
@@ -143,6 +145,9 @@ fn parsed<'a>(alloc: Global, words: &'a [String]) -> Result<ArgMatches<'a>, Erro
     let tell = number(alloc, "every", "SECONDS").long("tell").help(
         "With --live tells its counts on standard error each so many seconds (0 to 86400; 0, never, if not given)",
     );
+    let page = number(alloc, "front", "PORT").long("page").help(
+        "Shows the router to browsers on this port of 127.0.0.1 (1 to 65535)",
+    );
     let command = Command::new(alloc, "click_prog")
         .version("1")
         .about("A Click router with control sessions on standard input and output")
@@ -160,6 +165,7 @@ fn parsed<'a>(alloc: Global, words: &'a [String]) -> Result<ArgMatches<'a>, Erro
         .arg(live_argument(alloc))?
         .arg(link_argument(alloc))?
         .arg(tell)?
+        .arg(page)?
         .arg(draw_argument(alloc))?;
     let matches = command.try_get_matches_from(words)?;
     Ok(matches)
@@ -191,7 +197,8 @@ fn options_found<'a>(alloc: Global, matches: &ArgMatches<'a>) -> Result<Options<
     Ok(Options {
         text: matches.get_str("text"),
         readonly: matches.get_flag("readonly"),
-        port: port_of(matches)?,
+        port: port_of(matches, "port", "-p <PORT>")?,
+        page: port_of(matches, "front", "--page <PORT>")?,
         sessions: number_of(matches, "sessions", "-n <SESSIONS>", 1, 64, 1)? as usize,
         workers: number_of(matches, "workers", "-w <WORKERS>", 0, 16, 0)? as usize,
         rounds: number_of(matches, "number", "--rounds <N>", 0, 1_000_000, 1_000)?,
@@ -246,6 +253,9 @@ fn number_of_a_run(matches: &ArgMatches) -> Option<&'static str>
     }
     if matches.get_str("every").is_some() {
         return Some("--tell");
+    }
+    if matches.get_str("front").is_some() {
+        return Some("--page");
     }
     None
 }
@@ -401,12 +411,16 @@ fn number<'a>(alloc: Global, id: &'a str, name: &'a str) -> Arg<'a>
         .action(ArgAction::Set)
 }
 
-/// The port to listen on, if one was given.
-fn port_of<'a>(matches: &ArgMatches<'a>) -> Result<Option<u16>, NoNumber<'a>>
-    ensures given { IfOk result (IsGiven 1 65535 (first_value (found_of matches.now) (codes "port"))) }
-    ensures mistyped { IfErr result (IsMistyped (found_of matches.now) (codes "port") 1 65535) }
+/// The port that was given to the option, if one was.
+fn port_of<'a>(
+    matches: &ArgMatches<'a>,
+    id: &str,
+    option: &'static str,
+) -> Result<Option<u16>, NoNumber<'a>>
+    ensures given { IfOk result (IsGiven 1 65535 (first_value (found_of matches.now) id.now)) }
+    ensures mistyped { IfErr result (IsMistyped (found_of matches.now) id.now 1 65535) }
 {
-    match given(matches, "port", "-p <PORT>", 1, 65_535)? {
+    match given(matches, id, option, 1, 65_535)? {
         Some(port) => Ok(Some(port as u16)),
         None => Ok(None),
     }

@@ -1,19 +1,14 @@
 //! The picture of a configuration.
 
-ghost use Rattle.std.specs.Prelude.{◌≡◌, ◌≤◌, ◌++◌, ◌∷◌, [], List, length, IfOk, IfErr, Ok, OnOk};
-ghost use Rattle.click_classes.specs.declared.state.State.{State};
-ghost use Rattle.click_router.specs.Opened.{AreFresh, IsBegun, IsFirstFault, IsMemoryOr};
-ghost use Rattle.click_prog.specs.Drawn.{DrawsTo, IsFormNet, IsLawfulForm, IsNetOf, IsPicture, IsPictureOf};
+ghost use Rattle.std.specs.Prelude.{◌≡◌};
+ghost use Rattle.click_prog.specs.Drawn.{DrawsTo};
 ghost use Rattle.click_prog.specs.Statuses.{config_status};
 
 use crate::serving::tell;
 use crate::status::{Status, of_config};
-use click_classes::{ArgFault, State, class_of, make};
-use click_draw::{layout, svg};
-use click_expand::{Flat, FlatElement};
-use click_ports::{FaultKind as PortKind, Net, resolve};
-use click_router::{ConfigFault, FaultKind, prepare};
-use std::alloc::{AllocError, Global};
+use click_page::picture_of;
+use click_router::{ConfigFault, FaultKind};
+use std::alloc::Global;
 use std::io::Write;
 
 /// Writes the picture of the text's configuration to `to`, as SVG. Why there is none is written to `errors`.
@@ -37,82 +32,4 @@ fn refuse<E: Write>(alloc: Global, errors: &mut E, fault: &ConfigFault) -> Statu
         tell(alloc, errors, fault);
     }
     of_config(fault)
-}
-
-/// The picture of the text's configuration as SVG, or the first fault that the configuration has.
-fn picture_of(alloc: Global, text: &[u8]) -> Result<Vec<u8>, ConfigFault>
-    ensures picture { IfOk result (λ picture. IsPicture text.now picture.items) }
-    ensures fault { IfErr result (λ fault. IsMemoryOr fault (IsFirstFault text.now fault)) }
-{
-    let net = net_of(alloc, text)?;
-    Ok(picture_in(alloc, &net)?)
-}
-
-/// The picture of a net of as many elements as a flat form may have.
-fn picture_in(alloc: Global, net: &Net) -> Result<Vec<u8>, AllocError>
-    requires { length net.now.shapes ≤ 4096 }
-    ensures { IfOk result (λ picture. IsPictureOf net.now picture.items) }
-{
-    let drawing = layout(alloc, net)?;
-    svg(alloc, &drawing)
-}
-
-/// The net of the text's configuration, or the first fault that the configuration has.
-fn net_of(alloc: Global, text: &[u8]) -> Result<Net, ConfigFault>
-    ensures net { IfOk result (IsNetOf text.now) }
-    ensures few { IfOk result (λ net. length net.shapes ≤ 4096) }
-    ensures fault { IfErr result (λ fault. IsMemoryOr fault (IsFirstFault text.now fault)) }
-{
-    let prepared = prepare(alloc, text)?;
-    Ok(resolved(alloc, prepared.flat())?)
-}
-
-/// The net of a flat form that opens.
-fn resolved(alloc: Global, flat: &Flat) -> Result<Net, AllocError>
-    requires { IsLawfulForm flat.now }
-    ensures { IfOk result (IsFormNet flat.now) }
-{
-    let states = states_of(alloc, flat.elements.as_slice())?;
-    match resolve(alloc, flat, states.as_slice()) {
-        Ok(net) => Ok(net),
-        Err(fault) if fault.kind == PortKind::NoMemory => Err(AllocError),
-        // The rules of ports hold: that was found when the text was prepared.
-        Err(_) => unreachable!(),
-    }
-}
-
-/// The first states of elements that have them.
-fn states_of(alloc: Global, elements: &[FlatElement]) -> Result<Vec<State>, AllocError>
-    requires { (states : List State) × AreFresh elements.now states }
-    ensures { IfOk result (λ states. AreFresh elements.now states.items) }
-{
-    let mut states = Vec::new(alloc);
-    for element in elements {
-        push(&mut states, state_of(alloc, element)?)?;
-    }
-    Ok(states)
-}
-
-/// The first state of an element that has one.
-fn state_of(alloc: Global, element: &FlatElement) -> Result<State, AllocError>
-    requires { (state : State) × IsBegun element.now (Ok state) }
-    ensures { IfOk result (λ state. IsBegun element.now (Ok state)) }
-{
-    let Some(class) = class_of(element.class.as_slice()) else {
-        unreachable!()
-    };
-    match make(alloc, class, element.text.as_slice()) {
-        Ok(state) => Ok(state),
-        Err(fault) if fault == ArgFault::NoMemory => Err(AllocError),
-        // Its arguments are good: that was found then, too.
-        Err(_) => unreachable!(),
-    }
-}
-
-/// Adds a state at the end.
-fn push(states: &mut Vec<State>, state: State) -> Result<(), AllocError>
-    ensures { OnOk result (states.new.items ≡ states.old.items ++ state ∷ []) }
-{
-    states.push(state)?;
-    Ok(())
 }

@@ -1,35 +1,61 @@
 //! The run of a router that stays, with links.
 
-ghost use Rattle.std.specs.Prelude.{◌≡◌, ◌<◌, ◌+◌, map, IfOk, IfErr};
+ghost use Rattle.std.specs.Prelude.{◌≡◌, ◌<◌, ◌≤◌, ◌+◌, [], map, option_map, IfOk, IfErr};
+ghost use Rattle.std.specs.List.{All};
 ghost use Rattle.std.specs.Thread.{IsSend, IsSync};
 ghost use Rattle.std.specs.declared.net.TcpListener.{TcpListener};
 ghost use Rattle.click_links.specs.Turns.{names_of};
-ghost use Rattle.click_prog.specs.Linking.{HasLinked, LinkedRunTo, PlanLinksTo};
+ghost use Rattle.click_prog.specs.Linking.{HasLinked, LinkedBesideTo, LinkedPageTo, LinkedRunTo, PlanLinksTo};
 ghost use Rattle.click_prog.specs.Statuses.{opening_status};
-ghost use Rattle.click_workers.specs.Linked.{IsTrueOpening};
+ghost use Rattle.click_workers.specs.Linked.{AreQuiet, IsTrueOpening};
 
 use crate::counts::{Ending, tell_counts, tell_on};
 use crate::doors::{Shut, Standard};
+use crate::paging::Paging;
 use crate::serving::{Comes, Plan, tell};
 use crate::sockets::{SocketFault, Sockets};
 use crate::status::{Status, of_opening, of_sessions};
 use click_control::{Reading, Sink, Source, Writing};
 use click_desk::OpenFault;
+use click_http::Front;
 use click_links::{UdpIn, UdpOut};
 use click_router::{FaultKind, Handlers, prepare};
-use click_workers::{Clients, Door, Gate, LinkedRan, Listening, OpenGate, run_linked};
+use click_workers::{
+    Alone, Beside, Clients, Door, Gate, LinkedRan, Listening, OpenGate, Wiring, run_linked_beside,
+};
 use std::alloc::Global;
 use std::io::{Stdin, Stdout, Write};
 use std::net::TcpStream;
 use std::sync::Wait;
 use std::thread;
 use std::thread::Threads;
+use std::time::Clock;
 
 /// Links with their sockets, and after how many seconds each their counts are told; 0: only at the end.
 #[derive(Drop)]
 pub struct Wired {
     pub sockets: Sockets,
     pub tell: u64,
+}
+
+/// Sessions that come in at this door, so many at each place, one after another, and drivers beside them, as a plan has them.
+fn clients_of<D>(door: &D, plan: Plan, turns: u64) -> Clients<'_, D, OpenGate>
+    ensures { (result.door.now ≡ door.now) × (result.readonly ≡ plan.readonly) × (result.places ≡ plan.sessions) × (result.workers ≡ plan.workers) × (result.turns ≡ turns) }
+{
+    let Plan {
+        sessions: places,
+        workers,
+        readonly,
+        ..
+    } = plan;
+    Clients {
+        door,
+        gate: &OpenGate,
+        readonly,
+        places,
+        workers,
+        turns,
+    }
 }
 
 /// Serves sessions that come in at this door, so many at each place, one after another, with drivers and links beside them, over a router of the text that keeps no book. Why a text is refused is written to
@@ -54,29 +80,45 @@ pub fn serve_linked<
     ensures { LinkedRunTo D.lets_in D.Reader.input D.Writer.output ⟦<OpenGate as Gate>⟧.gives ⟦<OpenGate as Gate>⟧.told door.now plan.readonly text.now plan.sessions
         plan.workers turns wired.sockets.links.receivers.items wired.sockets.sender.tried result }
 {
-    let Plan {
-        sessions: places,
-        workers,
-        readonly,
-        ..
-    } = plan;
-    let clients = Clients {
-        door,
-        gate: &OpenGate,
-        readonly,
-        places,
-        workers,
-        turns,
-    };
-    serve_clients(rt, alloc, table, errors, text, clients, wired)
+    let clients = clients_of(door, plan, turns);
+    serve_clients(rt, alloc, table, errors, text, clients, wired, Alone)
 }
 
-/// The same of these sessions and drivers.
+/// The same with a page beside them.
+pub fn serve_linked_page<
+    T: Handlers + Send + Drop,
+    D: Door,
+    E: Write + Send + Drop,
+    C: Clock + Sync,
+    R: Threads + Wait + Sync,
+>(
+    rt: &R,
+    alloc: Global,
+    table: T,
+    door: &D,
+    errors: E,
+    text: &[u8],
+    plan: Plan,
+    turns: u64,
+    wired: Wired,
+    paging: Paging<C>,
+) -> Status
+    requires turns { 0 < turns }
+    requires readonly { paging.readonly ≡ plan.readonly }
+    ensures { LinkedPageTo D.lets_in D.Reader.input D.Writer.output ⟦<OpenGate as Gate>⟧.gives ⟦<OpenGate as Gate>⟧.told paging.entry.front.port door.now plan.readonly text.now plan.sessions
+        plan.workers turns wired.sockets.links.receivers.items wired.sockets.sender.tried result }
+{
+    let clients = clients_of(door, plan, turns);
+    serve_clients(rt, alloc, table, errors, text, clients, wired, paging)
+}
+
+/// Serves these sessions and drivers with links beside them, and with other work, which makes no Transmit.
 fn serve_clients<
     T: Handlers + Send + Drop,
     D: Door,
     G: Gate,
     E: Write + Send + Drop,
+    B: Beside<T>,
     R: Threads + Wait + Sync,
 >(
     rt: &R,
@@ -86,10 +128,12 @@ fn serve_clients<
     text: &[u8],
     clients: Clients<D, G>,
     wired: Wired,
+    beside: B,
 ) -> Status
-    requires many { (0 < clients.places + clients.workers) × (clients.places + clients.workers < 256) }
+    requires many { (0 < clients.places + clients.workers) × (clients.places + clients.workers + (1 + B.Seats.many) ≤ 256) }
     requires turns { 0 < clients.turns }
-    ensures { LinkedRunTo D.lets_in D.Reader.input D.Writer.output G.gives G.told clients.entry.door.now clients.entry.readonly text.now clients.entry.places
+    requires quiet { (old new : B.Seats) (done : B.Done) → All (λ s. s.calls ≡ []) (B.Seats.sittings old) → B.does beside old new done → All (λ s. AreQuiet s.calls) (B.Seats.sittings new) }
+    ensures { LinkedBesideTo B.Seats.sittings B.Seats.many (B.does beside) D.lets_in D.Reader.input D.Writer.output G.gives G.told clients.entry.door.now clients.entry.readonly text.now clients.entry.places
         clients.entry.workers clients.entry.turns wired.sockets.links.receivers.items wired.sockets.sender.tried result }
 {
     let Wired {
@@ -113,11 +157,12 @@ fn serve_clients<
     let ending = &ending;
     let (ran, mut errors) = thread::join(
         rt,
-        move || -> Result<LinkedRan<T, UdpIn, UdpOut>, OpenFault>
-            requires { IsSync R.row × IsSync D.row × IsSync G.row × IsSend T.row × (0 < places + workers) × (places + workers < 256) × (0 < turns) × (names_of devices.now ≡ map (λ r. r.device) links.receivers.items) }
-            ensures ran { IfOk result (λ ran. HasLinked D.lets_in D.Reader.input D.Writer.output G.gives G.told door.entry.now readonly text.entry.now places workers turns
-                links.receivers.items sender.tried ran.book ran.ended.items ran.drivers.items ran.sender.tried ran.links.items) }
-            ensures config { IfErr result (IsTrueOpening (places + workers + 1) (map (λ r. r.device) links.receivers.items) text.entry.now) }
+        move || -> Result<(LinkedRan<T, UdpIn, UdpOut>, B::Done), OpenFault>
+            requires { IsSync R.row × IsSync D.row × IsSync G.row × IsSend T.row × IsSend B.row × (0 < places + workers) × (places + workers + (1 + B.Seats.many) ≤ 256) × (0 < turns)
+                × ((old new : B.Seats) (done : B.Done) → All (λ s. s.calls ≡ []) (B.Seats.sittings old) → B.does beside old new done → All (λ s. AreQuiet s.calls) (B.Seats.sittings new)) × (names_of devices.now ≡ map (λ r. r.device) links.receivers.items) }
+            ensures ran { IfOk result (λ ran. HasLinked B.Seats.sittings B.Seats.many (B.does beside) D.lets_in D.Reader.input D.Writer.output G.gives G.told door.entry.now readonly text.entry.now places workers turns
+                links.receivers.items sender.tried ran.0.book ran.0.ended.items ran.0.drivers.items ran.0.sender.tried ran.0.links.items ran.1) }
+            ensures config { IfErr result (IsTrueOpening (places + workers + (1 + B.Seats.many)) (map (λ r. r.device) links.receivers.items) text.entry.now) }
         {
             let clients = Clients {
                 door,
@@ -127,7 +172,12 @@ fn serve_clients<
                 workers,
                 turns,
             };
-            let ran = run_linked(rt, alloc, table, text, clients, devices, links, sender);
+            let wiring = Wiring {
+                devices,
+                links,
+                sender,
+            };
+            let ran = run_linked_beside(rt, alloc, table, text, clients, wiring, beside);
             ending.set();
             ran
         },
@@ -139,7 +189,7 @@ fn serve_clients<
         },
     );
     match ran {
-        Ok(ran) => {
+        Ok((ran, _)) => {
             tell_counts(&mut errors, devices);
             of_sessions(ran.ended.as_slice())
         }
@@ -157,7 +207,7 @@ fn refuse<E: Write>(alloc: Global, errors: &mut E, fault: &OpenFault) -> Status
     of_opening(fault)
 }
 
-/// Serves the sessions that come, with links beside them, over a router that stays. One on standard input ends it; over TCP nothing does but the end of the process.
+/// Serves the sessions that come, with links beside them and a page where one is opened, over a router that stays. One on standard input ends it; over TCP nothing does but the end of the process.
 pub fn linked_plan<T: Handlers + Send + Drop, R: Threads + Wait + Sync>(
     rt: &R,
     host: &HostRuntime,
@@ -166,26 +216,56 @@ pub fn linked_plan<T: Handlers + Send + Drop, R: Threads + Wait + Sync>(
     plan: Plan,
     comes: Comes,
     wired: Wired,
+    page: Option<Front>,
 ) -> Status
     ensures standard { comes ≡ Comes.Standard → PlanLinksTo ⟦<Standard as Door>⟧.lets_in ⟦<Reading<Stdin> as Source>⟧.input ⟦<Writing<Stdout> as Sink>⟧.output
-        ⟦<OpenGate as Gate>⟧.gives ⟦<OpenGate as Gate>⟧.told plan text.now 1 wired.sockets.links.receivers.items wired.sockets.sender.tried result }
+        ⟦<OpenGate as Gate>⟧.gives ⟦<OpenGate as Gate>⟧.told (option_map (λ f. f.port) page) plan text.now 1 wired.sockets.links.receivers.items wired.sockets.sender.tried result }
     ensures over { (listener : TcpListener) → comes ≡ Comes.Over listener → PlanLinksTo ⟦<Listening as Door>⟧.lets_in ⟦<Reading<TcpStream> as Source>⟧.input ⟦<Writing<TcpStream> as Sink>⟧.output
-        ⟦<OpenGate as Gate>⟧.gives ⟦<OpenGate as Gate>⟧.told plan text.now 18446744073709551615 wired.sockets.links.receivers.items wired.sockets.sender.tried result }
+        ⟦<OpenGate as Gate>⟧.gives ⟦<OpenGate as Gate>⟧.told (option_map (λ f. f.port) page) plan text.now 18446744073709551615 wired.sockets.links.receivers.items wired.sockets.sender.tried result }
     ensures nowhere { comes ≡ Comes.Nowhere → PlanLinksTo ⟦<Shut as Door>⟧.lets_in ⟦<Reading<Stdin> as Source>⟧.input ⟦<Writing<Stdout> as Sink>⟧.output
-        ⟦<OpenGate as Gate>⟧.gives ⟦<OpenGate as Gate>⟧.told plan text.now 1 wired.sockets.links.receivers.items wired.sockets.sender.tried result }
+        ⟦<OpenGate as Gate>⟧.gives ⟦<OpenGate as Gate>⟧.told (option_map (λ f. f.port) page) plan text.now 1 wired.sockets.links.receivers.items wired.sockets.sender.tried result }
 {
-    let alloc = host.alloc();
-    let errors = host.stderr();
     match comes {
         Comes::Standard => {
             let door = Standard::new(host.stdin(), host.stdout());
-            serve_linked(rt, alloc, table, &door, errors, text, plan, 1, wired)
+            serve_wired(rt, host, table, &door, text, plan, 1, wired, page)
         }
         Comes::Over(listener) => {
             let door = Listening::new(listener);
-            let turns = u64::MAX;
-            serve_linked(rt, alloc, table, &door, errors, text, plan, turns, wired)
+            serve_wired(rt, host, table, &door, text, plan, u64::MAX, wired, page)
         }
-        Comes::Nowhere => serve_linked(rt, alloc, table, &Shut, errors, text, plan, 1, wired),
+        Comes::Nowhere => serve_wired(rt, host, table, &Shut, text, plan, 1, wired, page),
+    }
+}
+
+/// The same at this door.
+fn serve_wired<T: Handlers + Send + Drop, D: Door, R: Threads + Wait + Sync>(
+    rt: &R,
+    host: &HostRuntime,
+    table: T,
+    door: &D,
+    text: &[u8],
+    plan: Plan,
+    turns: u64,
+    wired: Wired,
+    page: Option<Front>,
+) -> Status
+    requires { 0 < turns }
+    ensures { PlanLinksTo D.lets_in D.Reader.input D.Writer.output ⟦<OpenGate as Gate>⟧.gives ⟦<OpenGate as Gate>⟧.told (option_map (λ f. f.port) page) plan text.now turns
+        wired.sockets.links.receivers.items wired.sockets.sender.tried result }
+{
+    let (alloc, errors) = (host.alloc(), host.stderr());
+    match page {
+        None => serve_linked(rt, alloc, table, door, errors, text, plan, turns, wired),
+        Some(front) => {
+            let paging = Paging {
+                front,
+                clock: host,
+                readonly: plan.readonly,
+            };
+            serve_linked_page(
+                rt, alloc, table, door, errors, text, plan, turns, wired, paging,
+            )
+        }
     }
 }

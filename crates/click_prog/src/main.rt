@@ -12,6 +12,7 @@ mod drawing;
 mod link;
 mod linking;
 mod number;
+mod paging;
 mod serving;
 mod sockets;
 mod status;
@@ -19,13 +20,12 @@ mod status;
 use arguments::{Refusal, options_of};
 use clap::error::ErrorKind;
 use click_handlers::with_table;
-use click_router::prepare;
 use drawing::draw;
 use link::{Link, LinkFault};
 use linking::Wired;
-use serving::{AtEnd, Comes, Plan, Serving, plan_of, tell};
+use serving::{AtEnd, Comes, Plan, Serving, faulty, plan_of};
 use sockets::{SocketFault, open_sockets};
-use status::{Status, of_config, of_unread};
+use status::{Status, of_unread};
 use std::alloc::Global;
 use std::net::{Ipv4Addr, Net, TcpListener, TcpStream};
 use std::process::ExitCode;
@@ -69,6 +69,7 @@ fn program<R: Threads + Wait + Net<Listener = TcpListener, Stream = TcpStream> +
             options.port,
             options.links.as_slice(),
             options.tell,
+            options.page,
         ),
         Err(refusal) => refused(host, &refusal),
     }
@@ -84,6 +85,7 @@ fn serve<R: Threads + Wait + Net<Listener = TcpListener, Stream = TcpStream> + S
     port: Option<u16>,
     links: &[Link],
     tell: u64,
+    page: Option<u16>,
 ) -> Status {
     let links = match wired(rt, host.alloc(), links, tell) {
         Ok(links) => links,
@@ -103,6 +105,7 @@ fn serve<R: Threads + Wait + Net<Listener = TcpListener, Stream = TcpStream> + S
         end,
         comes,
         links,
+        page,
     };
     match with_table(rt, host.alloc(), serving) {
         Ok(status) => status,
@@ -126,10 +129,8 @@ fn wired<'a, R: Net>(
 
 /// Tells why there are no links; where the configuration is faulty, that, as where it cannot listen.
 fn unlinked(host: &HostRuntime, text: &[u8], fault: &SocketFault) -> Status {
-    let alloc = host.alloc();
-    if let Err(fault) = prepare(alloc, text) {
-        tell(alloc, &mut host.stderr(), &fault);
-        return of_config(&fault);
+    if let Some(status) = faulty(host, text) {
+        return status;
     }
     // A failed write changes nothing of the status.
     let _ = eprintln!(host; "click_prog: {fault}");

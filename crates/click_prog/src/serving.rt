@@ -11,11 +11,13 @@ use crate::arguments::Options;
 use crate::booked::write_book;
 use crate::doors::{Shut, Standard};
 use crate::linking::{Wired, linked_plan};
-use crate::status::{Status, of_end, of_fault, of_sessions};
+use crate::paging::{Paging, paged_plan};
+use crate::status::{Status, of_config, of_end, of_fault, of_sessions};
 use click_control::{InputDevice, OutputDevice, Reading, Sink, Source, Writing};
 use click_desk::{BoxedTable, Entry};
 use click_handlers::{Table, TakesTable};
-use click_router::{Check, ConfigFault, Handlers};
+use click_http::open_front;
+use click_router::{Check, ConfigFault, Handlers, prepare};
 use click_workers::{
     AllRan, Door, Gate, Listening, OpenGate, Ran, RunFault, run, run_live, run_workers,
 };
@@ -31,9 +33,9 @@ use std::thread::Threads;
 pub struct Plan {
     pub(crate) sessions: usize,
     pub(crate) workers: usize,
-    rounds: u64,
+    pub(crate) rounds: u64,
     pub(crate) readonly: bool,
-    live: bool,
+    pub(crate) live: bool,
 }
 
 impl Model for Plan {
@@ -221,7 +223,7 @@ pub fn serve_live<T: Handlers + Send + Drop, D: Door, E: Write, R: Threads + Wai
 }
 
 /// Writes why there was no run; nothing where memory ran out. The status is that of the fault.
-fn refuse<E: Write>(alloc: Global, errors: &mut E, fault: &RunFault) -> Status
+pub(crate) fn refuse<E: Write>(alloc: Global, errors: &mut E, fault: &RunFault) -> Status
     ensures { result ≡ fault_status fault.now }
 {
     if let RunFault::Config(fault) = fault {
@@ -249,7 +251,7 @@ fn told<W: Write>(to: &mut W, fault: &[u8]) -> io::Result<()>
 }
 
 /// Tells what was checked, if anything was.
-fn tell_check<E: Write>(errors: &mut E, name: Option<&[u8]>, checked: Option<Check>) {
+pub(crate) fn tell_check<E: Write>(errors: &mut E, name: Option<&[u8]>, checked: Option<Check>) {
     if let (Some(name), Some(check)) = (name, checked) {
         // A failed write changes nothing of the status.
         let _ = write_check(errors, name, check);
@@ -257,7 +259,7 @@ fn tell_check<E: Write>(errors: &mut E, name: Option<&[u8]>, checked: Option<Che
 }
 
 /// Writes the book, if that is asked for.
-fn tell_book<E: Write>(alloc: Global, errors: &mut E, asked: bool, entries: &[Entry]) {
+pub(crate) fn tell_book<E: Write>(alloc: Global, errors: &mut E, asked: bool, entries: &[Entry]) {
     if asked {
         // A failed write changes nothing of the status.
         let _ = write_book(alloc, errors, entries);
@@ -307,12 +309,17 @@ pub struct Serving<'a> {
     pub end: AtEnd<'a>,
     pub comes: Comes,
     pub links: Option<Wired>,
+    /// At which port of 127.0.0.1 browsers are shown a page.
+    pub page: Option<u16>,
 }
 
-impl<'a> TakesTable for Serving<'a> {
-    type Out = Status;
-
-    fn take<R: Threads + Wait + Sync>(self, rt: &R, table: Table) -> Status {
+impl<'a> Serving<'a> {
+    /// Makes the run over this table.
+    fn serve<T: Handlers + Send + Drop, R: Threads + Wait + Sync>(
+        self,
+        rt: &R,
+        table: T,
+    ) -> Status {
         let Serving {
             host,
             text,
@@ -320,15 +327,67 @@ impl<'a> TakesTable for Serving<'a> {
             end,
             comes,
             links,
+            page,
         } = self;
-        let Ok(table) = Box::new(host.alloc(), table) else {
-            return Status::NoMemory;
+        let page = match page {
+            None => None,
+            Some(port) => match open_front(host, host.alloc(), port) {
+                Ok(front) => Some(front),
+                Err(fault) => return unpaged(host, text, port, &fault),
+            },
         };
-        let table = BoxedTable { table };
         match links {
-            Some(wired) => linked_plan(rt, host, table, text, plan, comes, wired),
-            None if plan.live => live_plan(rt, host, table, text, plan, comes),
-            None => serve_plan(rt, host, table, text, plan, end, comes),
+            Some(wired) => linked_plan(rt, host, table, text, plan, comes, wired, page),
+            None => match page {
+                Some(front) => paged_plan(rt, host, table, text, plan, end, comes, front),
+                None if plan.live => live_plan(rt, host, table, text, plan, comes),
+                None => serve_plan(rt, host, table, text, plan, end, comes),
+            },
+        }
+    }
+}
+
+/// Tells why there is no page; where the configuration is faulty, that.
+fn unpaged(host: &HostRuntime, text: &[u8], port: u16, fault: &io::Error) -> Status {
+    if let Some(status) = faulty(host, text) {
+        return status;
+    }
+    if fault.kind() == io::ErrorKind::OutOfMemory {
+        return Status::NoMemory;
+    }
+    // A failed write changes nothing of the status.
+    let _ = eprintln!(host; "click_prog: the page cannot have 127.0.0.1:{port}: {fault}");
+    Status::DeviceFailed
+}
+
+/// Tells what is wrong with the configuration, if anything is, and the status of that.
+pub fn faulty(host: &HostRuntime, text: &[u8]) -> Option<Status> {
+    let alloc = host.alloc();
+    match prepare(alloc, text) {
+        Ok(_) => None,
+        Err(fault) => {
+            tell(alloc, &mut host.stderr(), &fault);
+            Some(of_config(&fault))
+        }
+    }
+}
+
+/// Makes the run over a table in a box.
+fn serve_boxed<R: Threads + Wait + Sync>(
+    rt: &R,
+    table: BoxedTable<Table>,
+    serving: Serving,
+) -> Status {
+    serving.serve(rt, table)
+}
+
+impl<'a> TakesTable for Serving<'a> {
+    type Out = Status;
+
+    fn take<R: Threads + Wait + Sync>(self, rt: &R, table: Table) -> Status {
+        match Box::new(self.host.alloc(), table) {
+            Ok(table) => serve_boxed(rt, BoxedTable { table }, self),
+            Err(_) => Status::NoMemory,
         }
     }
 }

@@ -84,8 +84,9 @@ returns-clause-text c =
     let live = c.live_argument.result in
     let link = c.link_argument.result in
     let tell = c.help-tell.result in
+    let page = c.help-page.result in
     let draw = c.draw_argument.result in
-    let xs : List Arg = text ∷ port ∷ sessions ∷ workers ∷ rounds ∷ readonly ∷ check ∷ book ∷ live ∷ link ∷ tell ∷ draw ∷ [] in
+    let xs : List Arg = text ∷ port ∷ sessions ∷ workers ∷ rounds ∷ readonly ∷ check ∷ book ∷ live ∷ link ∷ tell ∷ page ∷ draw ∷ [] in
     let t : Named (codes "text") text = c.text_argument.ensures.plain in
     let p : Named (codes "port") port = rw (c.help-port.ensures, c.short.ensures) c.number.ensures in
     let s : Named (codes "sessions") sessions = rw (c.help-sessions.ensures, c.short-2.ensures) c.number-2.ensures in
@@ -97,9 +98,10 @@ returns-clause-text c =
     let l : Named (codes "live") live = c.live_argument.ensures in
     let d : Named (codes "device") link = c.link_argument.ensures in
     let e : Named (codes "every") tell = rw (c.help-tell.ensures, c.long-2.ensures) c.number-5.ensures in
+    let f : Named (codes "front") page = rw (c.help-page.ensures, c.long-3.ensures) c.number-6.ensures in
     let i : Named (codes "image") draw = c.draw_argument.ensures in
-    let all : All FitsChain xs = all_fit xs (fits text (codes "text") t refl, (fits port (codes "port") p refl, (fits sessions (codes "sessions") s refl, (fits workers (codes "workers") w refl, (fits rounds (codes "number") n refl, (fits readonly (codes "readonly") r refl, (fits check (codes "check") k refl, (fits book (codes "book") b refl, (fits live (codes "live") l refl, (fits link (codes "device") d refl, (fits tell (codes "every") e refl, (fits draw (codes "image") i refl, tt)))))))))))) in
-    let new : differ xs ≡ true = rw (t.0, p.0, s.0, w.0, n.0, r.0, k.0, b.0, l.0, d.0, e.0, i.0) refl in
+    let all : All FitsChain xs = all_fit xs (fits text (codes "text") t refl, (fits port (codes "port") p refl, (fits sessions (codes "sessions") s refl, (fits workers (codes "workers") w refl, (fits rounds (codes "number") n refl, (fits readonly (codes "readonly") r refl, (fits check (codes "check") k refl, (fits book (codes "book") b refl, (fits live (codes "live") l refl, (fits link (codes "device") d refl, (fits tell (codes "every") e refl, (fits page (codes "front") f refl, (fits draw (codes "image") i refl, tt))))))))))))) in
+    let new : differ xs ≡ true = rw (t.0, p.0, s.0, w.0, n.0, r.0, k.0, b.0, l.0, d.0, e.0, f.0, i.0) refl in
     rw (← t.0) (required_in_chain c.after_help.result c.in_ok-command.command xs 0 text c.in_ok-matches.matches (
       c.in_ok-arg.field-0,
       c.in_ok-arg.ensures,
@@ -109,7 +111,7 @@ returns-clause-text c =
         (
           c.in_ok-arg-3.field-0,
           c.in_ok-arg-3.ensures,
-          (c.in_ok-arg-4.field-0, c.in_ok-arg-4.ensures, (c.in_ok-arg-5.field-0, c.in_ok-arg-5.ensures, (c.in_ok-arg-6.field-0, c.in_ok-arg-6.ensures, (c.in_ok-arg-7.field-0, c.in_ok-arg-7.ensures, (c.in_ok-arg-8.field-0, c.in_ok-arg-8.ensures, (c.in_ok-arg-9.field-0, c.in_ok-arg-9.ensures, (c.in_ok-arg-10.field-0, c.in_ok-arg-10.ensures, (c.in_ok-arg-11.field-0, c.in_ok-arg-11.ensures, (c.in_ok-command.command, c.in_ok-command.ensures, refl))))))))),
+          (c.in_ok-arg-4.field-0, c.in_ok-arg-4.ensures, (c.in_ok-arg-5.field-0, c.in_ok-arg-5.ensures, (c.in_ok-arg-6.field-0, c.in_ok-arg-6.ensures, (c.in_ok-arg-7.field-0, c.in_ok-arg-7.ensures, (c.in_ok-arg-8.field-0, c.in_ok-arg-8.ensures, (c.in_ok-arg-9.field-0, c.in_ok-arg-9.ensures, (c.in_ok-arg-10.field-0, c.in_ok-arg-10.ensures, (c.in_ok-arg-11.field-0, c.in_ok-arg-11.ensures, (c.in_ok-arg-12.field-0, c.in_ok-arg-12.ensures, (c.in_ok-command.command, c.in_ok-command.ensures, refl)))))))))),
         ),
       ),
     )

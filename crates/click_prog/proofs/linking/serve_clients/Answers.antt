@@ -11,6 +11,7 @@ returns-in-Ok-ran g c =
       drivers = c.in-Ok-ran.ran.drivers.items;
       after = c.in-Ok-ran.ran.sender.tried;
       ends = c.in-Ok-ran.ran.links.items;
+      done = _;
       ran = linked;
       is = c.of_sessions.ensures ∙ ap sessions_status c.as_slice.ensures.value;
     })

@@ -1,0 +1,54 @@
+-- What a page does to its seat: it stays the seat that it is, and none of its calls is a Transmit.
+use Rattle.std.proofs.Common.{◌≡◌, ℕ, Bool, false, List, Option, Some, None, Result, [], ◌∷◌, ◌++◌, refl, sym, ap, ◌∙◌, subst}
+use Rattle.std.specs.List.{All, AllZip}
+use Rattle.std.proofs.lemmas.List.Elements.{All-nil, All-cons, All-head, All-tail}
+use Rattle.http_server.specs.Exchange.{Call, Chain}
+use Rattle.click_router.specs.One.{is_transmit}
+use Rattle.click_router.specs.declared.call.Call.{Call as Asked}
+use Rattle.click_router.specs.declared.call.Reply.{Reply}
+use Rattle.click_control.specs.declared.port.AskFault.{AskFault}
+use Rattle.click_desk.specs.Sittings.{Sitting}
+use Rattle.click_page.specs.Answering.{Paged, AnswersSo}
+use Rattle.click_workers.specs.Linked.{AreQuiet}
+use Rattle.click_workers.specs.Seats.{SameSeat, SeatAsks}
+use Rattle.click_workers.proofs.Growing.{asked-grows}
+use Rattle.click_workers.proofs.Sending.{quiet-both, made-quiet}
+use Rattle.click_prog.specs.Paging.{IsPaged, IsPagedOver, page_at}
+
+same-twice : (a b c : Sitting) → SameSeat a b → SameSeat b c → SameSeat a c
+same-twice a b c h k = (k.0 ∙ h.0, k.1 ∙ h.1, k.2 ∙ h.2)
+
+chain-same : (old : Paged Sitting) (requests : List Call) (new : Paged Sitting) → Chain (AnswersSo SeatAsks) old requests new → SameSeat old.port new.port
+chain-same old [] new e = (ap (λ p. p.port.desk) e, ap (λ p. p.port.number) e, ap (λ p. p.port.feeds) e)
+chain-same old (r ∷ requests) new (next, answers, rest) =
+    same-twice old.port next.port new.port (asked-grows old.readonly old.port _ answers.answers next.port answers.asked).0 (chain-same next requests new rest)
+
+chain-quiet : (old : Paged Sitting) (requests : List Call) (new : Paged Sitting) → Chain (AnswersSo SeatAsks) old requests new → AreQuiet old.port.calls → AreQuiet new.port.calls
+chain-quiet old [] new e quiet = subst (λ (p : Paged Sitting). AreQuiet p.port.calls) (sym e) quiet
+chain-quiet old (r ∷ requests) new (next, answers, rest) quiet =
+    let grown = (asked-grows old.readonly old.port _ answers.answers next.port answers.asked).1 in
+    chain-quiet next requests new rest (subst AreQuiet (sym grown) (quiet-both old.port.calls _ quiet (made-quiet old.readonly _ answers.answers)))
+
+module _ {P : Type 0} (asks : P → Asked → Result Reply AskFault → P → Type 0) where
+  chain-kept : (old : Paged P) (requests : List Call) (new : Paged P) → Chain (AnswersSo asks) old requests new → (new.readonly ≡ old.readonly) × (new.at ≡ old.at)
+  chain-kept old [] new e = (ap (λ (p : Paged P). p.readonly) e, ap (λ (p : Paged P). p.at) e)
+  chain-kept old (r ∷ requests) new (next, answers, rest) =
+      let k = chain-kept next requests new rest in
+      (k.0 ∙ answers.same.0, k.1 ∙ answers.same.1)
+
+  -- a page that went through requests is one over what it left, as before
+  pub paged-over : (readonly : Bool) (at : ℕ) (old : P) (requests : List Call) (new : Paged P) → Chain (AnswersSo asks) (page_at old readonly at) requests new
+      → IsPagedOver asks readonly at old new.port
+  paged-over readonly at old requests new chain =
+      let kept = chain-kept (page_at old readonly at) requests new chain in
+      let same : new ≡ page_at new.port readonly at =
+      ap (λ (r : Bool). page_at new.port r new.at) kept.0 ∙ ap (λ (a : ℕ). page_at new.port readonly a) kept.1 in
+      (requests, subst (λ (p : Paged P). Chain (AnswersSo asks) (page_at old readonly at) requests p) same chain)
+
+pub page-same : (readonly : Bool) (at : ℕ) (old new : Sitting) → IsPaged readonly at old new → SameSeat old new
+page-same readonly at old new paged = chain-same (page_at old readonly at) paged.0 (page_at new readonly at) paged.1
+
+pub page-quiet : (readonly : Bool) (at : ℕ) (old new : Sitting) → old.calls ≡ [] → IsPaged readonly at old new → AreQuiet new.calls
+page-quiet readonly at old new none paged =
+    chain-quiet (page_at old readonly at) paged.0 (page_at new readonly at) paged.1
+    (subst AreQuiet (sym none) (All-nil (λ (p : Asked × Reply). is_transmit p.0 ≡ false)))

@@ -1,0 +1,71 @@
+-- A run with a page beside its sessions, and its status.
+use Rattle.std.specs.Prelude.{◌≡◌, ◌⊎◌, ℕ, ◌+◌, List, [], ◌∷◌, Bool, true, false, Option, Some, None, Result}
+use Rattle.http_server.specs.Exchange.{Call, Chain}
+use Rattle.click_control.specs.Peers.{Input, Output}
+use Rattle.click_control.specs.declared.port.AskFault.{AskFault}
+use Rattle.click_router.specs.declared.call.Call.{Call as Asked}
+use Rattle.click_router.specs.declared.call.Reply.{Reply}
+use Rattle.click_desk.specs.Booklet.{Booklet}
+use Rattle.click_desk.specs.Sittings.{Sitting}
+use Rattle.click_http.specs.declared.serving.Ended.{Ended}
+use Rattle.click_page.specs.Answering.{Paged, AnswersSo}
+use Rattle.click_workers.specs.Beside.{BesideWork}
+use Rattle.click_workers.specs.Runs.{HeadlineFor}
+use Rattle.click_workers.specs.Seats.{SeatAsks}
+use Rattle.click_workers.specs.Work.{AttendedInTurn, DroveFor}
+use Rattle.click_workers.specs.declared.session.SessionEnd.{SessionEnd}
+use Rattle.click_prog.specs.Running.{Planned, HaveNotRun}
+use Rattle.click_prog.specs.Statuses.{sessions_status}
+use Rattle.click_prog.specs.declared.status.Status.{Status}
+
+-- a page over what answers its calls, at this port
+abbrev pub page_at : {P : Type 0} → P → Bool → ℕ → Paged P
+page_at port readonly at = record { port = port; readonly = readonly; at = at }
+
+-- The page at this port answered requests, one after another: of what answers its calls it asked just their commands, and gave just the answers that these are told as; so it left that.
+abbrev pub IsPagedOver : {P : Type 0} → (P → Asked → Result Reply AskFault → P → Type 0) → Bool → ℕ → P → P → Type 0
+IsPagedOver asks readonly at old new = (requests : List Call) × Chain (AnswersSo asks) (page_at old readonly at) requests (page_at new readonly at)
+
+-- the same over a seat
+abbrev pub IsPaged : Bool → ℕ → Sitting → Sitting → Type 0
+IsPaged readonly at old new = IsPagedOver SeatAsks readonly at old new
+
+-- a run that ends keeps a book of 1,048,576 entries, and one that stays keeps none
+abbrev pub room_of : Bool → Option ℕ
+room_of true = None
+room_of false = Some 1048576
+
+-- drivers of a run that ends make so many rounds each, and those of one that stays go on
+abbrev pub rounds_of : Bool → ℕ → Option ℕ
+rounds_of true rounds = None
+rounds_of false rounds = Some rounds
+
+-- of a router that stays each place over TCP serves 2^64 - 1 sessions, of one that ends one
+abbrev pub turns_of : Bool → ℕ
+turns_of true = 18446744073709551615
+turns_of false = 1
+
+-- Places for sessions, drivers and a page were at one desk of this text, each with a seat of its own; each place served so many sessions, one after another; the desk's book is a history of one thread with just
+-- their calls and replies, and the page's seat, which is the last, made just the calls of the requests that it answered; the status is that of the places' last sessions.
+pub record HavePaged {D Rd Wr G : Type 0} (lets_in : D → ℕ → Option (Rd × Wr) → Type 0) (input : Rd → Input) (output : Wr → Output) (gives : G → ℕ → ℕ → Bool → Type 0)
+    (told : G → ℕ → ℕ → Type 0) (door : D) (plan : Planned) (text : List ℕ) (turns at : ℕ) (s : Status) : Type 0 where
+  pub gate : G
+  pub book : Booklet
+  pub headline : HeadlineFor (room_of plan.live) text (plan.sessions + plan.workers + 1) book
+  pub ended : List SessionEnd
+  pub drivers : List Bool
+  pub done : Ended
+  pub work : BesideWork (λ seat. seat ∷ []) 1 (λ old new (_ : Ended). IsPaged plan.readonly at old new) (AttendedInTurn lets_in input output gives told door gate plan.readonly turns)
+      (DroveFor gives told gate (rounds_of plan.live plan.rounds)) plan.sessions plan.workers book.seats ended drivers done
+  pub is : s ≡ sessions_status ended
+
+abbrev pub PagedRunTo : {D Rd Wr G : Type 0} → (D → ℕ → Option (Rd × Wr) → Type 0) → (Rd → Input) → (Wr → Output) → (G → ℕ → ℕ → Bool → Type 0) → (G → ℕ → ℕ → Type 0)
+    → D → Planned → List ℕ → ℕ → ℕ → Status → Type 0
+PagedRunTo lets_in input output gives told door plan text turns at s =
+    HavePaged lets_in input output gives told door plan text turns at s ⊎ HaveNotRun text s
+
+-- the same at some door of this kind
+abbrev pub PlanPagesTo : {D Rd Wr G : Type 0} → (D → ℕ → Option (Rd × Wr) → Type 0) → (Rd → Input) → (Wr → Output) → (G → ℕ → ℕ → Bool → Type 0) → (G → ℕ → ℕ → Type 0)
+    → Planned → List ℕ → ℕ → ℕ → Status → Type 0
+PlanPagesTo {D} {Rd} {Wr} {G} lets_in input output gives told plan text turns at s =
+    (door : D) × PagedRunTo lets_in input output gives told door plan text turns at s

@@ -1,0 +1,117 @@
+"""Imported by tools/page.py: a headless Chromium (Debian's package), spoken to by its DevTools protocol."""
+
+import base64
+import contextlib
+import fcntl
+import json
+import os
+import select
+import subprocess
+import tempfile
+import time
+
+# How long it may take over an answer.
+SECONDS = 30
+
+
+class BrowserFault(Exception):
+    """The browser does not answer, or says that it cannot do what was asked."""
+
+
+class Browser:
+    """Chromium without a window, spoken to by its DevTools protocol over two pipes: JSON, and a zero byte after each message."""
+
+    def __init__(self, program):
+        self.folder = tempfile.TemporaryDirectory(prefix="page-")
+        reads, self.writes = os.pipe()
+        self.reads, writes = os.pipe()
+        words = ["nice", "-n", "15", program, "--headless=new", "--remote-debugging-pipe", f"--user-data-dir={self.folder.name}", "--no-sandbox", "--disable-gpu"]
+        words += ["--no-first-run", "--disable-background-networking", "--disable-component-update", "--disable-dev-shm-usage", "--hide-scrollbars", "about:blank"]
+
+        def at_3_and_4():
+            for high, low in [(fcntl.fcntl(reads, fcntl.F_DUPFD, 10), 3), (fcntl.fcntl(writes, fcntl.F_DUPFD, 10), 4)]:
+                os.dup2(high, low)
+
+        how = {"stdin": subprocess.DEVNULL, "stdout": subprocess.DEVNULL, "stderr": subprocess.DEVNULL, "start_new_session": True}
+        self.process = subprocess.Popen(words, preexec_fn=at_3_and_4, pass_fds=(3, 4), **how)
+        os.close(reads)
+        os.close(writes)
+        self.rest, self.number, self.events, self.tab = b"", 0, [], None
+        try:
+            self.begin()
+        except BrowserFault:
+            self.close()
+            raise
+
+    def begin(self):
+        """A tab, and what is to be told of it."""
+        target = self.ask("Target.createTarget", url="about:blank")["targetId"]
+        self.tab = self.ask("Target.attachToTarget", targetId=target, flatten=True)["sessionId"]
+        for it in ("Page.enable", "Runtime.enable", "Log.enable"):
+            self.ask(it)
+        self.ask("Emulation.setDeviceMetricsOverride", width=1360, height=900, deviceScaleFactor=1, mobile=False)
+
+    def message(self, ends):
+        while b"\0" not in self.rest:
+            if not select.select([self.reads], [], [], max(0.0, ends - time.monotonic()))[0]:
+                raise BrowserFault("the browser does not answer")
+            piece = os.read(self.reads, 1 << 20)
+            if not piece:
+                raise BrowserFault("the browser has ended")
+            self.rest += piece
+        message, _, self.rest = self.rest.partition(b"\0")
+        return json.loads(message)
+
+    def ask(self, method, **words):
+        self.number += 1
+        asked = {"id": self.number, "method": method, "params": words, **({"sessionId": self.tab} if self.tab else {})}
+        os.write(self.writes, json.dumps(asked).encode() + b"\0")
+        ends = time.monotonic() + SECONDS
+        while (came := self.message(ends)).get("id") != self.number:
+            self.events.append(came)
+        if "error" in came:
+            raise BrowserFault(f"{method}: {came['error']}")
+        return came["result"]
+
+    def value(self, script):
+        """What an expression of JavaScript is in the page."""
+        came = self.ask("Runtime.evaluate", expression=script, awaitPromise=True, returnByValue=True)
+        if "exceptionDetails" in came:
+            raise BrowserFault(f"{script}: {came['exceptionDetails'].get('exception', {}).get('description')}")
+        return came["result"].get("value")
+
+    def press(self, key, text=""):
+        for kind in ("keyDown", "keyUp"):
+            self.ask("Input.dispatchKeyEvent", type=kind, key=key, code=key, windowsVirtualKeyCode=13 if key == "Enter" else 27, text=text if kind == "keyDown" else "")
+
+    def type(self, place, text):
+        """Has this text in a field, as if it were typed."""
+        self.value(f"(() => {{ const it = document.querySelector({place!r}); it.focus(); it.select(); }})()")
+        self.ask("Input.insertText", text=text)
+
+    def click(self, place):
+        self.value(f"document.querySelector({place!r}).click()")
+
+    def text(self, place):
+        return self.value(f"document.querySelector({place!r})?.textContent ?? ''")
+
+    def shoot(self, path):
+        shot = self.ask("Page.captureScreenshot", format="png")
+        with open(path, "wb") as it:
+            it.write(base64.b64decode(shot["data"]))
+
+    def errors(self):
+        """What the browser's console has of errors: also of what the policy forbids."""
+        self.value("0")
+        logged = [it["params"]["entry"]["text"] for it in self.events if it["method"] == "Log.entryAdded" and it["params"]["entry"]["level"] == "error"]
+        return logged + [str(it["params"]["exceptionDetails"]) for it in self.events if it["method"] == "Runtime.exceptionThrown"]
+
+    def close(self):
+        with contextlib.suppress(BrowserFault, OSError):
+            self.tab = None
+            self.ask("Browser.close")
+        with contextlib.suppress(subprocess.TimeoutExpired):
+            self.process.wait(SECONDS)
+        if self.process.poll() is None:
+            os.killpg(self.process.pid, 9)
+        self.folder.cleanup()

@@ -1,0 +1,748 @@
+#!/usr/bin/env python3
+"""Tries the page over a running router: by plain sockets what it answers and refuses, and in a headless Chromium what an operator sees and does.
+
+    tools/page.py [--part sockets|browser] [--shots FOLDER] [PROGRAM [WORD..]]
+    tools/page.py --mock [--wrong WHAT] [--part sockets|browser] [--shots FOLDER]
+    tools/page.py --wrongs [WHAT..]
+
+The router is PROGRAM WORD.. -e TEXT --live -p P -w 1 --page Q, with crates/click_prog/out/click_prog where no program is given; with --mock it is
+tools/page_mock.py, which can be wrong in one point. --wrongs has it be wrong in each point, or in these, one after another: the check of that point has to
+fail. --shots writes pictures of the page over four configurations. Chromium is Debian's (apt-get install chromium); where there is none the browser's part is
+left out, and so are pictures. The last line is 'N passed, M failed', and the status 1 where a check failed.
+"""
+import argparse
+import base64
+import contextlib
+import hashlib
+import json
+import os
+import re
+import select
+import shutil
+import socket
+import subprocess
+import sys
+import time
+
+sys.dont_write_bytecode = True
+import page_mock  # noqa: E402
+
+TOP = os.path.dirname(os.path.dirname(os.path.realpath(__file__)))
+sys.path.insert(0, f"{TOP}/tools/lib")
+from chromium import Browser, BrowserFault  # noqa: E402
+
+# How long a head may take to come before the router gives up, and how long anything else may take.
+PATIENCE, SECONDS = 60, 10
+
+
+def text_of(path):
+    with open(f"{TOP}/{path}", encoding="utf-8", newline="") as it:
+        return it.read()
+
+
+WATCHED, SWAPPED = text_of("tools/page_mock/watched.click"), text_of("tools/page_mock/swapped.click")
+# The elements of these in flat order, and how many connections there are, worked out by hand.
+WATCHED_NAMES = "InfiniteSource@1 c s left/c left/q Unqueue@5 Discard@6 right/c right/q Idle@8 Idle@9 rt Discard@11".split()
+SWAPPED_NAMES = "InfiniteSource@1 c fresh Discard@4".split()
+WATCHED_CONNECTIONS, SWAPPED_CONNECTIONS = 11, 3
+SHOTS = {"ip_router": "examples/calls/ip_router.click", "counter": "examples/counter.click", "compounds": "examples/compounds.click", "watched": "tools/page_mock/watched.click"}
+
+
+class Wrong(Exception):
+    """What a check found."""
+
+
+def same(wanted, came, what):
+    if wanted != came:
+        raise Wrong(f"{what}: wanted {wanted!r:.300}, came {came!r:.300}")
+
+
+def until(is_so, what, seconds=SECONDS):
+    """Waits for something; what it was last, where that never came."""
+    ends = time.monotonic() + seconds
+    while not (value := is_so()):
+        if time.monotonic() > ends:
+            raise Wrong(f"in {seconds} s not: {what}")
+        time.sleep(0.1)
+    return value
+
+
+class Tally:
+    """The checks so far."""
+
+    def __init__(self):
+        self.passed, self.failed = 0, []
+
+    def check(self, what, act, *words):
+        try:
+            act(*words)
+        except (Wrong, BrowserFault, OSError, ValueError, KeyError, IndexError, TypeError, AttributeError) as error:
+            self.failed.append(what)
+            print(f"FAILED  {what}: {error}", flush=True)
+        else:
+            self.passed += 1
+            print(f"passed  {what}", flush=True)
+
+
+# ---- The router, and those who speak with it
+
+
+def free_ports(count):
+    with contextlib.ExitStack() as all_of_them:
+        probes = [all_of_them.enter_context(socket.socket()) for _ in range(count)]
+        for it in probes:
+            it.bind(("127.0.0.1", 0))
+        return [it.getsockname()[1] for it in probes]
+
+
+def answers(port):
+    """Whether somebody listens there."""
+    try:
+        socket.create_connection(("127.0.0.1", port), timeout=SECONDS).close()
+        return True
+    except ConnectionRefusedError:
+        return False
+
+
+class Router:
+    """A router that stays, with a driver, sessions at `port` and a page at `page`."""
+
+    def __init__(self, command, text, *options):
+        self.port, self.page = free_ports(2)
+        self.words = ["nice", "-n", "10", *command, "-e", text, "--live", "-p", str(self.port), "-w", "1", "--page", str(self.page), *options]
+        self.start()
+
+    def start(self):
+        self.process = subprocess.Popen(self.words, stdin=subprocess.DEVNULL)
+        until(self.is_there, "the router listens")
+
+    def is_there(self):
+        if self.process.poll() is not None:
+            raise Wrong(f"the router ended with status {self.process.returncode}")
+        return answers(self.page)
+
+    def stop(self):
+        self.process.kill()
+        self.process.wait()
+
+    def __enter__(self):
+        return self
+
+    def __exit__(self, *_):
+        self.stop()
+
+
+class Session:
+    """A control session (docs/CONTROL.md)."""
+
+    def __init__(self, router):
+        until(lambda: answers(router.port), "sessions are taken")
+        self.socket = socket.create_connection(("127.0.0.1", router.port), timeout=SECONDS)
+        self.file = self.socket.makefile("rwb")
+        same(b"Click::ControlSocket/1.3\r\n", self.file.readline(), "the greeting of a session")
+
+    def ask(self, command):
+        self.file.write(command)
+        self.file.flush()
+        lines = [self.file.readline()]
+        while lines[-1][3:4] == b"-":
+            lines.append(self.file.readline())
+        return b"".join(lines)
+
+    def read(self, handler):
+        same(f"200 Read handler '{handler}' OK\r\n".encode(), self.ask(f"READ {handler}\n".encode()), f"READ {handler}")
+        return self.file.read(int(self.file.readline().split()[1])).decode()
+
+    def write(self, handler, text):
+        return self.ask(b"WRITEDATA %s %d\n%s" % (handler.encode(), len(text.encode()), text.encode()))
+
+    def close(self):
+        self.file.close()
+        self.socket.close()
+
+
+class Answer:
+    """What was answered: the status, the fields in order, and the body."""
+
+    def __init__(self, came):
+        head, _, self.body = came.partition(b"\r\n\r\n")
+        first, *lines = head.decode("latin-1").split("\r\n")
+        if not re.match(r"HTTP/1\.1 \d{3}( |$)", first):
+            raise Wrong(f"no answer of HTTP: {came[:200]!r}")
+        self.status = int(first[9:12])
+        self.fields = [(name.lower(), value.strip()) for name, _, value in (line.partition(":") for line in lines)]
+
+    def field(self, name):
+        return [value for it, value in self.fields if it == name]
+
+    def json(self):
+        return json.loads(self.body)
+
+
+def received(peer, seconds=SECONDS):
+    """All that comes until the peer closes."""
+    came, ends = b"", time.monotonic() + seconds
+    while True:
+        peer.settimeout(max(0.01, ends - time.monotonic()))
+        try:
+            piece = peer.recv(65536)
+        except ConnectionResetError:
+            return came
+        except TimeoutError:
+            raise Wrong(f"not ended in {seconds} s, after {came[:200]!r}") from None
+        if not piece:
+            return came
+        came += piece
+
+
+class Client:
+    """Requests to a page, each over a connection of its own. It keeps all answers, for what is to be said of each."""
+
+    def __init__(self, router, session):
+        self.router, self.session, self.answers = router, session, []
+
+    def connect(self):
+        return socket.create_connection(("127.0.0.1", self.router.page), timeout=SECONDS)
+
+    def send(self, sent):
+        """What raw bytes are answered."""
+        with self.connect() as peer:
+            # A router that refuses early may close before all has been sent.
+            with contextlib.suppress(ConnectionError):
+                peer.sendall(sent)
+            answer = Answer(received(peer))
+        self.answers.append(answer)
+        return answer
+
+    def ask(self, target, method="GET", body=b"", fields=(), host=None):
+        lines = [f"{method} {target} HTTP/1.1", f"host: {host or f'127.0.0.1:{self.router.page}'}", "connection: close", *fields]
+        if body or method == "POST":
+            lines.append(f"content-length: {len(body)}")
+        return self.send("\r\n".join([*lines, "", ""]).encode() + body)
+
+
+MARK = "x-click-page: 1"
+
+
+# ---- By sockets: what is answered
+
+
+def policy_of(page):
+    """The policy that lets in the page's one script."""
+    scripts = re.findall(rb"<script[^>]*>(.*?)</script>", page, re.S)
+    same(1, len(scripts), "scripts of the page")
+    digest = base64.b64encode(hashlib.sha256(scripts[0]).digest()).decode()
+    rest = "style-src 'unsafe-inline'; connect-src 'self'; img-src 'self' data:; base-uri 'none'; form-action 'none'; frame-ancestors 'none'"
+    return f"default-src 'none'; script-src 'sha256-{digest}'; {rest}"
+
+
+def is_page(client):
+    answer = client.ask("/")
+    same(200, answer.status, "GET /")
+    same(["text/html; charset=utf-8"], answer.field("content-type"), "its type")
+    same(text_of("crates/click_page/page/page.html").encode(), answer.body, "the page")
+
+
+def is_guarded(client):
+    asked = [("/", "GET"), ("/picture.svg", "GET"), ("/flat", "GET"), ("/read?handler=config", "GET"), ("/swap", "POST"), ("/none", "GET"), ("/swap", "GET"), ("/read", "GET")]
+    policy = policy_of(client.ask("/").body)
+    wanted = {"content-security-policy": policy, "cache-control": "no-store", "x-content-type-options": "nosniff", "x-frame-options": "DENY"}
+    wanted |= {"cross-origin-resource-policy": "same-origin", "referrer-policy": "no-referrer"}
+    for target, method in asked:
+        answer = client.ask(target, method)
+        for name, value in wanted.items():
+            same([value], answer.field(name), f"{name} of {method} {target} ({answer.status})")
+
+
+def is_flat_form(client):
+    flat = client.ask("/flat").json()
+    same(WATCHED_NAMES, [it["name"] for it in flat["elements"]], "names in /flat")
+    same(WATCHED_CONNECTIONS, len(flat["connections"]), "connections in /flat")
+    element = flat["elements"][WATCHED_NAMES.index("left/q")]
+    wanted = {"class": "Queue", "inputs": [{"agnostic": False, "pull": False}], "name": "left/q", "outputs": [{"agnostic": False, "pull": True}]}
+    wanted |= {"reads": ["length", "highwater_length", "drops", "capacity"], "text": "64", "writes": ["capacity", "reset_counts", "reset"]}
+    same(wanted, element, "left/q in /flat")
+    same([2, 1, 7, 0], next(it for it in flat["connections"] if it[:2] == [2, 1]), "what s [1] is joined to")
+
+
+def reads_in_order(client):
+    handlers = ["config", "s.switch", "x.y", "c.none", "rt.lookup", "hotconfig", "c.reset_counts"]
+    answers = client.ask("/read?" + "&".join(f"handler={it}" for it in handlers)).json()
+    same({"value": WATCHED.encode().decode("latin-1")}, answers[0], "the text, a character for each byte")
+    same({"value": "0"}, answers[1], "s.switch")
+    same({"fault": 510, "text": "510 No element named 'x'\r\n"}, answers[2], "x.y")
+    same({"fault": 511, "text": "511 No handler named 'c.none'\r\n"}, answers[3], "c.none")
+    same({"fault": 520, "text": "520-Read handler 'rt.lookup' error:\r\n520 not an address\r\n"}, answers[4], "rt.lookup")
+    same({"fault": 530, "text": "530 Handler 'hotconfig' write-only\r\n"}, answers[5], "hotconfig")
+    same({"fault": 530, "text": "530 Handler 'c.reset_counts' write-only\r\n"}, answers[6], "c.reset_counts")
+    same(7, len(answers), "answers to 7 reads")
+    same({"value": "64"}, client.ask("/read?handler=left%2Fq.capacity").json()[0], "a handler that is percent-encoded")
+
+
+def limits_reads(client):
+    same(256, len(client.ask("/read?" + "&".join(["handler=version"] * 256)).json()), "answers to 256 reads")
+    for query in ("", "?", "?handler=version&other=1", "?" + "&".join(["handler=version"] * 257)):
+        same(400, client.ask("/read" + query).status, f"/read{query[:40]}")
+    for query in ("", "?handler=s.switch&handler=s.switch", "?other=s.switch"):
+        same(400, client.ask("/write" + query, "POST", b"0", [MARK]).status, f"/write{query}")
+
+
+def wants_methods(client):
+    for method, target in (("POST", "/"), ("POST", "/read?handler=config"), ("DELETE", "/flat"), ("GET", "/swap"), ("GET", "/write?handler=s.switch"), ("PUT", "/swap")):
+        same(405, client.ask(target, method, b"", [MARK]).status, f"{method} {target}")
+    same(404, client.ask("/nothing").status, "GET /nothing")
+
+
+# ---- By sockets: what is refused
+
+
+def refuses_hosts(client):
+    port = client.router.page
+    for host in (f"127.0.0.1:{port}", f"localhost:{port}", f"[::1]:{port}"):
+        same(200, client.ask("/read?handler=version", host=host).status, f"Host {host}")
+    for host in ("evil.example", f"evil.example:{port}", "127.0.0.1", f"127.0.0.1:{port + 1}", f"localhost.evil.example:{port}", f"10.0.0.1:{port}", f"127.0.0.1:0{port}"):
+        same(403, client.ask("/read?handler=version", host=host).status, f"Host {host}")
+        same(403, client.ask("/swap", "POST", b"Idle -> Discard;", [MARK], host=host).status, f"a swap with Host {host}")
+
+
+def refuses_targets(client):
+    same(403, client.ask("http://evil.example/read?handler=version").status, "a target at evil.example")
+
+
+def refuses_foreign_posts(client):
+    """What a form of a foreign page, or its script, can send without being let to."""
+    session = client.session
+    before = session.read("config"), session.read("s.switch")
+    for kind in ("text/plain", "application/x-www-form-urlencoded", "multipart/form-data; boundary=x"):
+        fields = ["origin: http://evil.example", f"content-type: {kind}"]
+        same(403, client.ask("/write?handler=s.switch", "POST", b"1", fields).status, f"a write of {kind}")
+        same(403, client.ask("/swap", "POST", SWAPPED.encode(), fields).status, f"a swap of {kind}")
+    same(before, (session.read("config"), session.read("s.switch")), "the text and s.switch after that")
+
+
+def lets_nobody_in(client):
+    """Each answer of this run, and those to a browser that asks beforehand."""
+    fields = ["origin: http://evil.example", "access-control-request-method: POST", "access-control-request-headers: x-click-page"]
+    same(405, client.ask("/swap", "OPTIONS", fields=fields).status, "OPTIONS /swap")
+    client.ask("/read?handler=config", fields=["origin: http://evil.example"])
+    client.ask("/read?handler=config", fields=["origin: null"])
+    for answer in client.answers:
+        found = [name for name, _ in answer.fields if name.startswith("access-control")]
+        same([], found, f"such fields of an answer with status {answer.status}")
+
+
+def refuses_garbage(client):
+    own = f"host: 127.0.0.1:{client.router.page}\r\n".encode()
+    garbage = {
+        "a beginning of TLS": bytes.fromhex("16030100c8010000c40303") + b"\r\n\r\n",
+        "a line of words": b"what is this\r\n\r\n",
+        "a command of a session": b"READ config\r\n\r\n",
+        "another version": b"GET / HTTP/3.0\r\n" + own + b"\r\n",
+        "no Host": b"GET / HTTP/1.1\r\n\r\n",
+        "two Hosts": b"GET / HTTP/1.1\r\n" + own + own + b"\r\n",
+        "a field without a colon": b"GET / HTTP/1.1\r\n" + own + b"x\r\n\r\n",
+    }
+    for what, sent in garbage.items():
+        same(400, client.send(sent).status, what)
+
+
+def limits_heads(client):
+    many = [f"x-filler-{at}: {'x' * 1000}" for at in range(40)]
+    same(200, client.ask("/read?handler=version", fields=many).status, "a head of 40 KB")
+    sent = f"GET / HTTP/1.1\r\nhost: 127.0.0.1:{client.router.page}\r\nx-filler: ".encode() + b"x" * 65000
+    ends = time.monotonic() + SECONDS
+    with client.connect() as peer:
+        # A router that closes with bytes unread resets the connection: after the limit they come a few at a time.
+        while not select.select([peer], [], [], 0.05)[0]:
+            if time.monotonic() > ends:
+                raise Wrong("a head of more than 64 KiB is not answered")
+            peer.sendall(sent)
+            sent = b"x" * 1000
+        client.answers.append(Answer(received(peer)))
+    same(431, client.answers[-1].status, "a head of more than 64 KiB")
+
+
+def limits_bodies(client):
+    same(200, client.ask("/write?handler=x.y", "POST", b"x" * 1048576, [MARK]).status, "a body of 1 MiB")
+    # The head says how long it is: nothing of it has to come.
+    head = f"POST /write?handler=x.y HTTP/1.1\r\nhost: 127.0.0.1:{client.router.page}\r\n{MARK}\r\nconnection: close\r\ncontent-length: 1048577\r\n\r\n"
+    same(413, client.send(head.encode()).status, "a body of a byte more")
+
+
+def ends_slow_heads(client):
+    """A head that comes a byte at a time, so that no pause is long."""
+    head, ends = f"GET / HTTP/1.1\r\nhost: 127.0.0.1:{client.router.page}\r\nx-slow: ".encode(), time.monotonic() + PATIENCE
+    with client.connect() as peer:
+        peer.settimeout(0.5)
+        peer.sendall(head)
+        while time.monotonic() < ends:
+            try:
+                peer.sendall(b"x")
+                if not peer.recv(65536):
+                    return
+            except TimeoutError:
+                continue
+            except ConnectionError:
+                return
+    raise Wrong(f"a head that comes slowly is not ended in {PATIENCE} s")
+
+
+def limits_connections(client):
+    with contextlib.ExitStack() as all_of_them:
+        for _ in range(32):
+            all_of_them.enter_context(client.connect())
+        time.sleep(0.3)
+        same(503, client.ask("/").status, "GET / over a 33rd connection")
+    until(lambda: client.ask("/").status == 200, "the page is answered once the others have gone")
+
+
+def answers_sessions(client):
+    """A session is answered while the page has all the connections that it takes, and is sent half a head by each."""
+    with contextlib.ExitStack() as all_of_them:
+        for _ in range(32):
+            all_of_them.enter_context(client.connect()).sendall(b"GET / HTTP/1.1\r\n")
+        time.sleep(0.3)
+        for _ in range(20):
+            same("1", client.session.read("version"), "READ version")
+        same(503, client.ask("/").status, "GET / over one more, since the others are still there")
+    until(lambda: client.ask("/").status == 200, "the page is answered once the others have gone")
+
+
+SOCKETS = {
+    "GET / is the page": is_page,
+    "every answer has the policy and the other guards": is_guarded,
+    "/flat is the flat form": is_flat_form,
+    "/read answers in order, values and faults": reads_in_order,
+    "queries have 1 to 256 handlers": limits_reads,
+    "other methods and places are refused": wants_methods,
+    "a foreign Host is refused": refuses_hosts,
+    "a target elsewhere is refused": refuses_targets,
+    "a post of a foreign page is refused and changes nothing": refuses_foreign_posts,
+    "no foreign page is let in": lets_nobody_in,
+    "garbage is refused": refuses_garbage,
+    "a long head is refused": limits_heads,
+    "a long body is refused": limits_bodies,
+    "a slow head is ended": ends_slow_heads,
+    "a 33rd connection is refused": limits_connections,
+    "a control session answers meanwhile": answers_sessions,
+}
+
+
+def try_sockets(tally, router, session):
+    client = Client(router, session)
+    for what, act in SOCKETS.items():
+        tally.check(what, act, client)
+
+
+# ---- By the browser: what an operator sees and does
+
+
+def opens(browser, router):
+    browser.ask("Page.navigate", url=f"http://127.0.0.1:{router.page}/")
+    until(lambda: browser.value("document.querySelectorAll('#drawing [role=button]').length"), "the page has drawn the configuration")
+
+
+def shows_drawing(browser, session):
+    names = browser.value("[...document.querySelectorAll('#drawing g[id^=e]')].map((it) => it.querySelector('text').textContent)")
+    same(WATCHED_NAMES, names, "names in the drawing")
+    same(session.read("list").split()[1:], names, "names in the drawing, by list")
+    lines = browser.value("[...document.querySelectorAll('#drawing polyline')].map((it) => it.id)")
+    same([f"c{at}" for at in range(WATCHED_CONNECTIONS)], lines, "connections in the drawing")
+    gauges = browser.value("[...document.querySelectorAll('#drawing .gauge')].map((it) => it.parentNode.id)")
+    same(["e1", "e3", "e4", "e7", "e8"], gauges, "elements with a live part")
+    same(WATCHED, browser.value("document.querySelector('#editor').value"), "the text in the editor")
+
+
+def number_of(browser, name):
+    """The count that the page shows of a counter."""
+    row = f"[...document.querySelectorAll('#panel tbody tr')].find((it) => it.cells[0].textContent === {name!r})?.cells[2].textContent ?? ''"
+    return int(browser.value(row).replace(",", "").replace("-", "") or 0)
+
+
+def counter_grows(browser):
+    first = until(lambda: number_of(browser, "c"), "the count of c is more than 0")
+    until(lambda: number_of(browser, "c") > first, "the count of c grows")
+    until(lambda: re.fullmatch(r"[\d.]+[KMB]?/s[\d.]+[KMB]?", browser.text("#e1 .gauge")), "c has a rate and a count in the drawing")
+    until(lambda: browser.value("document.querySelector('#e1 .gauge path').getAttribute('d').length") > 10, "c has a line of the last minute")
+    until(lambda: browser.text("#e4 .gauge").endswith("/64"), "left/q has its length and capacity in the drawing")
+
+
+def opens_by_keyboard(browser, at, name):
+    browser.value(f"document.querySelector('#e{at}').focus()")
+    browser.press("Enter", "\r")
+    until(lambda: browser.text("#panel-title") == name, f"Enter opens the panel of {name}")
+    same("panel-title", browser.value("document.activeElement.id"), "what has the focus")
+
+
+def opens_panel(browser):
+    opens_by_keyboard(browser, 2, "s")
+    until(lambda: browser.text("#reads output") == "0", "s.switch is shown as 0")
+    panel = browser.text("#panel")
+    for wanted in ("Switch", "input 0", "output 1", "push", "c [0]", "right/c [0]", "switch"):
+        if wanted not in panel:
+            raise Wrong(f"the panel of s has no {wanted!r}")
+    same("s, Switch", browser.value("document.querySelector('#e2').getAttribute('aria-label')"), "the accessible name of s")
+    browser.press("Escape")
+    until(lambda: browser.value("document.activeElement.id") == "e2", "Escape goes back to s")
+
+
+def keeps_markup_out(browser):
+    opens_by_keyboard(browser, 0, "InfiniteSource@1")
+    same('"<b>ab</b>", -1, 1', browser.text("#facts pre"), "the text of the source")
+    same(0, browser.value("document.querySelectorAll('#panel b').length"), "elements of HTML made of it")
+
+
+def writes(browser, session):
+    opens_by_keyboard(browser, 2, "s")
+    browser.type("#write-switch", "x")
+    browser.press("Enter", "\r")
+    fault = "520-Write handler 's.switch' error:\r\n520 not a number\r\n"
+    until(lambda: browser.text("#panel .write output") == fault, "the fault of a write is shown as it is")
+    same("0", session.read("s.switch"), "s.switch after a fault")
+    browser.type("#write-switch", "1")
+    browser.click("#panel .write button")
+    until(lambda: browser.text("#panel .write output") == "done", "the page says that the write was done")
+    same("1", session.read("s.switch"), "s.switch, as a session reads it")
+    until(lambda: browser.text("#reads output") == "1", "the panel reads it anew")
+
+
+def shows_faults(browser, session):
+    """Columns are bytes; the caret is set by characters."""
+    text = "// \u00e4\u20ac\n/* \u00e4\u20ac \U0001f600 */ Idle -> nowhere;\n"
+    column = len(text.split("\n")[1].split("nowhere")[0].encode()) + 1
+    browser.type("#editor", text)
+    browser.click("#swap")
+    until(lambda: browser.text("#swap-said").startswith(f"Line 2, column {column}:"), f"the fault's place is shown: line 2, column {column}")
+    fault = f"520-Write handler 'hotconfig' error:\r\n520 11 UnknownName at 2:{column}\r\n"
+    if fault not in browser.text("#swap-said"):
+        raise Wrong(f"the fault is shown as {browser.text('#swap-said')!r}")
+    caret = len(text.split("nowhere")[0].encode("utf-16-le")) // 2
+    same(["editor", caret], browser.value("[document.activeElement.id, document.querySelector('#editor').selectionStart]"), "where the caret is")
+    same(WATCHED, session.read("config"), "the text that runs")
+    same(len(WATCHED_NAMES), browser.value("document.querySelectorAll('#drawing g[id^=e]').length"), "elements drawn")
+
+
+def names_drawn(browser):
+    return browser.value("[...document.querySelectorAll('#drawing g[id^=e]')].map((it) => it.querySelector('text').textContent)")
+
+
+def swaps(browser, session):
+    browser.type("#editor", SWAPPED)
+    browser.click("#swap")
+    until(lambda: names_drawn(browser) == SWAPPED_NAMES, "the drawing is of the new text")
+    same(SWAPPED_CONNECTIONS, browser.value("document.querySelectorAll('#drawing polyline').length"), "connections drawn")
+    same(SWAPPED, session.read("config"), "the text that runs")
+    same("Swapped: this text runs.", browser.text("#swap-said"), "what is said of it")
+    until(lambda: number_of(browser, "fresh"), "the new counter counts")
+
+
+def sees_swaps(browser, session):
+    typed = "// not swapped yet"
+    browser.type("#editor", typed)
+    same(b"200 Write handler 'hotconfig' OK\r\n", session.write("hotconfig", WATCHED), "a swap by a session")
+    until(lambda: names_drawn(browser) == WATCHED_NAMES, "the drawing is of the session's text")
+    same(typed, browser.value("document.querySelector('#editor').value"), "what was typed")
+    if "swapped elsewhere" not in browser.text("#news") or "still here" not in browser.text("#kept"):
+        raise Wrong("the page does not say that another session has swapped")
+    browser.click("#take")
+    same(WATCHED, browser.value("document.querySelector('#editor').value"), "the running text")
+
+
+READS = "performance.getEntriesByType('resource').filter((it) => it.name.includes('/read?')).map((it) => it.startTime)"
+
+
+def reads_seldom(browser):
+    browser.value("performance.clearResourceTimings()")
+    time.sleep(4)
+    began = browser.value(READS)
+    if not 2 <= len(began) <= 5:
+        raise Wrong(f"in 4 s it reads {len(began)} times")
+
+
+def is_quiet_when_hidden(browser):
+    hide = "Object.defineProperty(document, 'visibilityState', {{ value: '{}', configurable: true }}); document.dispatchEvent(new Event('visibilitychange'))"
+    browser.value(hide.format("hidden"))
+    time.sleep(1.5)
+    browser.value("performance.clearResourceTimings()")
+    time.sleep(3)
+    same([], browser.value(READS), "reads in a hidden tab")
+    browser.value(hide.format("visible"))
+    until(lambda: browser.value(READS), "it reads again once it is seen")
+
+
+def looks_by_media(browser):
+    """Dark where the reader's screen is, and on paper without controls."""
+    colour = "getComputedStyle(document.querySelector('#panel')).backgroundColor"
+    light = browser.value(colour)
+    browser.ask("Emulation.setEmulatedMedia", features=[{"name": "prefers-color-scheme", "value": "dark"}])
+    if browser.value(colour) == light:
+        raise Wrong("it is not dark")
+    browser.ask("Emulation.setEmulatedMedia", media="print", features=[])
+    shown = "[...document.querySelectorAll('{}')].filter((it) => it.checkVisibility()).length"
+    same(0, browser.value(shown.format("textarea, input, select, button:not(.name)")), "controls on paper")
+    same(2, browser.value(shown.format("#drawing svg, #panel")), "the drawing and the panel on paper")
+    browser.ask("Emulation.setEmulatedMedia", media="", features=[])
+
+
+def has_no_errors(browser):
+    same([], browser.errors(), "errors in the console")
+
+
+def survives_router(browser, router):
+    router.stop()
+    until(lambda: "cannot be read" in browser.text("#trouble"), "the page says that the router is gone")
+    router.start()
+    until(lambda: browser.text("#trouble") == "", "the page reads the router again")
+
+
+def shows_denials(browser, command):
+    with Router(command, WATCHED, "--readonly") as router:
+        opens(browser, router)
+        opens_by_keyboard(browser, 2, "s")
+        browser.type("#write-switch", "1")
+        browser.press("Enter", "\r")
+        until(lambda: browser.text("#panel .write output") == "530 Permission denied for 's.switch'\r\n", "a write is denied")
+        browser.type("#editor", SWAPPED)
+        browser.click("#swap")
+        until(lambda: browser.text("#swap-said") == "530 Permission denied for 'hotconfig'\r\n", "a swap is denied")
+        same(WATCHED_NAMES, names_drawn(browser), "names in the drawing")
+
+
+def try_browser(tally, browser, router, session, command):
+    tally.check("the page opens", opens, browser, router)
+    for what, act, *words in [
+        ("the drawing has each element and each connection", shows_drawing, session),
+        ("a counter's number grows", counter_grows),
+        ("a panel opens and closes by the keyboard", opens_panel),
+        ("names and texts are no markup", keeps_markup_out),
+        ("a write by the page is seen by a session", writes, session),
+        ("a fault of a swap is shown with its place and changes nothing", shows_faults, session),
+        ("a good swap redraws", swaps, session),
+        ("a swap by a session is noticed", sees_swaps, session),
+        ("it reads once a second", reads_seldom),
+        ("it reads nothing in a hidden tab", is_quiet_when_hidden),
+        ("it is dark on a dark screen, and prints", looks_by_media),
+        ("the browser finds no error", has_no_errors),
+    ]:
+        tally.check(what, act, browser, *words)
+    session.close()
+    tally.check("a router that is gone and comes back", survives_router, browser, router)
+    tally.check("a router that may only be read", shows_denials, browser, command)
+
+
+def take_shots(browser, command, folder):
+    os.makedirs(folder, exist_ok=True)
+    browser.ask("Emulation.setEmulatedMedia", features=[{"name": "prefers-color-scheme", "value": "light"}])
+    for name, path in SHOTS.items():
+        with Router(command, text_of(path)) as router:
+            opens(browser, router)
+            time.sleep(15)
+            browser.shoot(f"{folder}/{name}.png")
+
+
+# ---- All of it
+
+# Which check has to see what the mock can be wrong in.
+SEEN_BY = {
+    "no-host-check": "a foreign Host is refused",
+    "no-target-check": "a target elsewhere is refused",
+    "no-mark-check": "a post of a foreign page is refused and changes nothing",
+    "cors": "no foreign page is let in",
+    "no-policy": "every answer has the policy and the other guards",
+    "other-policy": "every answer has the policy and the other guards",
+    "other-page": "GET / is the page",
+    "no-method-check": "other methods and places are refused",
+    "any-query": "queries have 1 to 256 handlers",
+    "slow-heads": "a slow head is ended",
+    "takes-garbage": "garbage is refused",
+    "long-heads": "a long head is refused",
+    "long-bodies": "a long body is refused",
+    "many-connections": "a 33rd connection is refused",
+    "stuck-sessions": "a control session answers meanwhile",
+    "other-flat": "/flat is the flat form",
+    "other-element": "the drawing has each element and each connection",
+    "less-connections": "the drawing has each element and each connection",
+    "still-counter": "a counter's number grows",
+    "lost-write": "a write by the page is seen by a session",
+    "other-place": "a fault of a swap is shown with its place and changes nothing",
+    "no-place": "a fault of a swap is shown with its place and changes nothing",
+    "fault-installs": "a fault of a swap is shown with its place and changes nothing",
+    "no-redraw": "a good swap redraws",
+    "unseen-swap": "a swap by a session is noticed",
+    "no-denial": "a router that may only be read",
+    "page-with-markup": "names and texts are no markup",
+    "page-without-keys": "a panel opens and closes by the keyboard",
+    "page-of-characters": "a fault of a swap is shown with its place and changes nothing",
+    "page-that-forgets": "a swap by a session is noticed",
+    "page-in-a-hurry": "it reads once a second",
+    "page-unseen": "it reads nothing in a hidden tab",
+    "page-light": "it is dark on a dark screen, and prints",
+    "page-on-paper": "it is dark on a dark screen, and prints",
+    "page-from-elsewhere": "the browser finds no error",
+    "page-with-attribute": "the browser finds no error",
+    "page-that-says-nothing": "a router that is gone and comes back",
+    "page-that-gives-up": "a router that is gone and comes back",
+}
+
+
+def try_wrongs(names):
+    """Where the mock is wrong, the check of that point fails."""
+    tally = Tally()
+    same(sorted(page_mock.WRONGS), sorted(SEEN_BY), "what the mock can be wrong in")
+    for wrong in names or SEEN_BY:
+        what = SEEN_BY[wrong]
+
+        def is_seen():
+            part = "sockets" if what in SOCKETS else "browser"
+            did = subprocess.run([sys.executable, __file__, "--mock", "--wrong", wrong, "--part", part], capture_output=True, text=True)
+            if did.returncode != 1 or f"FAILED  {what}" not in did.stdout:
+                raise Wrong(f"it ended with {did.returncode}, and said {did.stdout[-1500:]}{did.stderr[-500:]}")
+
+        tally.check(f"a mock with {wrong} is found out by: {what}", is_seen)
+    return tally
+
+
+def try_all(command, given):
+    tally = Tally()
+    program = shutil.which("chromium")
+    with Router(command, WATCHED) as router:
+        session = Session(router)
+        if given.part != "browser":
+            try_sockets(tally, router, session)
+        if given.part == "sockets":
+            return tally
+        if not program:
+            print("left out: the browser's part, since there is no chromium (apt-get install chromium)")
+            return tally
+        browser = Browser(program)
+        try:
+            try_browser(tally, browser, router, session, command)
+            if given.shots:
+                take_shots(browser, command, given.shots)
+        finally:
+            browser.close()
+    return tally
+
+
+def main():
+    words = argparse.ArgumentParser()
+    words.add_argument("--mock", action="store_true")
+    words.add_argument("--wrong", choices=page_mock.WRONGS)
+    words.add_argument("--wrongs", nargs="*", metavar="WHAT")
+    words.add_argument("--part", choices=["sockets", "browser"])
+    words.add_argument("--shots")
+    words.add_argument("command", nargs=argparse.REMAINDER)
+    given = words.parse_args()
+    command = given.command or [f"{TOP}/crates/click_prog/out/click_prog"]
+    if given.mock:
+        command = [sys.executable, f"{TOP}/tools/page_mock.py", *(["--wrong", given.wrong] if given.wrong else [])]
+    try:
+        tally = try_all(command, given) if given.wrongs is None else try_wrongs(given.wrongs)
+    except (Wrong, BrowserFault, OSError) as wrong:
+        sys.exit(f"page.py: {wrong}")
+    print(f"{tally.passed} passed, {len(tally.failed)} failed")
+    return 1 if tally.failed else 0
+
+
+if __name__ == "__main__":
+    sys.exit(main())

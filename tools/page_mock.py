@@ -1,0 +1,444 @@
+#!/usr/bin/env python3
+"""A page's router without the router: it answers as crates/click_page/specs say, over a few configurations whose pictures are at hand, with numbers that move.
+For trying crates/click_page/page/page.html, and tools/page.py, where nothing is built.
+
+    page_mock.py -e TEXT --page PORT [-p PORT] [--readonly] [--wrong WHAT]
+
+It knows the texts of tools/page_mock, of examples/counter.click and compounds.click, and of examples/calls/ip_router.click; all others are faulty: at the word
+`nowhere`, else at their end. With --wrong it is wrong in one point (WRONGS below), so that it is seen that tools/page.py looks there. Other options of
+click_prog are taken and mean nothing.
+"""
+import argparse
+import base64
+import hashlib
+import json
+import math
+import os
+import re
+import socket
+import sys
+import threading
+import time
+import urllib.parse
+
+TOP = os.path.dirname(os.path.dirname(os.path.realpath(__file__)))
+MOCK = f"{TOP}/tools/page_mock"
+PAGE = f"{TOP}/crates/click_page/page/page.html"
+PICTURES = {
+    f"{MOCK}/watched.click": f"{MOCK}/watched.svg",
+    f"{MOCK}/swapped.click": f"{MOCK}/swapped.svg",
+    f"{TOP}/examples/counter.click": f"{MOCK}/counter.svg",
+    f"{TOP}/examples/compounds.click": f"{MOCK}/compounds.svg",
+    f"{TOP}/examples/calls/ip_router.click": f"{TOP}/docs/ip_router.svg",
+}
+QUEUE = ["length", "highwater_length", "drops", "capacity"], ["capacity", "reset_counts", "reset"]
+HANDLERS = {
+    "Queue": QUEUE,
+    "FrontDropQueue": QUEUE,
+    "Counter": (["count", "byte_count"], ["reset_counts"]),
+    "Switch": (["switch"], ["switch"]),
+    "InfiniteSource": (["active", "count"], ["active", "reset"]),
+    "StaticIPLookup": (["lookup"], []),
+}
+OWN = ["version", "list", "config", "flatconfig", "classes", "overruns"]
+REASONS = {200: "OK", 400: "Bad Request", 403: "Forbidden", 404: "Not Found", 405: "Method Not Allowed", 413: "Content Too Large", 431: "Request Header Fields Too Large", 503: "Service Unavailable"}
+MOST_HEAD, MOST_BODY, MOST_CONNECTIONS = 65536, 1048576, 32
+# Less than the router takes, so that a test need not wait as long.
+SECONDS_FOR_A_HEAD, SECONDS_BETWEEN = 3, 30
+# What it can be wrong in, each of which tools/page.py has to see.
+WRONGS = """no-host-check no-target-check no-mark-check cors no-policy other-policy other-page no-method-check slow-heads takes-garbage long-heads long-bodies
+many-connections stuck-sessions other-element less-connections other-flat still-counter lost-write other-place no-place fault-installs no-redraw unseen-swap
+no-denial any-query""".split()
+# Edits of the page: what stands there once, and what is put in its place.
+PAGE_EDITS = {
+    "page-with-markup": ("it.textContent = text;\n  for", "it.innerHTML = text;\n  for"),
+    "page-without-keys": ('$("drawing").addEventListener("keydown", press);', ""),
+    "page-of-characters": ('encoder.encode(lines.pop() ?? "").subarray(0, column - 1)', 'encoder.encode((lines.pop() ?? "").slice(0, column - 1))'),
+    "page-that-forgets": ("isKept = isTouched()", "isKept = false"),
+    "page-in-a-hurry": ("began + SECOND - performance.now()", "began + SECOND / 5 - performance.now()"),
+    "page-unseen": ('document.visibilityState === "hidden"', "false"),
+    "page-light": ("screen and (prefers-color-scheme: dark)", "screen and (prefers-color-scheme: none)"),
+    "page-on-paper": ("@media print", "@media speech"),
+    "page-from-elsewhere": ('href="data:,"', 'href="https://127.0.0.1:1/icon.png"'),
+    "page-with-attribute": ('<main>', '<main onclick="this.title = 1"><script>0</script>'),
+    "page-that-says-nothing": ("The router cannot be read, and is tried", "The router is tried"),
+    "page-that-gives-up": ("  isRunning = false;\n  plan();\n", '  if ($("trouble").textContent === "") isRunning = false, plan();\n'),
+}
+WRONGS += PAGE_EDITS
+
+
+class Fault(Exception):
+    """Why there is no value: the number and the lines that a session is told."""
+
+    def __init__(self, number, *lines):
+        super().__init__(number)
+        self.number = number
+        self.text = "".join(f"{number}{' ' if line is lines[-1] else '-'}{line}\r\n" for line in lines)
+
+
+def text_in(text, name, kind):
+    """An element's text; where it is a parameter, the argument of its compound's element."""
+    *way, own = map(re.escape, name.split("/"))
+    found = re.search(rf"\b{own} :: \w+\(([^;]*?)\)(?= ->|;)", text) or re.search(rf"\b{kind}\(([^;]*?)\)(?= ->|;)", text)
+    written = found[1] if found else ""
+    return text_in(text, way[-1], "") if way and written.startswith("$") else written
+
+
+def flat_of(picture, text):
+    """The flat form of a picture: the marks of ports say what they are, and the ends of lines which ones they join."""
+    elements, places = [], {}
+    for at, x, y, rest in re.findall(r'<g id="e(\d+)" transform="translate\((\d+),(\d+)\)">(.*)</g>', picture):
+        name, kind = re.findall(r"<text[^>]*>([^<]*)</text>", rest)
+        marks = re.findall(r'<path class="(push|pull)" d="M(\d+) \d+(h10l-5|h8v7h)[^>]*/>(<path class="rim")?', rest)
+        sides = [[], []]
+        for way, mark, outline, rim in marks:
+            is_output = outline == "h8v7h"
+            end = (int(x) + int(mark) + (4 if is_output else 5), int(y) + (46 if is_output else 0))
+            places[is_output, end] = int(at), len(sides[is_output])
+            sides[is_output].append({"agnostic": bool(rim), "pull": way == "pull"})
+        reads, writes = HANDLERS.get(kind, ([], []))
+        elements.append({"class": kind, "inputs": sides[0], "name": name, "outputs": sides[1], "reads": reads, "text": text_in(text, name, kind), "writes": writes})
+    connections = []
+    for points in re.findall(r'<polyline id="c\d+" points="([^"]*)"', picture):
+        ends = [tuple(map(int, point.split(","))) for point in points.split()]
+        connections.append([*places[True, ends[0]], *places[False, ends[-1]]])
+    return {"connections": connections, "elements": elements}
+
+
+def file_text(path):
+    with open(path, encoding="utf-8", newline="") as it:
+        return it.read()
+
+
+class Router:
+    """What a page and a session have in common: calls of handlers."""
+
+    def __init__(self, text, readonly, wrong):
+        self.readonly, self.wrong, self.began = readonly, wrong, time.monotonic()
+        self.lock, self.written, self.begins = threading.Lock(), {}, {}
+        self.install(text)
+
+    def install(self, text):
+        """The words of a shell lose the line ends at a text's end, so these do not count."""
+        for file, picture in PICTURES.items():
+            if file_text(file).rstrip() == text.rstrip():
+                self.text, self.picture = text, file_text(picture)
+                self.flat = flat_of(self.picture, text)
+                return
+        before = text[: text.find("nowhere")] if "nowhere" in text else text
+        line, column = before.count("\n") + 1, len(before.encode().split(b"\n")[-1]) + 1
+        name = "11 UnknownName" if "nowhere" in text else "4 Unexpected"
+        place = {"other-place": f" at {line}:{column + 1}", "no-place": ""}.get(self.wrong, f" at {line}:{column}")
+        if self.wrong == "fault-installs":
+            self.text = text
+        raise Fault(520, "Write handler 'hotconfig' error:", name + place)
+
+    def element(self, handler):
+        name, _, own = handler.rpartition(".")
+        found = [it for it in self.flat["elements"] if it["name"] == name]
+        if not found:
+            raise Fault(510, f"No element named '{name}'")
+        return self.flat["elements"].index(found[0]), found[0], own
+
+    def moving(self, at, own, element):
+        """A number of now: counts that grow by turns fast and slowly, and lengths that rise and fall."""
+        seconds = time.monotonic() - self.began
+        if own == "length":
+            return int(self.capacity(element) * (0.5 + 0.5 * math.sin(seconds / 4 + at)))
+        grown = 0 if self.wrong == "still-counter" else int(1000 * (at + 1) * (seconds + 3 * math.sin(seconds / 3 + at) + 3))
+        return (grown - self.begins.get(element["name"], 0)) * (64 if own == "byte_count" else 1)
+
+    def capacity(self, element):
+        return int(self.written.get(element["name"] + ".capacity", element["text"] if element["text"].isdigit() else "64"))
+
+    def read(self, handler):
+        if handler in OWN:
+            return self.read_own(handler)
+        if handler == "hotconfig":
+            raise Fault(530, "Handler 'hotconfig' write-only")
+        if "." not in handler:
+            raise Fault(511, f"No handler named '{handler}'")
+        at, element, own = self.element(handler)
+        if own not in element["reads"]:
+            raise Fault(530, f"Handler '{handler}' write-only") if own in element["writes"] else Fault(511, f"No handler named '{handler}'")
+        if own == "lookup":
+            raise Fault(520, f"Read handler '{handler}' error:", "not an address")
+        fixed = {"switch": "0", "active": "true", "drops": "0", "capacity": str(self.capacity(element)), "highwater_length": str(self.capacity(element))}
+        return self.written.get(handler) or fixed.get(own) or str(self.moving(at, own, element))
+
+    def read_own(self, handler):
+        names = [it["name"] for it in self.flat["elements"]]
+        joined = [f"{names[a]} [{p}] -> [{q}] {names[b]};\n" for a, p, b, q in self.flat["connections"]]
+        declared = [f"{it['name']} :: {it['class']}({it['text']});\n" for it in self.flat["elements"]]
+        made = {"version": "1", "overruns": "0", "classes": "".join(it + "\n" for it in HANDLERS), "flatconfig": "".join(declared + joined)}
+        return {**made, "list": "\n".join([str(len(names)), *names, ""]), "config": self.text}[handler]
+
+    def write(self, handler, text):
+        if self.readonly and self.wrong != "no-denial":
+            raise Fault(530, f"Permission denied for '{handler}'")
+        if handler == "hotconfig":
+            return self.install(text)
+        if handler in OWN:
+            raise Fault(530, f"Handler '{handler}' read-only")
+        at, element, own = self.element(handler)
+        if own not in element["writes"]:
+            raise Fault(530, f"Handler '{handler}' read-only") if own in element["reads"] else Fault(511, f"No handler named '{handler}'")
+        if own in ("switch", "capacity") and not text.strip().isdigit():
+            raise Fault(520, f"Write handler '{handler}' error:", "not a number")
+        if own == "reset_counts":
+            self.begins[element["name"]] = self.begins.get(element["name"], 0) + self.moving(at, "count", element)
+        elif own in element["reads"]:
+            self.written[handler] = text.strip()
+
+    def call(self, act, *words):
+        """A value, None where something is done, or a Fault."""
+        with self.lock:
+            try:
+                return act(*words)
+            except Fault as fault:
+                return fault
+
+
+def as_json(data):
+    """Each byte of a text as the character of its number, which JSON then has in UTF-8."""
+    said = json.dumps(data, separators=(",", ":"), ensure_ascii=False, default=str)
+    return said.encode()
+
+
+def as_bytes(text):
+    return text.encode().decode("latin-1")
+
+
+def entry(answer):
+    if isinstance(answer, Fault):
+        return {"fault": answer.number, "text": as_bytes(answer.text)}
+    return {"done": True} if answer is None else {"value": as_bytes(answer)}
+
+
+class Page:
+    """The page over a router, for one connection after another."""
+
+    def __init__(self, router, port, wrong):
+        self.router, self.port, self.wrong = router, port, wrong
+        self.page = file_text(PAGE).replace(*PAGE_EDITS.get(wrong, ("", "", 0))).encode() + (b"<!-- -->\n" if wrong == "other-page" else b"")
+        self.places, self.lock = MOST_CONNECTIONS, threading.Lock()
+        script = max(re.findall(rb"<script>(.*?)</script>", self.page, re.S), key=len)
+        digest = base64.b64encode(hashlib.sha256(script).digest()).decode()
+        self.policy = f"default-src 'none'; script-src 'sha256-{digest}'; style-src 'unsafe-inline'; connect-src 'self'; img-src 'self' data:; base-uri 'none'; form-action 'none'; frame-ancestors 'none'"
+        if wrong == "other-policy":
+            self.policy += "; font-src *"
+
+    def respond(self, status, kind, body, closes=False):
+        guards = {"cache-control": "no-store", "content-security-policy": self.policy, "x-content-type-options": "nosniff", "x-frame-options": "DENY"}
+        guards |= {"cross-origin-resource-policy": "same-origin", "referrer-policy": "no-referrer"}
+        if self.wrong == "no-policy":
+            del guards["content-security-policy"]
+        if self.wrong == "cors":
+            guards["access-control-allow-origin"] = "*"
+        fields = {"content-type": kind, **guards, "content-length": len(body), **({"connection": "close"} if closes else {})}
+        return f"HTTP/1.1 {status} {REASONS[status]}\r\n".encode() + b"".join(b"%s: %s\r\n" % (k.encode(), str(v).encode()) for k, v in fields.items()) + b"\r\n" + body
+
+    def refuse(self, status, line):
+        return self.respond(status, "text/plain; charset=utf-8", line.encode() + b"\n")
+
+    def answer(self, method, target, fields, body):
+        """What a request with this head and body is answered: crates/click_page/specs/Asking.antt and Saying.antt."""
+        names = [f"{name}{port}" for name in ("127.0.0.1", "localhost", "[::1]") for port in ([f":{self.port}", ""] if self.port == 80 else [f":{self.port}"])]
+        hosts = [value for name, value in fields if name == "host"]
+        place = urllib.parse.urlsplit(target)
+        if self.wrong != "no-target-check" and place.netloc or self.wrong != "no-host-check" and (len(hosts) != 1 or hosts[0] not in names):
+            return self.refuse(403, "this page is at 127.0.0.1 alone")
+        wanted = {"/": "GET", "/picture.svg": "GET", "/flat": "GET", "/read": "GET", "/write": "POST", "/swap": "POST"}.get(place.path)
+        if wanted is None:
+            return self.refuse(404, "there is nothing of that name")
+        if method != wanted and self.wrong != "no-method-check":
+            return self.refuse(405, "another method is wanted here")
+        if wanted == "POST" and self.wrong != "no-mark-check" and not any(name == "x-click-page" for name, _ in fields):
+            return self.refuse(403, "a write needs the header x-click-page")
+        pairs = urllib.parse.parse_qsl(place.query, keep_blank_values=True)
+        handlers = [value for name, value in pairs if name == "handler"]
+        most = {"/read": 256, "/write": 1}.get(place.path)
+        if most and self.wrong != "any-query" and (len(handlers) != len(pairs) or not 1 <= len(handlers) <= most):
+            return self.refuse(400, "the query names no handlers, or too many")
+        return self.say(place.path, handlers, body.decode(errors="replace"))
+
+    def say(self, path, handlers, text):
+        call, router = self.router.call, self.router
+        if path == "/":
+            return self.respond(200, "text/html; charset=utf-8", self.page)
+        if path == "/picture.svg":
+            return self.respond(200, "image/svg+xml", self.picture().encode())
+        if path == "/flat":
+            flat = router.flat if self.wrong != "other-flat" else {**router.flat, "elements": router.flat["elements"][::-1]}
+            return self.respond(200, "application/json", as_json(flat))
+        if path == "/read":
+            said = [entry(call(router.read, it)) for it in handlers]
+            return self.respond(200, "application/json", as_json(self.read(handlers, said)))
+        if self.wrong == "lost-write" and path == "/write":
+            return self.respond(200, "application/json", as_json({"done": True}))
+        return self.respond(200, "application/json", as_json(entry(call(router.write, "hotconfig" if path == "/swap" else handlers[0], text))))
+
+    def read(self, handlers, said):
+        if self.wrong == "unseen-swap":
+            self.first = getattr(self, "first", as_bytes(self.router.text))
+            return [{"value": self.first} if it == "config" else one for it, one in zip(handlers, said)]
+        return said
+
+    def picture(self):
+        """The picture of now, or one that is wrong in a point."""
+        picture = self.router.picture
+        if self.wrong == "no-redraw":
+            self.old = picture = getattr(self, "old", picture)
+        if self.wrong == "less-connections":
+            picture = re.sub(r"<polyline [^>]*/>\n", "", picture, count=1)
+        return picture.replace(">rt<", ">rx<") if self.wrong == "other-element" else picture
+
+    def take(self, peer):
+        """A place for a connection, where there is one."""
+        with self.lock:
+            if self.places == 0 and self.wrong != "many-connections":
+                peer.sendall(self.respond(503, "text/plain; charset=utf-8", b"", True))
+                return False
+            self.places -= 1
+            return True
+
+    def serve(self, peer):
+        try:
+            if self.take(peer):
+                try:
+                    self.converse(peer)
+                finally:
+                    with self.lock:
+                        self.places += 1
+        except OSError:
+            pass  # the peer has left, or was too slow
+        finally:
+            peer.close()
+
+    def converse(self, peer):
+        rest = b""
+        while True:
+            head, rest = self.head(peer, rest)
+            if head is None:
+                return
+            asked = self.request(head)
+            if refusal := self.refusal_of(head, asked):
+                return self.part(peer, refusal)
+            method, target, fields, length = asked
+            while len(rest) < length:
+                rest += self.more(peer)
+            body, rest = rest[:length], rest[length:]
+            peer.sendall(self.answer(method, target, fields, body))
+            if ("connection", "close") in fields:
+                return
+
+    def refusal_of(self, head, asked):
+        """The status for what is too long or no request; None for what is answered."""
+        if len(head) > MOST_HEAD:
+            return 431
+        if asked is None:
+            return 400
+        return 413 if asked[3] > MOST_BODY and self.wrong != "long-bodies" else None
+
+    def part(self, peer, status):
+        """Ends a connection. What the peer still sends is read, since it would reset the connection before the peer has read the answer."""
+        peer.sendall(self.respond(status, "text/plain; charset=utf-8", b"", True))
+        peer.shutdown(socket.SHUT_WR)
+        while peer.recv(65536):
+            pass
+
+    def more(self, peer):
+        piece = peer.recv(65536)
+        if not piece:
+            raise OSError("the peer has left")
+        return piece
+
+    def head(self, peer, rest):
+        """A head up to its blank line, with a limit to its length, and to its time from the first bytes on; None where the peer leaves before it is whole."""
+        ends = None
+        while b"\r\n\r\n" not in rest and (len(rest) <= MOST_HEAD or self.wrong == "long-heads") and rest.count(b"\n") == rest.count(b"\r\n"):
+            peer.settimeout(SECONDS_BETWEEN if ends is None or self.wrong == "slow-heads" else max(0.01, ends - time.monotonic()))
+            piece = peer.recv(65536)
+            if not piece:
+                return None, b""
+            ends = ends or time.monotonic() + SECONDS_FOR_A_HEAD
+            rest += piece
+        head, _, rest = rest.partition(b"\r\n\r\n")
+        return (head[:MOST_HEAD] if self.wrong == "long-heads" else head), rest
+
+    def request(self, head):
+        """The method, the target, the fields and the body's length, or None for what is no request."""
+        try:
+            first, *lines = head.decode("latin-1").split("\r\n")
+            method, target, version = re.fullmatch(r"([!-~]+) ([!-~]+) HTTP/1\.([01])", first).groups()
+            fields = [re.fullmatch(r"([!#-'*+.0-9A-Z^-z|~-]+):[ \t]*(.*?)[ \t]*", line).groups() for line in lines]
+        except AttributeError:
+            return ("GET", "/", [("host", f"127.0.0.1:{self.port}")], 0) if self.wrong == "takes-garbage" else None
+        fields = [(name.lower(), value) for name, value in fields]
+        if len([name for name, _ in fields if name == "host"]) != 1:
+            return None
+        return method, target, fields, int(dict(fields).get("content-length", 0))
+
+
+class Sessions:
+    """Control sessions, as far as tools/page.py speaks them."""
+
+    def __init__(self, router, page):
+        self.router, self.page = router, page
+
+    def serve(self, peer):
+        with peer, peer.makefile("rwb") as it:
+            it.write(b"Click::ControlSocket/1.3\r\n")
+            it.flush()
+            while line := it.readline():
+                while self.page.wrong == "stuck-sessions" and self.page.places < 2:
+                    time.sleep(0.1)
+                word, _, rest = line.decode().strip().partition(" ")
+                handler, _, text = rest.partition(" ")
+                if word == "WRITEDATA":
+                    text = it.read(int(text)).decode()
+                it.write(self.reply(word, handler, text))
+                it.flush()
+
+    def reply(self, word, handler, text):
+        answer = self.router.call(self.router.read, handler) if word == "READ" else self.router.call(self.router.write, handler, text)
+        if isinstance(answer, Fault):
+            return answer.text.encode()
+        if answer is None:
+            return f"200 Write handler '{handler}' OK\r\n".encode()
+        return f"200 Read handler '{handler}' OK\r\nDATA {len(answer.encode())}\r\n{answer}".encode()
+
+
+def listen(port, serve):
+    """Serves each connection at a port of 127.0.0.1 in a thread of its own."""
+    listener = socket.create_server(("127.0.0.1", port), backlog=128)
+
+    def accept():
+        while True:
+            peer, _ = listener.accept()
+            threading.Thread(target=serve, args=(peer,), daemon=True).start()
+
+    threading.Thread(target=accept, daemon=True).start()
+
+
+def main():
+    words = argparse.ArgumentParser()
+    words.add_argument("-e", dest="text", required=True)
+    words.add_argument("--page", type=int, required=True)
+    words.add_argument("-p", dest="port", type=int)
+    words.add_argument("--readonly", action="store_true")
+    words.add_argument("--wrong", choices=WRONGS, default="")
+    given, _ = words.parse_known_args()
+    for name, (old, _) in PAGE_EDITS.items():
+        if file_text(PAGE).count(old) != 1:
+            sys.exit(f"page_mock.py: {name}: this does not stand in the page once: {old}")
+    router = Router(given.text, given.readonly, given.wrong)
+    page = Page(router, given.page, given.wrong)
+    listen(given.page, page.serve)
+    if given.port:
+        listen(given.port, Sessions(router, page).serve)
+    threading.Event().wait()
+
+
+if __name__ == "__main__":
+    main()
