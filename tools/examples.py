@@ -130,7 +130,7 @@ def manual_pages():
     """The classes in their order, and their manual pages in the sources, each as a section of docs/ELEMENTS.md: its first line after the name, its example as a
     block."""
     folder = "crates/click_classes/src"
-    order = re.findall(r"^    Class::(\w+),$", text_of(f"{folder}/class.rt"), re.M)
+    order = re.findall(r"^    Class::(\w+),$", text_of("crates/click_base/src/class.rt"), re.M)
     pages, page, name = {}, "", ""
     for line in (it for file in names_in(f"{folder}/classes", ".rt") for it in lines_of(f"{folder}/classes/{file}.rt")):
         begun_here = re.match(r"/// ([A-Za-z]+)[(:]", line)

@@ -113,7 +113,7 @@ def home_of(crate, folder, own, name):
 
 def path_of(crate, folder, file, head):
     """The path under which the prover prints what an impl has: `module::Type` with the type's module, or `module::TypeTrait` with the impl's, for one of a trait, or
-    `module::Type+T+ref+R` with the impl's, for one of a type at a loan."""
+    `module::Type+T+ref+R` with the impl's, for one of a type at a loan, and `module::Type+u8` with the type's, for one of a type at others."""
     plain, depth = "", 0
     words = re.sub(r"^(unsafe )?impl\b", "", head)
     for at, byte in enumerate(words):
@@ -127,6 +127,10 @@ def path_of(crate, folder, file, head):
         # The impl of a type at a loan is one of the impl's own module, and its name has the arguments.
         given = (re.sub(r"&('\w+ )?", "ref+", it.strip()) for it in loans[1].split(","))
         return f"{module_of(crate, file)}::{'+'.join((last(trait), *given))}"
+    others = re.match(r" ([\w:]+)<([^<>&']+)>\s*{", words)
+    if others and not is_for:
+        given = (it.strip() for it in others[2].split(","))
+        return f"{home_of(crate, folder, file, last(trait))}::{'+'.join((last(trait), *given))}"
     return f"{module_of(crate, file)}::{last(name)}{last(trait)}" if is_for else f"{home_of(crate, folder, file, last(trait))}::{last(trait)}"
 
 

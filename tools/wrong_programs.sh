@@ -565,7 +565,7 @@ QUICK=1 wrong_example captures docs/PCAP.md '/^An example/d' 's/^    read 3/    
     's/^    > click_pcap/    > click_calls/' 's/^    rt -> DecIPTTL/    rt -> Paint(1)/' '/^The configuration/d'
 wrong_example sections docs/ELEMENTS.md 's/^## Tee$/## Tea/' '/^## Tee$/,/^## PullTee$/d' 's/Tee(2)/Tee(3)/' 's/Packets pass\./Packets pass on./' \
     '0,/^```calls$/s//```/' '0,/^> transmit b/s//> transmit a/' 's/^sent 61 255 /sent 61 254 /' '/^nodevice$/d' '$a ```calls\nIdle;\n> round\nworked 0\n```' '$d'
-wrong_example sections crates/click_classes/src/class.rt '/^    Class::Tee,/d'
+wrong_example sections crates/click_base/src/class.rt '/^    Class::Tee,/d'
 wrong_example faults docs/FAULTS.md '/^| 23 /d' 's/^| 23 BadText/| 23 BadWord/' 's/^| 23 /| 27 /' '/^| 23 /p' 's/at 1:48/at 1:49/' \
     's/17 BrokenText in P@2/17 BrokenText in P@3/' 's/Idle => Discard/Idle -> Discard/' 's/^| /- /'
 wrong_example faults crates/click_router/src/fault.rt 's/ = 23,/ = 99,/'

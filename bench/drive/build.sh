@@ -12,7 +12,7 @@ find "$crate" -name '*.rattle' -exec bash -c 'mv "$1" "${1%.rattle}.rt"' _ {} \;
 find "$crate" -name '*.proof' -exec bash -c 'mv "$1" "${1%.proof}.antt"' _ {} \;
 {
     cat "$top/crates.txt"
-    echo 'click_drive: click_text click_packet click_rings click_classes click_expand click_ports click_engine click_handlers click_router click_desk'
+    echo 'click_drive: click_base click_text click_packet click_rings click_classes click_expand click_ports click_engine click_handlers click_router click_desk'
 } > "$1/crates.txt"
 cp "$top/HANDLES" "$1/HANDLES"
 cd "$crate"

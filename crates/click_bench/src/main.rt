@@ -16,7 +16,7 @@ mod refeeding;
 mod retrying;
 mod telling;
 
-use click_classes::Class;
+use click_base::Class;
 use click_text::{LONGEST_TEXT, parse};
 use std::alloc::{AllocError, Global};
 use std::io::Read;

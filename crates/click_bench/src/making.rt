@@ -1,6 +1,7 @@
 //! Makes elements with many arguments.
 
-use click_classes::{Class, State, class_of, make};
+use click_base::{Class, class_of};
+use click_classes::{State, make};
 use std::alloc::{AllocError, Global};
 use std::io;
 use std::io::Read;

@@ -6,13 +6,13 @@ ghost use Rattle.std.specs.List.{All};
 ghost use Rattle.click_router.specs.Polls.{is_poll};
 
 use crate::telling::{tell_entries, tell_left, tell_list};
+use click_base::sequence::Sequence;
 use click_desk::{Book, Desk, DeskFault, Seat, View};
 use click_handlers::{Table, TakesTable, with_table};
 use click_packet::{Packet, StoredPacket};
 use click_rings::opening::feed as make_feed;
 use click_rings::{Feed, FeedEnd, Inlet};
 use click_router::{Call, Handlers, Reply};
-use click_text::sequence::Sequence;
 use std::alloc::{AllocError, Global};
 use std::sync::Wait;
 use std::thread::Threads;
@@ -77,7 +77,7 @@ fn open_again<'a, T: Drop, R: Wait>(
 ) -> io::Result<Option<Opened<'a, T, R>>>
     ensures desk { IfOk result (λ o. IfSome o (λ r. All (λ s. s.desk ≡ r.0) r.1.items)) }
     ensures fed { IfOk result (λ o. IfSome o (λ r. All (λ s. s.feeds ≡ inlets.items) r.1.items)) }
-    ensures views { IfOk result (λ o. IfSome o (λ r. All (λ v. v.board ≡ r.0.terms.origin) r.2.items)) }
+    ensures views { IfOk result (λ o. IfSome o (λ r. All (λ v. v.board ≡ r.0.options.origin) r.2.items)) }
 {
     let alloc = host.alloc();
     match Desk::open_with_views(rt, alloc, table, RUNNING, 10, 1, inlets, 1) {
@@ -96,7 +96,7 @@ fn read(alloc: Global, name: &[u8]) -> Result<Call, AllocError>
     ensures { IfOk result (λ call. is_poll call ≡ false) }
 {
     Ok(Call::Read {
-        name: Sequence::of(Vec::from_slice(alloc, name)?),
+        name: Sequence::copy_of(alloc, name)?,
         text: Sequence::new(alloc),
     })
 }
@@ -106,8 +106,8 @@ fn write(alloc: Global) -> Result<Call, AllocError>
     ensures { IfOk result (λ call. is_poll call ≡ false) }
 {
     Ok(Call::Write {
-        name: Sequence::of(Vec::from_slice(alloc, b"q.capacity")?),
-        text: Sequence::of(Vec::from_slice(alloc, b"3")?),
+        name: Sequence::copy_of(alloc, b"q.capacity")?,
+        text: Sequence::copy_of(alloc, b"3")?,
     })
 }
 
@@ -116,7 +116,7 @@ fn swap(alloc: Global) -> Result<Call, AllocError>
     ensures { IfOk result (λ call. is_poll call ≡ false) }
 {
     Ok(Call::Swap {
-        text: Sequence::of(Vec::from_slice(alloc, NEXT)?),
+        text: Sequence::copy_of(alloc, NEXT)?,
     })
 }
 
@@ -125,7 +125,7 @@ fn transmit(alloc: Global) -> Result<Call, AllocError>
     ensures { IfOk result (λ call. is_poll call ≡ false) }
 {
     Ok(Call::Transmit {
-        device: Sequence::of(Vec::from_slice(alloc, b"b")?),
+        device: Sequence::copy_of(alloc, b"b")?,
     })
 }
 
@@ -136,7 +136,7 @@ fn tell<T>(
     view: &mut View,
     answer: Result<Reply, DeskFault>,
 ) -> io::Result<bool>
-    requires { view.old.board ≡ seat.now.desk.terms.origin }
+    requires { view.old.board ≡ seat.now.desk.options.origin }
     ensures { view.new.board ≡ view.old.board }
 {
     match &answer {
@@ -160,7 +160,7 @@ fn call_again<T: Handlers, R: Wait>(
     call: &Call,
 ) -> io::Result<()>
     requires seat { seat.old.desk ≡ desk.now }
-    requires view { view.old.board ≡ desk.now.terms.origin }
+    requires view { view.old.board ≡ desk.now.options.origin }
     requires call { is_poll call.now ≡ false }
     ensures seat { (seat.new.desk ≡ seat.old.desk) × (seat.new.feeds ≡ seat.old.feeds) }
     ensures view { view.new.board ≡ view.old.board }
@@ -184,7 +184,7 @@ fn poll_again<T: Handlers, R: Wait>(
     view: &mut View,
 ) -> io::Result<()>
     requires seat { seat.old.desk ≡ desk.now }
-    requires view { view.old.board ≡ desk.now.terms.origin }
+    requires view { view.old.board ≡ desk.now.options.origin }
     ensures seat { (seat.new.desk ≡ seat.old.desk) × (seat.new.feeds ≡ seat.old.feeds) }
     ensures view { view.new.board ≡ view.old.board }
 {
@@ -206,7 +206,7 @@ fn work_before<T: Handlers, R: Wait>(
     view: &mut View,
 ) -> io::Result<()>
     requires seat { seat.old.desk ≡ desk.now }
-    requires view { view.old.board ≡ desk.now.terms.origin }
+    requires view { view.old.board ≡ desk.now.options.origin }
     ensures seat { (seat.new.desk ≡ seat.old.desk) × (seat.new.feeds ≡ seat.old.feeds) }
     ensures view { view.new.board ≡ view.old.board }
 {
@@ -225,7 +225,7 @@ fn work_after<T: Handlers, R: Wait>(
     view: &mut View,
 ) -> io::Result<()>
     requires seat { seat.old.desk ≡ desk.now }
-    requires view { view.old.board ≡ desk.now.terms.origin }
+    requires view { view.old.board ≡ desk.now.options.origin }
     ensures seat { (seat.new.desk ≡ seat.old.desk) × (seat.new.feeds ≡ seat.old.feeds) }
     ensures view { view.new.board ≡ view.old.board }
 {
@@ -244,7 +244,7 @@ fn work<T: Handlers, R: Wait>(
     mut view: View,
 ) -> io::Result<Seat<T>>
     requires seat { seat.desk ≡ desk.now }
-    requires view { view.board ≡ desk.now.terms.origin }
+    requires view { view.board ≡ desk.now.options.origin }
     ensures { IfOk result (λ s. (s.desk ≡ seat.desk) × (s.feeds ≡ seat.feeds)) }
 {
     work_before(rt, host, desk, &mut seat, &mut view)?;
@@ -260,7 +260,7 @@ fn tell_settled<T>(host: &HostRuntime, book: &Book<T>, left: &[StoredPacket]) ->
 
 /// Settles the feed, and again where memory was refused.
 fn settle_again<T>(host: &HostRuntime, book: &mut Book<T>, end: FeedEnd) -> io::Result<()>
-    requires { All (λ t. t.device ≡ codes "a" → t.ring ≡ end.ring) book.old.taps }
+    requires { All (λ t. t.device ≡ codes "a" → t.ring ≡ end.ring) book.old.consumers }
 {
     let alloc = host.alloc();
     match book.settle(alloc, b"a", end) {
@@ -277,7 +277,7 @@ fn settle_again<T>(host: &HostRuntime, book: &mut Book<T>, end: FeedEnd) -> io::
 
 /// Ends the feed of a book, and settles it.
 fn settle<T: Drop>(host: &HostRuntime, mut book: Book<T>, feed: Feed) -> io::Result<()>
-    requires { All (λ t. t.device ≡ codes "a" → t.ring ≡ feed.ring) book.taps }
+    requires { All (λ t. t.device ≡ codes "a" → t.ring ≡ feed.ring) book.consumers }
 {
     match feed.finish() {
         Some(end) => settle_again(host, &mut book, end),

@@ -1,9 +1,9 @@
 //! A swap that is tried again where memory was refused; tools/refuse.sh refuses each request for memory of it.
 
+use click_base::sequence::Sequence;
 use click_handlers::{Table, TakesTable, with_table};
 use click_packet::{Packet, StoredPacket};
 use click_router::{Call, Handlers, Reply, Router, StepFault, prepare};
-use click_text::sequence::Sequence;
 use std::alloc::{AllocError, Global};
 use std::io::{self, Read};
 use std::sync::Wait;
@@ -26,10 +26,6 @@ struct Retry<'a> {
     count: usize,
 }
 
-fn kept(alloc: Global, bytes: &[u8]) -> Result<Sequence<u8>, AllocError> {
-    Ok(Sequence::of(Vec::from_slice(alloc, bytes)?))
-}
-
 /// What a call is answered.
 fn answer<T: Handlers>(
     router: &mut Router<T>,
@@ -45,7 +41,7 @@ fn answer<T: Handlers>(
 /// A packet of one byte enters.
 fn enter<T: Handlers>(router: &mut Router<T>, alloc: Global, byte: u8) -> Result<(), AllocError> {
     let call = Call::Arrive {
-        device: kept(alloc, b"a")?,
+        device: Sequence::copy_of(alloc, b"a")?,
         packet: StoredPacket::of(alloc, &Packet::of(&[byte]).unwrap_or(Packet::empty()))?,
     };
     match answer(router, alloc, &call) {
@@ -73,7 +69,7 @@ fn read<T: Handlers>(
     name: &[u8],
 ) -> Result<Reply, AllocError> {
     let call = Call::Read {
-        name: kept(alloc, name)?,
+        name: Sequence::copy_of(alloc, name)?,
         text: Sequence::new(alloc),
     };
     answer(router, alloc, &call)
@@ -154,7 +150,7 @@ fn empty<T: Handlers>(
     alloc: Global,
 ) -> Result<(), AllocError> {
     let call = Call::Transmit {
-        device: kept(alloc, b"b")?,
+        device: Sequence::copy_of(alloc, b"b")?,
     };
     for _ in ENTERING {
         let line = leave(router, alloc, &call)?;
@@ -176,7 +172,7 @@ fn tell_all<T: Handlers>(
 }
 
 /// The same, with the router that it needs.
-fn told<T: Handlers + Drop>(table: T, retry: &Retry<'_>) -> Result<String, AllocError> {
+fn retry_text<T: Handlers + Drop>(table: T, retry: &Retry<'_>) -> Result<String, AllocError> {
     let alloc = retry.alloc;
     let mut said = String::new(alloc);
     match prepare(alloc, RUNNING) {
@@ -190,7 +186,7 @@ impl<'a> TakesTable for Retry<'a> {
     type Out = Result<String, AllocError>;
 
     fn take<R: Threads + Wait + Sync>(self, _rt: &R, table: Table) -> Result<String, AllocError> {
-        told(table, &self)
+        retry_text(table, &self)
     }
 }
 

@@ -1,9 +1,9 @@
 //! Calls with their replies, each as a line.
 
+use click_base::sequence::Sequence;
 use click_desk::Entry;
 use click_packet::StoredPacket;
-use click_router::{Call, Kept, Recorded};
-use click_text::sequence::Sequence;
+use click_router::{Call, CompactReply, StoredReply};
 use std::{io, str};
 
 /// Bytes as a word.
@@ -32,18 +32,18 @@ fn tell_call(host: &HostRuntime, call: &Call) -> io::Result<()> {
     }
 }
 
-fn tell_reply(host: &HostRuntime, reply: &Recorded) -> io::Result<()> {
-    match reply.kept() {
-        Kept::Value(value) => println!(host; ": value {}", word(value)),
-        Kept::Done => println!(host; ": done"),
-        Kept::Entered(count) => println!(host; ": entered {count}"),
-        Kept::Sent(packet) => println!(host; ": sent {:?}", packet.bytes()),
+fn tell_reply(host: &HostRuntime, reply: &StoredReply) -> io::Result<()> {
+    match reply.compact() {
+        CompactReply::Value(value) => println!(host; ": value {}", word(value)),
+        CompactReply::Done => println!(host; ": done"),
+        CompactReply::Entered(count) => println!(host; ": entered {count}"),
+        CompactReply::Sent(packet) => println!(host; ": sent {:?}", packet.bytes()),
         _ => println!(host; ": another reply"),
     }
 }
 
 /// Tells the calls of a seat's list, with their replies.
-pub fn tell_list(host: &HostRuntime, calls: &[(Call, Recorded)]) -> io::Result<()> {
+pub fn tell_list(host: &HostRuntime, calls: &[(Call, StoredReply)]) -> io::Result<()> {
     for (call, reply) in calls {
         print!(host; "listed ")?;
         tell_call(host, call)?;

@@ -9,10 +9,10 @@ use Rattle.click_lines.specs.Reading.{IsNoLine}
 use Rattle.click_lines.specs.ReplyLine.{reply_text}
 use Rattle.click_lines.specs.Spelling.{words}
 use Rattle.click_lines.specs.declared.line.Line.{Line}
-use Rattle.click_calls.specs.declared.replay.Again.{Again}
-use Rattle.click_calls.specs.declared.replay.Again.TheVariants as again
-use Rattle.click_calls.specs.declared.replay.Replayed.{Replayed}
-use Rattle.click_calls.specs.declared.replay.Replayed.TheVariants as replayed
+use Rattle.click_calls.specs.declared.replay.LineOutcome.{LineOutcome}
+use Rattle.click_calls.specs.declared.replay.LineOutcome.TheVariants as again
+use Rattle.click_calls.specs.declared.replay.ReplayOutcome.{ReplayOutcome}
+use Rattle.click_calls.specs.declared.replay.ReplayOutcome.TheVariants as replayed
 
 -- The line is of a call and its reply, as a router answers it in this state, which it leaves for the next.
 pub record Agrees (s : RouterState) (line : List ℕ) (next : RouterState) : Type 0 where
@@ -38,13 +38,13 @@ Replays s [] last = s ≡ last
 Replays s (line ∷ lines) last = (next : RouterState) × Agrees s line next × Replays next lines last
 
 -- what the call of one line comes to
-abbrev pub IsAgain : RouterState → List ℕ → RouterState → Again → Type 0
-IsAgain s line next again.Same = Agrees s line next
-IsAgain s line next (again.Differs written came) = Differs s line written came next
-IsAgain s line next again.NoLine = IsNoLine line × (next ≡ s)
+abbrev pub IsLineOutcome : RouterState → List ℕ → RouterState → LineOutcome → Type 0
+IsLineOutcome s line next again.Same = Agrees s line next
+IsLineOutcome s line next (again.Differs written came) = Differs s line written came next
+IsLineOutcome s line next again.NoLine = IsNoLine line × (next ≡ s)
 
 -- What the lines come to: all agree; or the first that does not is this one, counted from 1, those before it agree, and it differs so, or no call with its reply is written so.
-abbrev pub IsReplayed : RouterState → List (List ℕ) → RouterState → Replayed → Type 0
+abbrev pub IsReplayed : RouterState → List (List ℕ) → RouterState → ReplayOutcome → Type 0
 IsReplayed first lines last (replayed.Same count) = (count ≡ length lines) × Replays first lines last
 IsReplayed first lines last (replayed.Differs number written came) =
     (before : List (List ℕ)) × (line : List ℕ) × (after : List (List ℕ)) × (lines ≡ before ++ line ∷ after) × (number ≡ length before + 1)
@@ -54,7 +54,7 @@ IsReplayed first lines last (replayed.NoLine number) =
     × IsNoLine line × Replays first before last
 
 -- The line that tells it. The texts of replies are spelled, as in a line of a book.
-abbrev pub replayed_line : Replayed → List ℕ
+abbrev pub replayed_line : ReplayOutcome → List ℕ
 replayed_line (replayed.Same count) = codes "replayed " ++ decimal count ++ codes " calls, all replies the same\n"
 replayed_line (replayed.Differs number written came) =
     codes "line " ++ decimal number ++ codes ": the reply is " ++ words came ++ codes ", and " ++ words written ++ codes " was written\n"

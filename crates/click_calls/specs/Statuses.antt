@@ -6,10 +6,10 @@ use Rattle.click_router.specs.declared.fault.FaultKind.{FaultKind}
 use Rattle.click_router.specs.declared.fault.FaultKind.TheVariants as kind
 use Rattle.click_calls.specs.declared.Status.{Status}
 use Rattle.click_calls.specs.declared.Status.TheVariants as status
-use Rattle.click_calls.specs.declared.answering.Stop.{Stop}
-use Rattle.click_calls.specs.declared.answering.Stop.TheVariants as stop
-use Rattle.click_calls.specs.declared.replay.Replayed.{Replayed}
-use Rattle.click_calls.specs.declared.replay.Replayed.TheVariants as replayed
+use Rattle.click_calls.specs.declared.answering.CallsFault.{CallsFault}
+use Rattle.click_calls.specs.declared.answering.CallsFault.TheVariants as calls_fault
+use Rattle.click_calls.specs.declared.replay.ReplayOutcome.{ReplayOutcome}
+use Rattle.click_calls.specs.declared.replay.ReplayOutcome.TheVariants as replayed
 
 -- the number that the program's caller sees
 abbrev pub code : Status → ℕ
@@ -26,13 +26,13 @@ config_status kind.NoMemory = status.NoMemory
 config_status _ = status.FaultyConfiguration
 
 -- where the calls broke off
-abbrev pub stop_status : Stop → Status
-stop_status (stop.Line number fault) = status.Wrong
-stop_status stop.NoMemory = status.NoMemory
-stop_status stop.DeviceFailed = status.DeviceFailed
+abbrev pub fault_status : CallsFault → Status
+fault_status (calls_fault.Line number fault) = status.Wrong
+fault_status calls_fault.NoMemory = status.NoMemory
+fault_status calls_fault.DeviceFailed = status.DeviceFailed
 
 -- by what lines come to that are made again
-abbrev pub replayed_status : Replayed → Status
+abbrev pub replayed_status : ReplayOutcome → Status
 replayed_status (replayed.Same count) = status.Good
 replayed_status (replayed.Differs number written came) = status.Differs
 replayed_status (replayed.NoLine number) = status.Wrong

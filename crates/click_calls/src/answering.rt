@@ -5,9 +5,9 @@ ghost use Rattle.std.specs.Io.BufRead.{strip_last};
 ghost use Rattle.click_calls.specs.InputLines.{lines_of};
 
 use crate::line::{LineFault, call_of};
+use click_base::sequence::Sequence;
 use click_lines::reply_line;
 use click_router::{Handlers, Router, StepFault};
-use click_text::sequence::Sequence;
 use std::alloc::{AllocError, Global};
 use std::io::{self, BufRead, Read, Write};
 use thiserror::Error;
@@ -17,7 +17,7 @@ const LONGEST_LINE: usize = 131_072;
 
 /// Why the calls break off. Those before were answered.
 #[derive(Clone, Copy, Debug, PartialEq, Eq, Error)]
-pub enum Stop {
+pub enum CallsFault {
     #[error("error {number}: {fault}")]
     Line { number: u64, fault: LineFault },
     #[error("out of memory")]
@@ -26,32 +26,32 @@ pub enum Stop {
     DeviceFailed,
 }
 
-impl From<AllocError> for Stop {
-    fn from(_error: AllocError) -> Stop {
-        Stop::NoMemory
+impl From<AllocError> for CallsFault {
+    fn from(_error: AllocError) -> CallsFault {
+        CallsFault::NoMemory
     }
 }
 
-impl From<StepFault> for Stop {
-    fn from(fault: StepFault) -> Stop {
+impl From<StepFault> for CallsFault {
+    fn from(fault: StepFault) -> CallsFault {
         match fault {
-            StepFault::NoMemory => Stop::NoMemory,
+            StepFault::NoMemory => CallsFault::NoMemory,
         }
     }
 }
 
-impl From<io::Error> for Stop {
-    fn from(error: io::Error) -> Stop {
+impl From<io::Error> for CallsFault {
+    fn from(error: io::Error) -> CallsFault {
         match error.kind() {
-            io::ErrorKind::OutOfMemory => Stop::NoMemory,
-            _ => Stop::DeviceFailed,
+            io::ErrorKind::OutOfMemory => CallsFault::NoMemory,
+            _ => CallsFault::DeviceFailed,
         }
     }
 }
 
 /// What a read of a line gives.
 #[derive(Clone, Copy, Debug, PartialEq, Eq)]
-enum Next {
+enum LineRead {
     Line,
     TooLong,
     End,
@@ -63,38 +63,38 @@ pub fn answer_all<R: BufRead, W: Write, T: Handlers>(
     input: &mut R,
     output: &mut W,
     router: &mut Router<T>,
-) -> Result<(), Stop> {
+) -> Result<(), CallsFault> {
     let mut line = Vec::new(alloc);
     for before in 0..u64::MAX {
         let number = before + 1;
         match next_line(input, &mut line)? {
-            Next::End => return Ok(()),
-            Next::TooLong => {
+            LineRead::End => return Ok(()),
+            LineRead::TooLong => {
                 let fault = LineFault::TooLong;
-                return Err(Stop::Line { number, fault });
+                return Err(CallsFault::Line { number, fault });
             }
-            Next::Line => answer(alloc, number, &line, output, router)?,
+            LineRead::Line => answer(alloc, number, &line, output, router)?,
         }
     }
     // No input has that many lines.
-    Err(Stop::DeviceFailed)
+    Err(CallsFault::DeviceFailed)
 }
 
 /// Reads a line, without its end.
-fn next_line<R: BufRead>(input: &mut R, line: &mut Vec<u8>) -> io::Result<Next> {
+fn next_line<R: BufRead>(input: &mut R, line: &mut Vec<u8>) -> io::Result<LineRead> {
     line.clear();
     let most = LONGEST_LINE as u64 + 1;
     if input.by_ref().take(most).read_until(b'\n', line)? == 0 {
-        return Ok(Next::End);
+        return Ok(LineRead::End);
     }
     if line.as_slice().ends_with(b"\n") {
         let _end = line.pop();
-        return Ok(Next::Line);
+        return Ok(LineRead::Line);
     }
     if line.len() > LONGEST_LINE {
-        return Ok(Next::TooLong);
+        return Ok(LineRead::TooLong);
     }
-    Ok(Next::Line)
+    Ok(LineRead::Line)
 }
 
 /// Answers the call of a line.
@@ -104,11 +104,11 @@ fn answer<W: Write, T: Handlers>(
     line: &[u8],
     output: &mut W,
     router: &mut Router<T>,
-) -> Result<(), Stop> {
+) -> Result<(), CallsFault> {
     let call = match call_of(alloc, line) {
         Ok(call) => call,
-        Err(LineFault::NoMemory) => return Err(Stop::NoMemory),
-        Err(fault) => return Err(Stop::Line { number, fault }),
+        Err(LineFault::NoMemory) => return Err(CallsFault::NoMemory),
+        Err(fault) => return Err(CallsFault::Line { number, fault }),
     };
     let reply = router.step(alloc, &call)?;
     output.write_all(&reply_line(alloc, &reply)?)?;
@@ -116,7 +116,10 @@ fn answer<W: Write, T: Handlers>(
 }
 
 /// The lines of the input, without their ends.
-pub fn lines_of<R: BufRead>(alloc: Global, input: &mut R) -> Result<Sequence<Sequence<u8>>, Stop>
+pub fn lines_of<R: BufRead>(
+    alloc: Global,
+    input: &mut R,
+) -> Result<Sequence<Sequence<u8>>, CallsFault>
     // Where its bytes are known.
     ensures { IfOk result (λ lines. IfSome (R.remaining input.old) (λ bytes. lines ≡ lines_of bytes)) }
 {
@@ -129,7 +132,7 @@ pub fn lines_of<R: BufRead>(alloc: Global, input: &mut R) -> Result<Sequence<Seq
         lines.push(Sequence::of(without_end(line)))?;
     }
     // No input has that many lines.
-    Err(Stop::DeviceFailed)
+    Err(CallsFault::DeviceFailed)
 }
 
 /// A line without its end, which the last one may lack.

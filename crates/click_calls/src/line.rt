@@ -1,9 +1,9 @@
 //! Lines, and the calls that they are.
 
+use click_base::sequence::Sequence;
 use click_lines::{HexFault, packet_of};
 use click_packet::StoredPacket;
 use click_router::Call;
-use click_text::sequence::Sequence;
 use memchr::memchr;
 use std::alloc::{AllocError, Global};
 use thiserror::Error;
@@ -56,7 +56,7 @@ pub fn call_of(alloc: Global, line: &[u8]) -> Result<Call, LineFault> {
             let (device, rest) = field(rest)?;
             ended(rest)?;
             Ok(Call::Transmit {
-                device: kept(alloc, device)?,
+                device: Sequence::copy_of(alloc, device)?,
             })
         }
         b"read" => {
@@ -74,7 +74,7 @@ pub fn call_of(alloc: Global, line: &[u8]) -> Result<Call, LineFault> {
             name: only_name(alloc, rest)?,
         }),
         b"swap" => Ok(Call::Swap {
-            text: kept(alloc, rest.unwrap_or(b""))?,
+            text: Sequence::copy_of(alloc, rest.unwrap_or(b""))?,
         }),
         _ => Err(LineFault::UnknownCall),
     }
@@ -108,17 +108,13 @@ fn ended(rest: Option<&[u8]>) -> Result<(), LineFault> {
     }
 }
 
-fn kept(alloc: Global, bytes: &[u8]) -> Result<Sequence<u8>, AllocError> {
-    Ok(Sequence::of(Vec::from_slice(alloc, bytes)?))
-}
-
 /// `arrive` with its device and its packet.
 fn arrive_of(alloc: Global, rest: Option<&[u8]>) -> Result<Call, LineFault> {
     let (device, rest) = field(rest)?;
     let (digits, rest) = field(rest)?;
     ended(rest)?;
     Ok(Call::Arrive {
-        device: kept(alloc, device)?,
+        device: Sequence::copy_of(alloc, device)?,
         packet: StoredPacket::of(alloc, &packet_of(alloc, digits)?)?,
     })
 }
@@ -135,7 +131,7 @@ fn poll_of(alloc: Global, rest: Option<&[u8]>) -> Result<Call, LineFault> {
         }
     };
     Ok(Call::Poll {
-        device: kept(alloc, device)?,
+        device: Sequence::copy_of(alloc, device)?,
         taken,
     })
 }
@@ -155,12 +151,15 @@ fn named_text(
     rest: Option<&[u8]>,
 ) -> Result<(Sequence<u8>, Sequence<u8>), LineFault> {
     let (name, text) = field(rest)?;
-    Ok((kept(alloc, name)?, kept(alloc, text.unwrap_or(b""))?))
+    Ok((
+        Sequence::copy_of(alloc, name)?,
+        Sequence::copy_of(alloc, text.unwrap_or(b""))?,
+    ))
 }
 
 /// A handler alone.
 fn only_name(alloc: Global, rest: Option<&[u8]>) -> Result<Sequence<u8>, LineFault> {
     let (name, rest) = field(rest)?;
     ended(rest)?;
-    Ok(kept(alloc, name)?)
+    Ok(Sequence::copy_of(alloc, name)?)
 }

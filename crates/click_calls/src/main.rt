@@ -5,19 +5,19 @@ ghost use Rattle.std.specs.Prelude.{◌≡◌, IfOk, IfSome};
 ghost use Rattle.std.specs.Io.KnownBytes.{Appends};
 ghost use Rattle.click_calls.specs.InputLines.{lines_of};
 ghost use Rattle.click_calls.specs.Replays.{IsReplayed, replayed_line};
-ghost use Rattle.click_calls.specs.Statuses.{code, config_status, replayed_status, stop_status, unread_status};
+ghost use Rattle.click_calls.specs.Statuses.{code, config_status, replayed_status, fault_status, unread_status};
 
 mod answering;
 mod arguments;
 mod line;
 mod replay;
 
-use answering::{Stop, answer_all, lines_of};
+use answering::{CallsFault, answer_all, lines_of};
 use arguments::options_of;
 use clap::error::ErrorKind;
 use click_handlers::{Table, TakesTable, with_table};
 use click_router::{ConfigFault, FaultKind, Handlers, Router, prepare};
-use replay::{Replayed, tell_replayed};
+use replay::{ReplayOutcome, tell_replayed};
 use std::alloc::Global;
 use std::io::{BufRead, BufReader, Write};
 use std::process::ExitCode;
@@ -63,7 +63,7 @@ fn program<R: Threads + Wait + Sync>(threads: &R, rt: &HostRuntime) -> Status {
     let alloc = rt.alloc();
     let words = match env::args(rt) {
         Ok(words) => words,
-        Err(error) => return unread(rt, error.kind()),
+        Err(error) => return refuse_words(rt, error.kind()),
     };
     let Ok(words) = words.collect::<Vec<String>>(alloc) else {
         return Status::NoMemory;
@@ -90,7 +90,7 @@ fn program<R: Threads + Wait + Sync>(threads: &R, rt: &HostRuntime) -> Status {
 }
 
 /// Tells why the words of the command line cannot be read: memory ran out, or one of them is no text.
-fn unread(rt: &HostRuntime, kind: io::ErrorKind) -> Status
+fn refuse_words(rt: &HostRuntime, kind: io::ErrorKind) -> Status
     ensures { result ≡ unread_status kind }
 {
     if kind == io::ErrorKind::OutOfMemory {
@@ -129,13 +129,13 @@ fn calls<T: Handlers + Drop>(rt: &HostRuntime, table: T, text: &[u8], replay: bo
     };
     if replay {
         return match replay_all(alloc, &mut input, &mut rt.stdout(), &mut router) {
-            Ok(replayed) => of_replayed(&replayed),
-            Err(stop) => stopped(rt, stop),
+            Ok(replayed) => replayed_status(&replayed),
+            Err(calls_fault) => tell_fault(rt, calls_fault),
         };
     }
     match answer_all(alloc, &mut input, &mut rt.stdout(), &mut router) {
         Ok(()) => Status::Good,
-        Err(stop) => stopped(rt, stop),
+        Err(calls_fault) => tell_fault(rt, calls_fault),
     }
 }
 
@@ -145,7 +145,7 @@ fn replay_all<R: BufRead, W: Write, T: Handlers>(
     input: &mut R,
     output: &mut W,
     router: &mut Router<T>,
-) -> Result<Replayed, Stop>
+) -> Result<ReplayOutcome, CallsFault>
     // Where the bytes are known that are read and written.
     ensures again { IfOk result (λ replayed. IfSome (R.remaining input.old) (λ bytes. IsReplayed router.old (lines_of bytes) router.new replayed)) }
     ensures told { IfOk result (λ replayed. Appends (W.contents output.old) (W.contents output.new) (replayed_line replayed)) }
@@ -155,13 +155,13 @@ fn replay_all<R: BufRead, W: Write, T: Handlers>(
 }
 
 /// The status by what lines come to that are made again.
-fn of_replayed(replayed: &Replayed) -> Status
+fn replayed_status(replayed: &ReplayOutcome) -> Status
     ensures { result ≡ replayed_status replayed.now }
 {
     match replayed {
-        Replayed::Same { .. } => Status::Good,
-        Replayed::Differs { .. } => Status::Differs,
-        Replayed::NoLine { .. } => Status::Wrong,
+        ReplayOutcome::Same { .. } => Status::Good,
+        ReplayOutcome::Differs { .. } => Status::Differs,
+        ReplayOutcome::NoLine { .. } => Status::Wrong,
     }
 }
 
@@ -174,29 +174,29 @@ fn refuse(rt: &HostRuntime, fault: &ConfigFault) -> Status
     }
     // A failed write changes nothing of the status.
     let _ = match fault.text(rt.alloc()) {
-        Ok(text) => told(&mut rt.stderr(), text.as_slice()),
-        Err(_) => told(&mut rt.stderr(), b"faulty configuration"),
+        Ok(text) => write_line(&mut rt.stderr(), text.as_slice()),
+        Err(_) => write_line(&mut rt.stderr(), b"faulty configuration"),
     };
     Status::FaultyConfiguration
 }
 
 /// Writes a line.
-fn told<W: Write>(to: &mut W, text: &[u8]) -> io::Result<()> {
+fn write_line<W: Write>(to: &mut W, text: &[u8]) -> io::Result<()> {
     to.write_all(text)?;
     to.write_all(b"\n")
 }
 
 /// Tells which line is no call, if it is that.
-fn stopped(rt: &HostRuntime, stop: Stop) -> Status
-    ensures { result ≡ stop_status stop }
+fn tell_fault(rt: &HostRuntime, calls_fault: CallsFault) -> Status
+    ensures { result ≡ fault_status calls_fault }
 {
-    match stop {
-        Stop::Line { .. } => {
+    match calls_fault {
+        CallsFault::Line { .. } => {
             // A failed write changes nothing of the status.
-            let _ = rt.eprintln(&stop);
+            let _ = rt.eprintln(&calls_fault);
             Status::Wrong
         }
-        Stop::NoMemory => Status::NoMemory,
-        Stop::DeviceFailed => Status::DeviceFailed,
+        CallsFault::NoMemory => Status::NoMemory,
+        CallsFault::DeviceFailed => Status::DeviceFailed,
     }
 }

@@ -2,18 +2,18 @@
 
 ghost use Rattle.std.specs.Prelude.{◌≡◌, IfOk};
 ghost use Rattle.std.specs.Io.KnownBytes.{Appends};
-ghost use Rattle.click_calls.specs.Replays.{IsAgain, IsReplayed, replayed_line};
+ghost use Rattle.click_calls.specs.Replays.{IsLineOutcome, IsReplayed, replayed_line};
 
-use crate::answering::Stop;
+use crate::answering::CallsFault;
+use click_base::sequence::Sequence;
 use click_lines::{push_number, push_words, read_line, reply_text};
 use click_router::{Handlers, Router, StepFault};
-use click_text::sequence::Sequence;
 use std::alloc::{AllocError, Global};
 use std::io::Write;
 
 /// What the call of one line comes to.
 #[derive(Drop)]
-pub enum Again {
+pub enum LineOutcome {
     /// The reply that was written.
     Same,
     /// Another: the texts of both.
@@ -27,7 +27,7 @@ pub enum Again {
 
 /// What lines come to. They are counted from 1.
 #[derive(Drop)]
-pub enum Replayed {
+pub enum ReplayOutcome {
     /// So many calls, all with the replies that were written.
     Same {
         count: usize,
@@ -45,15 +45,15 @@ pub enum Replayed {
 }
 
 /// Makes the call of a line again.
-fn made_again<T: Handlers>(
+fn replay_call<T: Handlers>(
     alloc: Global,
     router: &mut Router<T>,
     line: &[u8],
-) -> Result<Again, AllocError>
-    ensures { IfOk result (IsAgain router.old line.now router.new) }
+) -> Result<LineOutcome, AllocError>
+    ensures { IfOk result (IsLineOutcome router.old line.now router.new) }
 {
     let Some(said) = read_line(alloc, line)? else {
-        return Ok(Again::NoLine);
+        return Ok(LineOutcome::NoLine);
     };
     let reply = match router.step(alloc, &said.call) {
         Ok(reply) => reply,
@@ -61,9 +61,9 @@ fn made_again<T: Handlers>(
     };
     let came = reply_text(alloc, &reply)?;
     if came.as_slice() == said.reply.as_slice() {
-        Ok(Again::Same)
+        Ok(LineOutcome::Same)
     } else {
-        Ok(Again::Differs {
+        Ok(LineOutcome::Differs {
             written: said.reply,
             came: Sequence::of(came),
         })
@@ -76,7 +76,7 @@ pub fn tell_replayed<W: Write, T: Handlers>(
     output: &mut W,
     router: &mut Router<T>,
     lines: &[Sequence<u8>],
-) -> Result<Replayed, Stop>
+) -> Result<ReplayOutcome, CallsFault>
     ensures again { IfOk result (IsReplayed router.old lines.now router.new) }
     ensures told { IfOk result (λ replayed. Appends (W.contents output.old) (W.contents output.new) (replayed_line replayed)) }
 {
@@ -92,39 +92,39 @@ fn replay_lines<T: Handlers>(
     alloc: Global,
     router: &mut Router<T>,
     lines: &[Sequence<u8>],
-) -> Result<Replayed, AllocError>
+) -> Result<ReplayOutcome, AllocError>
     ensures { IfOk result (IsReplayed router.old lines.now router.new) }
 {
     let mut count = 0;
     for line in lines {
-        match made_again(alloc, router, line.as_slice())? {
-            Again::Same => {}
-            Again::Differs { written, came } => {
-                return Ok(Replayed::Differs {
+        match replay_call(alloc, router, line.as_slice())? {
+            LineOutcome::Same => {}
+            LineOutcome::Differs { written, came } => {
+                return Ok(ReplayOutcome::Differs {
                     number: count + 1,
                     written,
                     came,
                 });
             }
-            Again::NoLine => return Ok(Replayed::NoLine { number: count + 1 }),
+            LineOutcome::NoLine => return Ok(ReplayOutcome::NoLine { number: count + 1 }),
         }
         count += 1;
     }
-    Ok(Replayed::Same { count })
+    Ok(ReplayOutcome::Same { count })
 }
 
 /// The line that tells what lines come to, with its end.
-fn replayed_line(alloc: Global, replayed: &Replayed) -> Result<Vec<u8>, AllocError>
+fn replayed_line(alloc: Global, replayed: &ReplayOutcome) -> Result<Vec<u8>, AllocError>
     ensures { IfOk result (λ line. line.items ≡ replayed_line replayed.now) }
 {
     match replayed {
-        Replayed::Same { count } => {
+        ReplayOutcome::Same { count } => {
             let mut line = Vec::from_slice(alloc, b"replayed ")?;
             push_number(&mut line, *count as u64)?;
             line.extend_from_slice(b" calls, all replies the same\n")?;
             Ok(line)
         }
-        Replayed::Differs {
+        ReplayOutcome::Differs {
             number,
             written,
             came,
@@ -138,7 +138,7 @@ fn replayed_line(alloc: Global, replayed: &Replayed) -> Result<Vec<u8>, AllocErr
             line.extend_from_slice(b" was written\n")?;
             Ok(line)
         }
-        Replayed::NoLine { number } => {
+        ReplayOutcome::NoLine { number } => {
             let mut line = Vec::from_slice(alloc, b"line ")?;
             push_number(&mut line, *number as u64)?;
             line.extend_from_slice(b" is no call with its reply\n")?;

@@ -6,9 +6,9 @@ use Rattle.click_packet.specs.Packet.{Packet}
 use Rattle.click_classes.specs.Matches.{matches}
 use Rattle.click_classes.specs.PacketList.{PacketList}
 use Rattle.click_classes.specs.Routes.{route}
-use Rattle.click_classes.specs.declared.acting.Fate.{Fate}
-use Rattle.click_classes.specs.declared.acting.Fate.TheVariants as fate
-use Rattle.click_classes.specs.declared.acting.PortRange.{PortRange}
+use Rattle.click_classes.specs.declared.packet_effects.Verdict.{Verdict}
+use Rattle.click_classes.specs.declared.packet_effects.Verdict.TheVariants as verdict
+use Rattle.click_classes.specs.declared.packet_effects.PortRange.{PortRange}
 use Rattle.click_classes.specs.declared.state.State.{State}
 use Rattle.click_classes.specs.declared.state.State.TheVariants as state
 use Rattle.click_classes.specs.declared.values.entry.Entry.{Entry}
@@ -29,14 +29,14 @@ range first count = record { first = first; count = count }
 -- ---- packets that pass an element, which does the same with a packet that is pushed and with one that was pulled
 
 -- the state and the packet after it, and where the packet goes
-pub record Passed : Type 0 where
+pub record PassEffect : Type 0 where
   pub state : State
   pub packet : Packet
-  pub fate : Fate
+  pub verdict : Verdict
 
 -- such a result
-abbrev pub passed : State → Packet → Fate → Passed
-passed s p f = record { state = s; packet = p; fate = f }
+abbrev pub passed : State → Packet → Verdict → PassEffect
+passed s p f = record { state = s; packet = p; verdict = f }
 
 -- the four bytes from the offset on; 0.0.0.0 where the packet is shorter
 abbrev pub address_at : ℕ → List ℕ → List ℕ
@@ -46,48 +46,48 @@ address_at offset bytes =
     else 0 ∷ 0 ∷ 0 ∷ 0 ∷ []
 
 -- a time to live less by one; a packet without a header, or with a time to live of 0 or 1, goes aside as it is (RFC 791, section 3.1)
-abbrev pub aged : Packet → Option ℕ → Passed
-aged p None = passed state.DecIPTTL p fate.Aside
+abbrev pub aged : Packet → Option ℕ → PassEffect
+aged p None = passed state.DecIPTTL p verdict.SideOutput
 aged p (Some hops) =
-    if nat_le hops 1 then passed state.DecIPTTL p fate.Aside
-    else passed state.DecIPTTL (record p { bytes = with_ttl p.bytes (hops - 1) }) fate.Onward
+    if nat_le hops 1 then passed state.DecIPTTL p verdict.SideOutput
+    else passed state.DecIPTTL (record p { bytes = with_ttl p.bytes (hops - 1) }) verdict.Forward
 
 -- a packet with a header before it; one that would have more than 1,600 bytes with it is dropped
-abbrev pub encapsulated : State → List ℕ → Packet → Passed
+abbrev pub encapsulated : State → List ℕ → Packet → PassEffect
 encapsulated s header p =
-    if nat_le (length header + length p.bytes) 1600 then passed s (record p { bytes = header ++ p.bytes }) fate.Onward
-    else passed s p fate.Dropped
+    if nat_le (length header + length p.bytes) 1600 then passed s (record p { bytes = header ++ p.bytes }) verdict.Forward
+    else passed s p verdict.Dropped
 
-unfoldable pub pass : State → Packet → Passed
-pass (state.Counter count byte_count) p = passed (state.Counter (up_by count 1) (up_by byte_count (length p.bytes))) p fate.Onward
-pass state.Null p = passed state.Null p fate.Onward
-pass state.PushNull p = passed state.PushNull p fate.Onward
-pass state.PullNull p = passed state.PullNull p fate.Onward
-pass (state.Paint colour) p = passed (state.Paint colour) (record p { paint = colour }) fate.Onward
-pass (state.PaintTee colour) p = passed (state.PaintTee colour) p (if p.paint == colour then fate.Copied else fate.Onward)
-pass (state.Strip count) p = passed (state.Strip count) (record p { bytes = drop count p.bytes }) fate.Onward
-pass (state.CheckLength most) p = passed (state.CheckLength most) p (if nat_le (length p.bytes) most then fate.Onward else fate.Aside)
-pass (state.GetIPAddress offset) p = passed (state.GetIPAddress offset) (record p { destination = address_at offset p.bytes }) fate.Onward
-pass (state.CheckIPHeader refused) p = passed (state.CheckIPHeader refused) p (if header_good p.bytes refused then fate.Onward else fate.Aside)
+unfoldable pub pass : State → Packet → PassEffect
+pass (state.Counter count byte_count) p = passed (state.Counter (up_by count 1) (up_by byte_count (length p.bytes))) p verdict.Forward
+pass state.Null p = passed state.Null p verdict.Forward
+pass state.PushNull p = passed state.PushNull p verdict.Forward
+pass state.PullNull p = passed state.PullNull p verdict.Forward
+pass (state.Paint colour) p = passed (state.Paint colour) (record p { paint = colour }) verdict.Forward
+pass (state.PaintTee colour) p = passed (state.PaintTee colour) p (if p.paint == colour then verdict.Copied else verdict.Forward)
+pass (state.Strip count) p = passed (state.Strip count) (record p { bytes = drop count p.bytes }) verdict.Forward
+pass (state.CheckLength most) p = passed (state.CheckLength most) p (if nat_le (length p.bytes) most then verdict.Forward else verdict.SideOutput)
+pass (state.GetIPAddress offset) p = passed (state.GetIPAddress offset) (record p { destination = address_at offset p.bytes }) verdict.Forward
+pass (state.CheckIPHeader refused) p = passed (state.CheckIPHeader refused) p (if header_good p.bytes refused then verdict.Forward else verdict.SideOutput)
 pass state.DecIPTTL p = aged p (ttl p.bytes)
 pass (state.EtherEncap header) p = encapsulated (state.EtherEncap header) header p
 -- no other element passes packets so; what is pushed to an Idle or a Discard is dropped
-pass s p = passed s p fate.Dropped
+pass s p = passed s p verdict.Dropped
 
 -- ---- a packet is pushed
 
 -- the state and the packet after it, and the outputs that get it, in order
-pub record Acted : Type 0 where
+pub record PushEffect : Type 0 where
   pub state : State
   pub packet : Packet
   pub outputs : PortRange
 
 -- to `count` outputs from `first` on
-abbrev pub sent : State → Packet → ℕ → ℕ → Acted
+abbrev pub sent : State → Packet → ℕ → ℕ → PushEffect
 sent s p first count = record { state = s; packet = p; outputs = range first count }
 
 -- to no output: it was stored or dropped
-abbrev pub to_none : State → Packet → Acted
+abbrev pub to_none : State → Packet → PushEffect
 to_none s p = sent s p 0 0
 
 -- output 1, where it is there
@@ -99,36 +99,36 @@ abbrev pub both_outputs : ℕ → PortRange
 both_outputs outputs = range 0 (if nat_lt 1 outputs then 2 else 1)
 
 -- the outputs that get a packet with this fate when it is pushed
-abbrev pub pushed_to : ℕ → Fate → PortRange
-pushed_to outputs fate.Onward = range 0 1
-pushed_to outputs fate.Copied = both_outputs outputs
-pushed_to outputs fate.Aside = side_output outputs
-pushed_to outputs fate.Dropped = range 0 0
+abbrev pub pushed_to : ℕ → Verdict → PortRange
+pushed_to outputs verdict.Forward = range 0 1
+pushed_to outputs verdict.Copied = both_outputs outputs
+pushed_to outputs verdict.SideOutput = side_output outputs
+pushed_to outputs verdict.Dropped = range 0 0
 
-abbrev pub pushed : ℕ → Passed → Acted
-pushed outputs r = record { state = r.state; packet = r.packet; outputs = pushed_to outputs r.fate }
+abbrev pub pushed : ℕ → PassEffect → PushEffect
+pushed outputs r = record { state = r.state; packet = r.packet; outputs = pushed_to outputs r.verdict }
 
 -- a queue stores the packet last; when it is full it drops it and counts a drop
-abbrev pub queued : PacketList → ℕ → ℕ → Packet → Acted
+abbrev pub queued : PacketList → ℕ → ℕ → Packet → PushEffect
 queued q drops highest p =
     if length q.packets == q.capacity
     then to_none (state.Queue q (up_by drops 1) highest) p
     else to_none (state.Queue (record q { packets = q.packets ++ p ∷ [] }) drops (max (length q.packets + 1) highest)) p
 
 -- a full FrontDropQueue drops its first packet, counts a drop, and stores the packet last; without room for any it drops what comes
-abbrev pub front_dropped : List Packet → PacketList → ℕ → ℕ → Packet → Acted
+abbrev pub front_dropped : List Packet → PacketList → ℕ → ℕ → Packet → PushEffect
 front_dropped [] q drops highest p = to_none (state.FrontDropQueue q (up_by drops 1) highest) p
 front_dropped (first ∷ rest) q drops highest p = to_none (state.FrontDropQueue (record q { packets = rest ++ p ∷ [] }) (up_by drops 1) highest) p
 
 -- a FrontDropQueue stores the packet last; when it is full it drops its first for it
-abbrev pub front_queued : PacketList → ℕ → ℕ → Packet → Acted
+abbrev pub front_queued : PacketList → ℕ → ℕ → Packet → PushEffect
 front_queued q drops highest p =
     if length q.packets == q.capacity
     then front_dropped q.packets q drops highest p
     else to_none (state.FrontDropQueue (record q { packets = q.packets ++ p ∷ [] }) drops (max (length q.packets + 1) highest)) p
 
 -- to that output, or to none
-abbrev pub switched : State → Option ℕ → Packet → Acted
+abbrev pub switched : State → Option ℕ → Packet → PushEffect
 switched s None p = to_none s p
 switched s (Some output) p = sent s p output 1
 
@@ -138,7 +138,7 @@ via p None = p
 via p (Some gateway) = record p { destination = gateway }
 
 -- to the output of the entry that was found, or to none
-abbrev pub routed : State → Option Entry → Packet → Acted
+abbrev pub routed : State → Option Entry → Packet → PushEffect
 routed s None p = to_none s p
 routed s (Some e) p = sent s (via p e.gateway) e.output 1
 
@@ -150,7 +150,7 @@ is_active active port = slice_index_or active port false
 abbrev pub classified : List Pattern → List ℕ → Option ℕ
 classified patterns bytes = position (λ q. matches q bytes) (take 256 patterns)
 
-unfoldable pub act : ℕ → State → ℕ → Packet → Acted
+unfoldable pub act : ℕ → State → ℕ → Packet → PushEffect
 act outputs (state.Queue q drops highest) input p = queued q drops highest p
 act outputs (state.FrontDropQueue q drops highest) input p = front_queued q drops highest p
 act outputs (state.Switch output) input p = switched (state.Switch output) output p
@@ -224,33 +224,33 @@ burst_of (state.InfiniteSource bytes limit burst active count) = burst
 burst_of s = 0
 
 -- a packet was pulled through an input: the state and the packet after it, the outputs that get it first, and whether it is then the answer
-pub record Gives : Type 0 where
+pub record PullEffect : Type 0 where
   pub state : State
   pub packet : Packet
   pub copies : PortRange
   pub answers : Bool
 
 -- just the answer
-abbrev pub answered : State → Packet → Gives
+abbrev pub answered : State → Packet → PullEffect
 answered s p = record { state = s; packet = p; copies = range 0 0; answers = true }
 
 -- the outputs that get a packet with this fate when it was pulled, and whether it is the answer
-abbrev pub copied_to : ℕ → Fate → PortRange
-copied_to outputs fate.Onward = range 0 0
-copied_to outputs fate.Copied = side_output outputs
-copied_to outputs fate.Aside = side_output outputs
-copied_to outputs fate.Dropped = range 0 0
+abbrev pub copied_to : ℕ → Verdict → PortRange
+copied_to outputs verdict.Forward = range 0 0
+copied_to outputs verdict.Copied = side_output outputs
+copied_to outputs verdict.SideOutput = side_output outputs
+copied_to outputs verdict.Dropped = range 0 0
 
-abbrev pub is_answer : Fate → Bool
-is_answer fate.Onward = true
-is_answer fate.Copied = true
-is_answer fate.Aside = false
-is_answer fate.Dropped = false
+abbrev pub is_answer : Verdict → Bool
+is_answer verdict.Forward = true
+is_answer verdict.Copied = true
+is_answer verdict.SideOutput = false
+is_answer verdict.Dropped = false
 
-abbrev pub pulled : ℕ → Passed → Gives
-pulled outputs r = record { state = r.state; packet = r.packet; copies = copied_to outputs r.fate; answers = is_answer r.fate }
+abbrev pub pulled : ℕ → PassEffect → PullEffect
+pulled outputs r = record { state = r.state; packet = r.packet; copies = copied_to outputs r.verdict; answers = is_answer r.verdict }
 
-unfoldable pub gives : ℕ → ℕ → State → ℕ → Packet → Gives
+unfoldable pub gives : ℕ → ℕ → State → ℕ → Packet → PullEffect
 gives inputs outputs (state.PullSwitch from) input p = answered (state.PullSwitch from) p
 gives inputs outputs (state.RoundRobinSched next) input p = answered (state.RoundRobinSched (after inputs input)) p
 gives inputs outputs state.PrioSched input p = answered state.PrioSched p

@@ -1,7 +1,7 @@
 -- Elements whose states and numbers of ports fit each other.
 use Rattle.std.specs.Prelude.{◌≡◌, ℕ, ◌+◌, ◌<◌, ◌≤◌, true}
-use Rattle.click_classes.specs.Counts.{counts}
-use Rattle.click_classes.specs.declared.acting.PortRange.{PortRange}
+use Rattle.click_classes.specs.Ports.{counts}
+use Rattle.click_classes.specs.declared.packet_effects.PortRange.{PortRange}
 use Rattle.click_classes.specs.declared.state.State.{State}
 use Rattle.click_classes.specs.declared.state.State.TheVariants as state
 

@@ -1,15 +1,12 @@
 pub mod Acts
 pub mod ClauseText
-pub mod Classes
-pub mod Codes
-pub mod Counts
 pub mod Entries
 pub mod Fitting
-pub mod Fresh
 pub mod Made
 pub mod Matches
 pub mod PacketList
 pub mod Patterns
+pub mod Ports
 pub mod Queues
 pub mod Routes
 pub mod Settings

@@ -1,18 +1,152 @@
--- What `make` answers: an element's first state, or the first fault of its arguments.
-use Rattle.std.specs.Prelude.{◌≡◌, ℕ, List, length, map, ◌&&◌, nat_le, slice_get, Option, Some, None, Result, Err, MatchBool}
+-- What `make` answers: an element's first state by its arguments, the number of arguments first, then the arguments in order, or the first fault of them
+-- (Click element reference).
+use Rattle.std.specs.Prelude.{ℕ, ◌-◌, ◌/◌, ◌%◌, ◌^◌, ◌==◌, List, [], ◌∷◌, ◌++◌, length, true, ◌&&◌, nat_le, slice_get, slice_index_or, replicate, Option, Some, None, Result, Ok, Err, if◌then◌else◌, ◌≡◌, map, MatchBool}
+use Rattle.click_classes.specs.declared.fault.ArgFault.{ArgFault}
+use Rattle.click_classes.specs.declared.fault.ArgFault.TheVariants as fault
+use Rattle.click_classes.specs.declared.state.State.{State}
+use Rattle.click_classes.specs.declared.state.State.TheVariants as state
+use Rattle.click_classes.specs.Steps.{◌>>=◌, each}
+use Rattle.click_classes.specs.Patterns.{pattern}
+use Rattle.click_classes.specs.Entries.{table}
+use Rattle.click_classes.specs.PacketList.{PacketList}
+use Rattle.click_classes.specs.Values.{number_in, number_or_minus_one, some, truth, address, ethernet, is_device}
 use Rattle.std.specs.List.{AllZip}
 use Rattle.click_text.specs.declared.syntax.Span.{Span}
 use Rattle.click_text.specs.Arguments.{AreArguments}
 use Rattle.click_text.specs.Spans.{bytes_at}
 use Rattle.click_text.specs.Unquote.{StandsFor}
 use Rattle.click_text.specs.Words.{AreWords}
-use Rattle.click_classes.specs.declared.class.Class.{Class}
-use Rattle.click_classes.specs.declared.class.Class.TheVariants as class
-use Rattle.click_classes.specs.declared.fault.ArgFault.{ArgFault}
-use Rattle.click_classes.specs.declared.fault.ArgFault.TheVariants as fault
-use Rattle.click_classes.specs.declared.state.State.{State}
-use Rattle.click_classes.specs.declared.state.State.TheVariants as state
-use Rattle.click_classes.specs.Fresh.{without_arguments, queue, front_drop_queue, switch, pull_switch, tee, pull_tee, paint, paint_tee, strip, check_length, get_ip_address, ether_encap, from_device, to_device, suppressor, classifier, static_ip_lookup, check_ip_header, infinite_source}
+use Rattle.click_base.specs.declared.class.Class.{Class}
+use Rattle.click_base.specs.declared.class.Class.TheVariants as class
+
+-- a class that takes from `least` to `most` arguments
+abbrev pub taking : {A : Type 0} → ℕ → ℕ → List (List ℕ) → Result A ArgFault → Result A ArgFault
+taking least most args r = if nat_le least (length args) && nat_le (length args) most then r else Err fault.ArgumentCount
+
+-- the argument at a place
+abbrev pub argument_at : List (List ℕ) → ℕ → List ℕ
+argument_at args k = slice_index_or args k []
+
+-- an argument that may be left out, or a value in its place
+abbrev pub given_or : {A : Type 0} → A → (List ℕ → Result A ArgFault) → Option (List ℕ) → Result A ArgFault
+given_or default read None = Ok default
+given_or default read (Some bytes) = read bytes
+
+abbrev pub optional : {A : Type 0} → List (List ℕ) → ℕ → A → (List ℕ → Result A ArgFault) → Result A ArgFault
+optional args k default read = given_or default read (slice_get args k)
+
+-- a class without arguments
+unfoldable pub without_arguments : State → List (List ℕ) → Result State ArgFault
+without_arguments s args = taking 0 0 args (Ok s)
+
+-- a Suppressor all of whose inputs are active
+abbrev pub suppressor : State
+suppressor = state.Suppressor (replicate 16 true)
+
+-- how many packets a queue has room for
+unfoldable pub capacity : List (List ℕ) → Result ℕ ArgFault
+capacity args = taking 0 1 args (optional args 0 1000 (number_in 1 10000))
+
+abbrev pub empty : ℕ → PacketList
+empty n = record { packets = []; capacity = n }
+
+unfoldable pub queue : List (List ℕ) → Result State ArgFault
+queue args = capacity args >>= λ n. Ok (state.Queue (empty n) 0 0)
+
+unfoldable pub front_drop_queue : List (List ℕ) → Result State ArgFault
+front_drop_queue args = capacity args >>= λ n. Ok (state.FrontDropQueue (empty n) 0 0)
+
+-- the port of a switch, None for -1
+unfoldable pub switch_port : List (List ℕ) → Result (Option ℕ) ArgFault
+switch_port args = taking 0 1 args (optional args 0 (Some 0) (number_or_minus_one 255))
+
+unfoldable pub switch : List (List ℕ) → Result State ArgFault
+switch args = switch_port args >>= λ k. Ok (state.Switch k)
+
+unfoldable pub pull_switch : List (List ℕ) → Result State ArgFault
+pull_switch args = switch_port args >>= λ k. Ok (state.PullSwitch k)
+
+-- how many outputs there have to be, if that is said
+unfoldable pub copies : List (List ℕ) → Result (Option ℕ) ArgFault
+copies args = taking 0 1 args (optional args 0 None (λ bytes. some (number_in 1 256 bytes)))
+
+unfoldable pub tee : List (List ℕ) → Result State ArgFault
+tee args = copies args >>= λ n. Ok (state.Tee n)
+
+unfoldable pub pull_tee : List (List ℕ) → Result State ArgFault
+pull_tee args = copies args >>= λ n. Ok (state.PullTee n)
+
+-- a number up to a bound as the only argument
+unfoldable pub only_number : ℕ → List (List ℕ) → Result ℕ ArgFault
+only_number high args = taking 1 1 args (number_in 0 high (argument_at args 0))
+
+unfoldable pub paint : List (List ℕ) → Result State ArgFault
+paint args = only_number 255 args >>= λ c. Ok (state.Paint c)
+
+unfoldable pub paint_tee : List (List ℕ) → Result State ArgFault
+paint_tee args = only_number 255 args >>= λ c. Ok (state.PaintTee c)
+
+unfoldable pub strip : List (List ℕ) → Result State ArgFault
+strip args = only_number 1600 args >>= λ n. Ok (state.Strip n)
+
+unfoldable pub check_length : List (List ℕ) → Result State ArgFault
+check_length args = only_number 65535 args >>= λ n. Ok (state.CheckLength n)
+
+unfoldable pub get_ip_address : List (List ℕ) → Result State ArgFault
+get_ip_address args = only_number 1596 args >>= λ n. Ok (state.GetIPAddress n)
+
+-- an Ethernet header: destination, source, and the type with its high byte first
+abbrev pub ether_header : ℕ → List ℕ → List ℕ → List ℕ
+ether_header ether_type source destination = destination ++ source ++ (ether_type / 256) ∷ (ether_type % 256) ∷ []
+
+unfoldable pub ether_encap : List (List ℕ) → Result State ArgFault
+ether_encap args = taking 3 3 args
+    (number_in 0 65535 (argument_at args 0) >>= λ t.
+    ethernet (argument_at args 1) >>= λ source.
+    ethernet (argument_at args 2) >>= λ destination.
+    Ok (state.EtherEncap (ether_header t source destination)))
+
+-- the name of a device as the only argument
+unfoldable pub device : List (List ℕ) → Result (List ℕ) ArgFault
+device args = taking 1 1 args (if is_device (argument_at args 0) then Ok (argument_at args 0) else Err fault.BadText)
+
+unfoldable pub from_device : List (List ℕ) → Result State ArgFault
+from_device args = device args >>= λ d. Ok (state.FromDevice d)
+
+unfoldable pub to_device : List (List ℕ) → Result State ArgFault
+to_device args = device args >>= λ d. Ok (state.ToDevice d)
+
+-- Classifier's first state by the words of its arguments
+unfoldable pub classifier : List (List (List ℕ)) → Result State ArgFault
+classifier args = each pattern args >>= λ ps. Ok (state.Classifier ps)
+
+-- StaticIPLookup's first state by the words of its arguments
+unfoldable pub static_ip_lookup : List (List (List ℕ)) → Result State ArgFault
+static_ip_lookup args = table [] args >>= λ es. Ok (state.StaticIPLookup es)
+
+-- up to 64 addresses, as the words of an argument
+unfoldable pub addresses : List (List ℕ) → Result (List (List ℕ)) ArgFault
+addresses words = if nat_le (length words) 64 then each address words else Err fault.OutOfRange
+
+-- CheckIPHeader's first state by the words of its arguments
+unfoldable pub check_ip_header : List (List (List ℕ)) → Result State ArgFault
+check_ip_header args =
+    (if length args == 0 then Ok [] else addresses (slice_index_or args 0 [])) >>= λ rs. Ok (state.CheckIPHeader rs)
+
+-- the bytes of InfiniteSource's packets: those that an argument stands for, if it is well quoted, or 64 zeros
+abbrev pub source_bytes : Option (Option (List ℕ)) → Result (List ℕ) ArgFault
+source_bytes None = Ok (replicate 64 0)
+source_bytes (Some None) = Err fault.BadText
+source_bytes (Some (Some bytes)) = if nat_le (length bytes) 1600 then Ok bytes else Err fault.OutOfRange
+
+-- InfiniteSource's first state by its arguments and what the first stands for
+unfoldable pub infinite_source : Option (Option (List ℕ)) → List (List ℕ) → Result State ArgFault
+infinite_source first args =
+    source_bytes first >>= λ bytes.
+    optional args 1 None (number_or_minus_one (2 ^ 64 - 1)) >>= λ limit.
+    optional args 2 1 (number_in 1 64) >>= λ burst.
+    optional args 3 true truth >>= λ active.
+    Ok (state.InfiniteSource bytes limit burst active 0)
 
 -- by the words of the arguments, whose number is tested first
 abbrev pub ByWords : ℕ → ℕ → (List (List (List ℕ)) → Result State ArgFault) → List (List ℕ) → Result State ArgFault → Type 0

@@ -1,6 +1,6 @@
 -- An element's state: its class.
-use Rattle.click_classes.specs.declared.class.Class.{Class}
-use Rattle.click_classes.specs.declared.class.Class.TheVariants as is
+use Rattle.click_base.specs.declared.class.Class.{Class}
+use Rattle.click_base.specs.declared.class.Class.TheVariants as is
 use Rattle.click_classes.specs.declared.state.State.{State}
 use Rattle.click_classes.specs.declared.state.State.TheVariants as state
 

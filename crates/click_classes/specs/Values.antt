@@ -4,7 +4,7 @@ use Rattle.std.specs.Option.{ok_or}
 use Rattle.std.specs.List.{list_all}
 use Rattle.std.specs.Str.{bytes_eq}
 use Rattle.click_text.specs.Pieces.{digit, name_byte}
-use Rattle.click_text.specs.Unquote.{worth}
+use Rattle.click_text.specs.Unquote.{hex_digit_value}
 use Rattle.click_classes.specs.declared.fault.ArgFault.{ArgFault}
 use Rattle.click_classes.specs.declared.fault.ArgFault.TheVariants as fault
 use Rattle.click_classes.specs.declared.values.groups.Group.{Group}
@@ -17,7 +17,7 @@ hex_digit b = digit b || (nat_le 65 b && nat_le b 70) || (nat_le 97 b && nat_le 
 
 -- what a digit is worth
 abbrev pub digit_value : ℕ → ℕ
-digit_value b = unwrap_or (worth b) 0
+digit_value b = unwrap_or (hex_digit_value b) 0
 
 -- one or more bytes that all pass a test
 abbrev pub is_run : (ℕ → Bool) → List ℕ → Bool

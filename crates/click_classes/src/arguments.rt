@@ -6,7 +6,7 @@ ghost use Rattle.click_text.specs.Spans.{bytes_at};
 
 use crate::fault::ArgFault;
 use crate::values::number::number_in;
-use click_text::sequence::Sequence;
+use click_base::sequence::Sequence;
 use click_text::syntax::Span;
 use click_text::words;
 use std::alloc::Global;
@@ -33,7 +33,7 @@ impl<'a> Arguments<'a> {
     ghost use Rattle.std.specs.List.{AllZip};
     ghost use Rattle.click_text.specs.Words.{AreWords};
     ghost use Rattle.click_classes.specs.declared.fault.ArgFault.TheVariants.{NoMemory};
-    ghost use Rattle.click_classes.specs.Fresh.{only_number};
+    ghost use Rattle.click_classes.specs.Made.{only_number};
 
     /// The arguments at these places of a text.
     pub fn of(text: &'a [u8], spans: &'a [Span]) -> Arguments<'a>
@@ -77,7 +77,7 @@ impl<'a> Arguments<'a> {
     }
 
     /// The only argument, a number up to a bound.
-    #[tactic(auto, unfolding(crate::specs::Fresh::only_number))]
+    #[tactic(auto, unfolding(crate::specs::Made::only_number))]
     pub fn only_number(&self, high: u64) -> Result<u64, ArgFault>
         ensures value { result ≡ only_number high self.now }
         ensures bound { IfOk result (λ n. n ≤ high) }

@@ -1,4 +1,11 @@
-//! The classes, each with its arguments.
+//! The classes, each with its arguments, and the first state of an element.
+
+ghost use Rattle.std.specs.Prelude.{◌≡◌, ◌⊎◌, Result, Err};
+ghost use Rattle.click_classes.specs.declared.fault.ArgFault.{ArgFault};
+ghost use Rattle.click_classes.specs.declared.fault.ArgFault.TheVariants.{NoMemory};
+ghost use Rattle.click_classes.specs.declared.state.State.{State};
+ghost use Rattle.click_classes.specs.Made.{IsFresh, IsMade};
+ghost use Rattle.click_classes.specs.Steps.{OrNoMemory};
 
 pub mod address;
 pub mod classifier;
@@ -14,3 +21,76 @@ pub mod schedulers;
 pub mod source;
 pub mod switches;
 pub mod tees;
+
+use self::address::make_get_ip_address;
+use self::classifier::make_classifier;
+use self::devices::{make_from_device, make_to_device};
+use self::encap::make_ether_encap;
+use self::header::{make_check_ip_header, make_dec_ip_ttl};
+use self::length::{make_check_length, make_strip};
+use self::lookup::make_static_ip_lookup;
+use self::paint::{make_paint, make_paint_tee};
+use self::plain::{
+    make_counter, make_discard, make_idle, make_null, make_pull_null, make_push_null, make_unqueue,
+};
+use self::queues::{make_front_drop_queue, make_queue};
+use self::schedulers::{make_prio_sched, make_round_robin_sched};
+use self::source::make_infinite_source;
+use self::switches::{make_pull_switch, make_round_robin_switch, make_suppressor, make_switch};
+use self::tees::{make_pull_tee, make_tee};
+use crate::arguments::Arguments;
+use crate::fault::ArgFault;
+use crate::state::State;
+use click_base::Class;
+use click_text::arguments;
+use std::alloc::Global;
+
+/// The first state of an element of the class, or the first fault of its arguments.
+pub fn first_state(alloc: Global, class: Class, arguments: &Arguments) -> Result<State, ArgFault>
+    ensures { OrNoMemory (IsFresh class arguments.now) result }
+{
+    match class {
+        Class::Queue => make_queue(alloc, arguments),
+        Class::FrontDropQueue => make_front_drop_queue(alloc, arguments),
+        Class::Unqueue => make_unqueue(arguments),
+        Class::Counter => make_counter(arguments),
+        Class::Switch => make_switch(arguments),
+        Class::PullSwitch => make_pull_switch(arguments),
+        Class::RoundRobinSwitch => make_round_robin_switch(arguments),
+        Class::RoundRobinSched => make_round_robin_sched(arguments),
+        Class::PrioSched => make_prio_sched(arguments),
+        Class::Tee => make_tee(arguments),
+        Class::PullTee => make_pull_tee(arguments),
+        Class::Idle => make_idle(arguments),
+        Class::Discard => make_discard(arguments),
+        Class::Null => make_null(arguments),
+        Class::PushNull => make_push_null(arguments),
+        Class::PullNull => make_pull_null(arguments),
+        Class::Suppressor => make_suppressor(arguments),
+        Class::Paint => make_paint(arguments),
+        Class::PaintTee => make_paint_tee(arguments),
+        Class::Strip => make_strip(arguments),
+        Class::CheckLength => make_check_length(arguments),
+        Class::Classifier => make_classifier(alloc, arguments),
+        Class::GetIPAddress => make_get_ip_address(arguments),
+        Class::StaticIPLookup => make_static_ip_lookup(alloc, arguments),
+        Class::CheckIPHeader => make_check_ip_header(alloc, arguments),
+        Class::DecIPTTL => make_dec_ip_ttl(arguments),
+        Class::EtherEncap => make_ether_encap(arguments),
+        Class::InfiniteSource => make_infinite_source(alloc, arguments),
+        Class::FromDevice => make_from_device(alloc, arguments),
+        Class::ToDevice => make_to_device(alloc, arguments),
+    }
+}
+
+/// The first state of an element of the class with that configuration string, or the first fault of its arguments: their
+/// number first, and then the arguments from left to right.
+pub fn make(alloc: Global, class: Class, text: &[u8]) -> Result<State, ArgFault>
+    // What is answered is so, or memory ran out.
+    ensures made { OrNoMemory (IsMade class text.now) result }
+    // What is so is answered, or memory ran out.
+    ensures only { (r : Result State ArgFault) → IsMade class text.now r → (result ≡ r) ⊎ (result ≡ Err NoMemory) }
+{
+    let spans = arguments(alloc, text)?;
+    first_state(alloc, class, &Arguments::of(text, spans.as_slice()))
+}

@@ -1,21 +1,20 @@
 //! What holds of the definitions.
 
 ghost use Rattle.std.specs.Prelude.{◌≡◌, ◌↔◌, ℕ, ◌+◌, ◌-◌, ◌^◌, ◌<◌, ◌≤◌, [], ◌∷◌, ◌++◌, List, length, take, max, Ok, Option, Some, None, codes, slice_get, true};
-ghost use Rattle.click_classes.specs.declared.class.Class.{Class};
+ghost use Rattle.click_base.specs.declared.class.Class.{Class};
 ghost use Rattle.click_classes.specs.declared.state.State.{State};
 ghost use Rattle.click_classes.specs.declared.values.entry.Entry.{Entry};
 ghost use Rattle.click_classes.specs.declared.values.pattern.Pattern.{Pattern};
 ghost use Rattle.click_classes.specs.declared.values.prefix.Prefix.{Prefix};
-ghost use Rattle.click_classes.specs.declared.class.TheConstants.{CLASSES};
 ghost use Rattle.click_packet.specs.Header.{IsGoodHeader};
 ghost use Rattle.click_packet.specs.Packet.{Packet};
 ghost use Rattle.click_classes.specs.Acts.{pass, act, tries, gives, stored, emission, Stored};
 ghost use Rattle.click_classes.specs.PacketList.{PacketList};
 ghost use Rattle.click_classes.specs.Queues.{Queued, queue_of, IsSound};
 ghost use Rattle.click_classes.specs.Settings.{settings};
-ghost use Rattle.click_classes.specs.declared.acting.Fate.{Fate};
-ghost use Rattle.click_classes.specs.Classes.{classes, name, class_of};
-ghost use Rattle.click_classes.specs.Counts.{counts};
+ghost use Rattle.click_classes.specs.declared.packet_effects.Verdict.{Verdict};
+ghost use Rattle.click_base.specs.Classes.{classes, name, class_of};
+ghost use Rattle.click_classes.specs.Ports.{counts};
 ghost use Rattle.click_classes.specs.Entries.{table};
 ghost use Rattle.click_classes.specs.Fitting.{FitsPorts, HasTurn, AreThere, AreAsked};
 ghost use Rattle.click_classes.specs.Made.{IsMade};
@@ -26,16 +25,6 @@ ghost use Rattle.click_classes.specs.State.{class};
 ghost use Rattle.click_classes.specs.TakeOver.{taken_over};
 ghost use Rattle.click_classes.specs.Uses.{HasUse};
 ghost use Rattle.click_classes.specs.Values.{cleared, prefix};
-
-/// The classes stand in the order of the reference.
-pub fn classes_in_order()
-    ensures { CLASSES ≡ classes }
-{}
-
-/// Each class is found by its name, and by no other word.
-pub fn found_by_name()
-    ensures { (c : Class) (text : List ℕ) → (class_of text ≡ Some c) ↔ (name c ≡ text) }
-{}
 
 /// The pattern `-` matches each packet.
 pub fn matches_all()
@@ -123,7 +112,7 @@ pub fn packets_keep_settings()
 
 /// A packet whose header is good and that DecIPTTL lets pass has a good header again.
 pub fn aged_header_is_good()
-    ensures { (p : Packet) (refused : List (List ℕ)) → (pass State.DecIPTTL p).fate ≡ Fate.Onward → IsGoodHeader p.bytes refused
+    ensures { (p : Packet) (refused : List (List ℕ)) → (pass State.DecIPTTL p).verdict ≡ Verdict.Forward → IsGoodHeader p.bytes refused
         → IsGoodHeader (pass State.DecIPTTL p).packet.bytes refused }
 {}
 

@@ -1,32 +1,27 @@
 //! The element classes: their arguments, first states, port counts and port codes (Click element reference).
 #![tactic(auto)]
 
-mod acting;
 mod arguments;
-mod class;
 mod classes;
-mod codes;
 mod fault;
+mod hot_swap;
 pub mod laws;
-mod making;
+mod packet_effects;
 mod packet_list;
 mod patterns;
-mod port_counts;
+mod port_rules;
 mod ports;
 mod routes;
 mod state;
-mod taking_over;
 pub mod value_laws;
 mod values;
 
-pub use acting::{Fate, Outcome, PortRange, after};
-pub use class::{CLASSES, Class, class_of};
-pub use codes::{code, passes};
+pub use classes::make;
 pub use fault::ArgFault;
-pub use making::make;
+pub use packet_effects::{PortRange, PullOutcome, Verdict, after};
 pub use packet_list::PacketList;
 pub use patterns::Patterns;
-pub use port_counts::counts;
+pub use port_rules::{code, counts, passes};
 pub use ports::{Code, Counts, Side};
 pub use routes::Routes;
 pub use state::State;

@@ -3,10 +3,10 @@
 ghost use Rattle.std.specs.Prelude.{◌≡◌, ◌≤◌, ◌<◌, ◌+◌, ◌^◌, ◌&&◌, nat_le, length, drop, IfOk, IfSome};
 ghost use Rattle.std.specs.List.{list_all};
 ghost use Rattle.click_classes.specs.Acts.{classified};
-ghost use Rattle.click_classes.specs.kept.Masks.{word, at_place, behind, fits, step_holds, test_holds, tests_hold, first_ready, IsStep, AreSteps, IsTest, AreTests};
+ghost use Rattle.click_classes.specs.kept.Masks.{word, at_place, behind, fits, step_holds, test_holds, tests_hold, first_matching, IsStep, AreSteps, IsTest, AreTests};
 
 use crate::values::pattern::{Clause, Pattern};
-use click_text::sequence::Sequence;
+use click_base::sequence::Sequence;
 use std::alloc::{AllocError, Global};
 use std::marker::Model;
 
@@ -220,8 +220,8 @@ fn tests_hold(tests: &Sequence<Test>, bytes: &[u8]) -> bool
 }
 
 /// The place of the first pattern whose tests all hold.
-fn first_ready(ready: &[Sequence<Test>], bytes: &[u8]) -> Option<usize>
-    ensures place { result ≡ first_ready ready.now bytes.now }
+fn first_matching(ready: &[Sequence<Test>], bytes: &[u8]) -> Option<usize>
+    ensures place { result ≡ first_matching ready.now bytes.now }
     ensures bound { IfSome result (λ place. place < length ready.now) }
 {
     ready.iter().position(|tests| tests_hold(tests, bytes))
@@ -255,6 +255,6 @@ impl Patterns {
     {
         let ready = self.ready.as_slice();
         let most = 256_usize.min(ready.len());
-        first_ready(&ready[..most], bytes)
+        first_matching(&ready[..most], bytes)
     }
 }

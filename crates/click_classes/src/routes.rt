@@ -6,7 +6,7 @@ ghost use Rattle.click_classes.specs.Routes.{route};
 ghost use Rattle.click_classes.specs.kept.Rows.{IsAddress, word, IsShort, has_len, longest_first, IsReady, entry_of, first_found};
 
 use crate::values::entry::Entry;
-use click_text::sequence::Sequence;
+use click_base::sequence::Sequence;
 use std::alloc::{AllocError, Global};
 use std::marker::Model;
 

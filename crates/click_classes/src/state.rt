@@ -3,11 +3,11 @@
 ghost use Rattle.std.specs.Prelude.{◌≡◌};
 ghost use Rattle.click_classes.specs.State.{class};
 
-use crate::class::Class;
 use crate::packet_list::PacketList;
 use crate::patterns::Patterns;
 use crate::routes::Routes;
-use click_text::sequence::Sequence;
+use click_base::Class;
+use click_base::sequence::Sequence;
 
 /// A state of each class, with the values that its arguments and its handlers have.
 #[derive(Drop)]

@@ -1,8 +1,8 @@
-pub mod Following
-pub mod Going
-pub mod Saying
-pub mod Sessions
-pub mod Streams
+pub mod KnownWords
+pub mod LineMeanings
+pub mod LineRests
+pub mod PartialLines
+pub mod SessionLines
+pub mod SessionProgress
+pub mod StreamCommands
 pub mod Words
-pub mod Waiting
-pub mod LineWords

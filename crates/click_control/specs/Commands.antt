@@ -1,10 +1,10 @@
 -- The commands of a stream of bytes (Click manual, "ControlSocket").
 use Rattle.std.specs.Prelude.{◌≡◌, ◌⊎◌, ℕ, zero, suc, ◌-◌, List, [], ◌∷◌, ◌++◌, length, take_while, Bool, true, false, not, ◌||◌, nat_eq, nat_le, Option, Some, None, codes, if◌then◌else◌}
 use Rattle.std.specs.Str.{str_eq_ignore_ascii_case}
-use Rattle.click_handlers.specs.Blanks.{is_blank, without_front, trimmed}
+use Rattle.click_base.specs.Blanks.{is_blank, without_front, trimmed}
 use Rattle.click_classes.specs.Values.{digits}
-use Rattle.click_control.specs.declared.way.Way.{Way}
-use Rattle.click_control.specs.declared.way.Way.TheVariants as way
+use Rattle.click_control.specs.declared.direction.Direction.{Direction}
+use Rattle.click_control.specs.declared.direction.Direction.TheVariants as direction
 use Rattle.click_control.specs.declared.command.Command.{Command}
 use Rattle.click_control.specs.declared.command.Command.TheVariants as command
 
@@ -38,61 +38,61 @@ abbrev pub longest_payload : ℕ
 longest_payload = 1048576
 
 -- a line is blank, or it is a whole command, or it announces a payload of so many bytes, one or more, for a handler
-pub data Said : Type 0 where
-  blank : Said
-  whole : Command → Said
-  announces : Way → List ℕ → ℕ → Said
+pub data ParsedLine : Type 0 where
+  blank : ParsedLine
+  whole : Command → ParsedLine
+  announces : Direction → List ℕ → ℕ → ParsedLine
 
 -- the command that hands a handler a text
-abbrev pub text_command : Way → List ℕ → List ℕ → Command
-text_command way.Read handler text = command.Read handler text
-text_command way.Write handler text = command.Write handler text
+abbrev pub text_command : Direction → List ℕ → List ℕ → Command
+text_command direction.Read handler text = command.Read handler text
+text_command direction.Write handler text = command.Write handler text
 
-abbrev pub check_command : Way → List ℕ → Command
-check_command way.Read handler = command.CheckRead handler
-check_command way.Write handler = command.CheckWrite handler
+abbrev pub check_command : Direction → List ℕ → Command
+check_command direction.Read handler = command.CheckRead handler
+check_command direction.Write handler = command.CheckWrite handler
 
 -- `READ` or `WRITE`: a handler, and a text
-abbrev pub text_said : Way → List ℕ → List ℕ → Said
-text_said w [] text = whole command.Syntax
-text_said w (b ∷ handler) text = whole (text_command w (b ∷ handler) text)
+abbrev pub parse_text : Direction → List ℕ → List ℕ → ParsedLine
+parse_text w [] text = whole command.Syntax
+parse_text w (b ∷ handler) text = whole (text_command w (b ∷ handler) text)
 
 -- `CHECKREAD` or `CHECKWRITE`: a handler, and no second word
-abbrev pub check_said : Way → List ℕ → List ℕ → Said
-check_said w [] second = whole command.Syntax
-check_said w (b ∷ handler) [] = whole (check_command w (b ∷ handler))
-check_said w (b ∷ handler) (c ∷ second) = whole command.Syntax
+abbrev pub parse_check : Direction → List ℕ → List ℕ → ParsedLine
+parse_check w [] second = whole command.Syntax
+parse_check w (b ∷ handler) [] = whole (check_command w (b ∷ handler))
+parse_check w (b ∷ handler) (c ∷ second) = whole command.Syntax
 
 -- a payload of so many bytes; of none, the command is whole
-abbrev pub announced : Way → List ℕ → Option ℕ → Said
-announced w handler None = whole command.Syntax
-announced w handler (Some zero) = whole (text_command w handler [])
-announced w handler (Some (suc n)) = if nat_le (suc n) longest_payload then announces w handler (suc n) else whole command.DataTooLong
+abbrev pub payload_line : Direction → List ℕ → Option ℕ → ParsedLine
+payload_line w handler None = whole command.Syntax
+payload_line w handler (Some zero) = whole (text_command w handler [])
+payload_line w handler (Some (suc n)) = if nat_le (suc n) longest_payload then announces w handler (suc n) else whole command.DataTooLong
 
 -- `READDATA` or `WRITEDATA`: a handler, the payload's length in decimal digits alone, and no third word
-abbrev pub data_said : Way → List ℕ → List ℕ → List ℕ → Said
-data_said w handler count [] = announced w handler (digits count)
-data_said w handler count (b ∷ third) = whole command.Syntax
+abbrev pub parse_data : Direction → List ℕ → List ℕ → List ℕ → ParsedLine
+parse_data w handler count [] = payload_line w handler (digits count)
+parse_data w handler count (b ∷ third) = whole command.Syntax
 
 -- what a line says, whose first word is this, and which goes on so; case does not matter in that word
-abbrev pub said_by : List ℕ → List ℕ → Said
-said_by word rest =
-    if str_eq_ignore_ascii_case word (codes "READ") then text_said way.Read (first_word rest) (trimmed (after_word rest))
-    else if str_eq_ignore_ascii_case word (codes "WRITE") then text_said way.Write (first_word rest) (trimmed (after_word rest))
-    else if str_eq_ignore_ascii_case word (codes "READDATA") then data_said way.Read (first_word rest) (second_word rest) (third_word rest)
-    else if str_eq_ignore_ascii_case word (codes "WRITEDATA") then data_said way.Write (first_word rest) (second_word rest) (third_word rest)
-    else if str_eq_ignore_ascii_case word (codes "CHECKREAD") then check_said way.Read (first_word rest) (second_word rest)
-    else if str_eq_ignore_ascii_case word (codes "CHECKWRITE") then check_said way.Write (first_word rest) (second_word rest)
+abbrev pub parse_after : List ℕ → List ℕ → ParsedLine
+parse_after word rest =
+    if str_eq_ignore_ascii_case word (codes "READ") then parse_text direction.Read (first_word rest) (trimmed (after_word rest))
+    else if str_eq_ignore_ascii_case word (codes "WRITE") then parse_text direction.Write (first_word rest) (trimmed (after_word rest))
+    else if str_eq_ignore_ascii_case word (codes "READDATA") then parse_data direction.Read (first_word rest) (second_word rest) (third_word rest)
+    else if str_eq_ignore_ascii_case word (codes "WRITEDATA") then parse_data direction.Write (first_word rest) (second_word rest) (third_word rest)
+    else if str_eq_ignore_ascii_case word (codes "CHECKREAD") then parse_check direction.Read (first_word rest) (second_word rest)
+    else if str_eq_ignore_ascii_case word (codes "CHECKWRITE") then parse_check direction.Write (first_word rest) (second_word rest)
     else if str_eq_ignore_ascii_case word (codes "QUIT") then whole command.Quit
     else whole (command.Unknown word)
 
 -- a line without a word is blank
-abbrev pub said_unless_blank : List ℕ → List ℕ → Said
-said_unless_blank [] rest = blank
-said_unless_blank (b ∷ word) rest = said_by (b ∷ word) rest
+abbrev pub parse_unless_blank : List ℕ → List ℕ → ParsedLine
+parse_unless_blank [] rest = blank
+parse_unless_blank (b ∷ word) rest = parse_after (b ∷ word) rest
 
-abbrev pub said_of : List ℕ → Said
-said_of line = said_unless_blank (first_word line) (after_word line)
+abbrev pub parse_line : List ℕ → ParsedLine
+parse_line line = parse_unless_blank (first_word line) (after_word line)
 
 -- ---- the commands of a stream
 
@@ -113,8 +113,8 @@ is_last (command.Unknown word) = false
 pub data Reading : Type 0 where
   in_line : List ℕ → Reading
   after_return : Reading
-  before_payload : Way → List ℕ → ℕ → Reading
-  in_payload : Way → List ℕ → ℕ → List ℕ → Reading
+  before_payload : Direction → List ℕ → ℕ → Reading
+  in_payload : Direction → List ℕ → ℕ → List ℕ → Reading
   over : Reading
 
 -- LF and CR end a line
@@ -127,7 +127,7 @@ HasNoEnd [] = Unit {0}
 HasNoEnd (b ∷ bs) = (is_end b ≡ false) × HasNoEnd bs
 
 -- the command that is whole at the end of a line that says this
-abbrev pub listed : Said → List Command
+abbrev pub listed : ParsedLine → List Command
 listed blank = []
 listed (whole c) = c ∷ []
 listed (announces w handler n) = []
@@ -137,11 +137,11 @@ abbrev pub after_end : ℕ → Reading
 after_end b = if nat_eq b 13 then after_return else in_line []
 
 -- the same where a payload follows
-abbrev pub payload_after : Way → List ℕ → ℕ → ℕ → Reading
+abbrev pub payload_after : Direction → List ℕ → ℕ → ℕ → Reading
 payload_after w handler n b = if nat_eq b 13 then before_payload w handler n else in_payload w handler n []
 
 -- where the reading stands after a line that says this, with this end
-abbrev pub after_line : Said → ℕ → Reading
+abbrev pub after_line : ParsedLine → ℕ → Reading
 after_line blank b = after_end b
 after_line (whole c) b = if is_last c then over else after_end b
 after_line (announces w handler n) b = payload_after w handler n b
@@ -149,10 +149,10 @@ after_line (announces w handler n) b = payload_after w handler n b
 -- the command that is whole with the next byte of a line that begins so: at its end, or where it becomes too long
 abbrev pub completed_in : List ℕ → ℕ → List Command
 completed_in line b =
-    if is_end b then listed (said_of line) else if nat_le longest_line (length line) then command.LineTooLong ∷ [] else []
+    if is_end b then listed (parse_line line) else if nat_le longest_line (length line) then command.LineTooLong ∷ [] else []
 
 -- with the next byte of a payload, of which so many are still to come: with the last of them
-abbrev pub completed_payload : Way → List ℕ → ℕ → List ℕ → ℕ → List Command
+abbrev pub completed_payload : Direction → List ℕ → ℕ → List ℕ → ℕ → List Command
 completed_payload w handler n came b = if nat_le n 1 then text_command w handler (came ++ b ∷ []) ∷ [] else []
 
 abbrev pub completed : Reading → ℕ → List Command
@@ -165,10 +165,10 @@ completed over b = []
 -- where the reading stands after the next byte
 abbrev pub after_byte_in : List ℕ → ℕ → Reading
 after_byte_in line b =
-    if is_end b then after_line (said_of line) b else if nat_le longest_line (length line) then over else in_line (line ++ b ∷ [])
+    if is_end b then after_line (parse_line line) b else if nat_le longest_line (length line) then over else in_line (line ++ b ∷ [])
 
 -- right after a payload a line begins
-abbrev pub after_payload_byte : Way → List ℕ → ℕ → List ℕ → ℕ → Reading
+abbrev pub after_payload_byte : Direction → List ℕ → ℕ → List ℕ → ℕ → Reading
 after_payload_byte w handler n came b = if nat_le n 1 then in_line [] else in_payload w handler (n - 1) (came ++ b ∷ [])
 
 abbrev pub after_byte : Reading → ℕ → Reading

@@ -1,4 +1,4 @@
-pub mod Alone
+pub mod RouterPort
 pub mod Commands
 pub mod Devices
 pub mod LineWords

@@ -1,9 +1,9 @@
 -- The words of a line, and what stands between them.
 use Rattle.std.specs.Prelude.{◌≡◌, ℕ, ◌<◌, List, [], ◌∷◌, length, true, not, codes}
 use Rattle.std.specs.List.{list_all}
-use Rattle.click_handlers.specs.Blanks.{is_blank}
-use Rattle.click_control.specs.declared.way.Way.{Way}
-use Rattle.click_control.specs.declared.way.Way.TheVariants as way
+use Rattle.click_base.specs.Blanks.{is_blank}
+use Rattle.click_control.specs.declared.direction.Direction.{Direction}
+use Rattle.click_control.specs.declared.direction.Direction.TheVariants as direction
 
 abbrev pub AreBlanks : List ℕ → Type 0
 AreBlanks bs = list_all is_blank bs ≡ true
@@ -22,16 +22,16 @@ EndsWord [] = Unit {0}
 EndsWord (b ∷ bs) = is_blank b ≡ true
 
 -- the word that a line begins with which hands a handler a text
-abbrev pub text_word : Way → List ℕ
-text_word way.Read = codes "READ"
-text_word way.Write = codes "WRITE"
+abbrev pub text_word : Direction → List ℕ
+text_word direction.Read = codes "READ"
+text_word direction.Write = codes "WRITE"
 
 -- which asks whether a handler can be used so
-abbrev pub check_word : Way → List ℕ
-check_word way.Read = codes "CHECKREAD"
-check_word way.Write = codes "CHECKWRITE"
+abbrev pub check_word : Direction → List ℕ
+check_word direction.Read = codes "CHECKREAD"
+check_word direction.Write = codes "CHECKWRITE"
 
 -- which announces a payload
-abbrev pub data_word : Way → List ℕ
-data_word way.Read = codes "READDATA"
-data_word way.Write = codes "WRITEDATA"
+abbrev pub data_word : Direction → List ℕ
+data_word direction.Read = codes "READDATA"
+data_word direction.Write = codes "WRITEDATA"

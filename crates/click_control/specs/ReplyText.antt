@@ -6,11 +6,11 @@ use Rattle.click_router.specs.declared.call.Reply.TheVariants as reply
 use Rattle.click_router.specs.declared.call.Refusal.{Refusal}
 use Rattle.click_router.specs.declared.call.Refusal.TheVariants as refusal
 use Rattle.click_router.specs.FaultText as config
-use Rattle.click_router.specs.One.{is_dot}
+use Rattle.click_base.specs.Dotted.{is_dot}
 use Rattle.click_control.specs.declared.port.AskFault.{AskFault}
 use Rattle.click_control.specs.declared.port.AskFault.TheVariants as ask
-use Rattle.click_control.specs.declared.way.Way.{Way}
-use Rattle.click_control.specs.declared.way.Way.TheVariants as way
+use Rattle.click_control.specs.declared.direction.Direction.{Direction}
+use Rattle.click_control.specs.declared.direction.Direction.TheVariants as direction
 use Rattle.click_control.specs.declared.command.Command.{Command}
 use Rattle.click_control.specs.declared.command.Command.TheVariants as command
 use Rattle.click_control.specs.declared.command.Answer.{Answer}
@@ -20,29 +20,29 @@ abbrev pub greeting : List ℕ
 greeting = codes "Click::ControlSocket/1.3\r\n"
 
 -- a line with a name in quotes
-abbrev pub naming : List ℕ → List ℕ → List ℕ → List ℕ
-naming front name back = front ++ codes "'" ++ name ++ codes "'" ++ back ++ codes "\r\n"
+abbrev pub quoting : List ℕ → List ℕ → List ℕ → List ℕ
+quoting front name back = front ++ codes "'" ++ name ++ codes "'" ++ back ++ codes "\r\n"
 
 -- what was read: its length, and then just its bytes
 abbrev pub data_text : List ℕ → List ℕ
 data_text bytes = codes "DATA " ++ decimal (length bytes) ++ codes "\r\n" ++ bytes
 
 -- what a handler, or a configuration, finds wrong: which handler it is, and the fault's text
-abbrev pub error_text : Way → List ℕ → List ℕ → List ℕ
-error_text way.Read handler fault = naming (codes "520-Read handler ") handler (codes " error:") ++ codes "520 " ++ fault ++ codes "\r\n"
-error_text way.Write handler fault = naming (codes "520-Write handler ") handler (codes " error:") ++ codes "520 " ++ fault ++ codes "\r\n"
+abbrev pub error_text : Direction → List ℕ → List ℕ → List ℕ
+error_text direction.Read handler fault = quoting (codes "520-Read handler ") handler (codes " error:") ++ codes "520 " ++ fault ++ codes "\r\n"
+error_text direction.Write handler fault = quoting (codes "520-Write handler ") handler (codes " error:") ++ codes "520 " ++ fault ++ codes "\r\n"
 
 -- the line of a read or a write that is good
-abbrev pub good_text : Way → List ℕ → List ℕ
-good_text way.Read handler = naming (codes "200 Read handler ") handler (codes " OK")
-good_text way.Write handler = naming (codes "200 Write handler ") handler (codes " OK")
+abbrev pub good_text : Direction → List ℕ → List ℕ
+good_text direction.Read handler = quoting (codes "200 Read handler ") handler (codes " OK")
+good_text direction.Write handler = quoting (codes "200 Write handler ") handler (codes " OK")
 
 -- why a read or a write was refused
-abbrev pub refused_text : Way → List ℕ → Refusal → List ℕ
-refused_text w handler refusal.NoElement = naming (codes "510 No element named ") (before_last is_dot handler) []
-refused_text w handler refusal.NoHandler = naming (codes "511 No handler named ") handler []
-refused_text way.Read handler refusal.WrongWay = naming (codes "530 Handler ") handler (codes " write-only")
-refused_text way.Write handler refusal.WrongWay = naming (codes "530 Handler ") handler (codes " read-only")
+abbrev pub refused_text : Direction → List ℕ → Refusal → List ℕ
+refused_text w handler refusal.NoElement = quoting (codes "510 No element named ") (before_last is_dot handler) []
+refused_text w handler refusal.NoHandler = quoting (codes "511 No handler named ") handler []
+refused_text direction.Read handler refusal.WrongWay = quoting (codes "530 Handler ") handler (codes " write-only")
+refused_text direction.Write handler refusal.WrongWay = quoting (codes "530 Handler ") handler (codes " read-only")
 refused_text w handler (refusal.Handler f) = error_text w handler (fault_text f)
 refused_text w handler (refusal.Config f) = error_text w handler (config.fault_text f)
 
@@ -52,24 +52,24 @@ failed_text ask.NoMemory = codes "520 Out of memory\r\n"
 failed_text ask.HistoryFull = codes "520 History full\r\n"
 
 -- where a session may not make the call: it may always read
-abbrev pub denied_text : Way → List ℕ → List ℕ
-denied_text way.Read handler = []
-denied_text way.Write handler = naming (codes "530 Permission denied for ") handler []
+abbrev pub denied_text : Direction → List ℕ → List ℕ
+denied_text direction.Read handler = []
+denied_text direction.Write handler = quoting (codes "530 Permission denied for ") handler []
 
 -- the answer to a read of a handler: its value, or why it has none; no text for the replies that only other calls have
 abbrev pub read_text : List ℕ → Answer → List ℕ
-read_text handler (answer.Replied (reply.Value bytes)) = good_text way.Read handler ++ data_text bytes
+read_text handler (answer.Replied (reply.Value bytes)) = good_text direction.Read handler ++ data_text bytes
 read_text handler (answer.Replied reply.Done) = []
-read_text handler (answer.Replied (reply.Refused why)) = refused_text way.Read handler why
+read_text handler (answer.Replied (reply.Refused why)) = refused_text direction.Read handler why
 read_text handler (answer.Replied (reply.Entered count)) = []
 read_text handler (answer.Replied (reply.Worked count)) = []
 read_text handler (answer.Replied (reply.Sent packet)) = []
 read_text handler (answer.Replied reply.NoDevice) = []
 read_text handler (answer.Failed f) = failed_text f
-read_text handler answer.NoCall = denied_text way.Read handler
+read_text handler answer.NoCall = denied_text direction.Read handler
 
 -- the answer to a write, and to the question whether a handler can be used that way
-abbrev pub done_text : Way → List ℕ → Answer → List ℕ
+abbrev pub done_text : Direction → List ℕ → Answer → List ℕ
 done_text w handler (answer.Replied (reply.Value bytes)) = []
 done_text w handler (answer.Replied reply.Done) = good_text w handler
 done_text w handler (answer.Replied (reply.Refused why)) = refused_text w handler why
@@ -88,11 +88,11 @@ uncalled_text (answer.Failed f) text = []
 
 abbrev pub text_of : Command → Answer → List ℕ
 text_of (command.Read handler text) a = read_text handler a
-text_of (command.Write handler text) a = done_text way.Write handler a
-text_of (command.CheckRead handler) a = done_text way.Read handler a
-text_of (command.CheckWrite handler) a = done_text way.Write handler a
+text_of (command.Write handler text) a = done_text direction.Write handler a
+text_of (command.CheckRead handler) a = done_text direction.Read handler a
+text_of (command.CheckWrite handler) a = done_text direction.Write handler a
 text_of command.Quit a = uncalled_text a (codes "200 Goodbye!\r\n")
 text_of command.Syntax a = uncalled_text a (codes "500 Syntax error\r\n")
 text_of command.LineTooLong a = uncalled_text a (codes "500 Line too long\r\n")
 text_of command.DataTooLong a = uncalled_text a (codes "500 Data too long\r\n")
-text_of (command.Unknown word) a = uncalled_text a (naming (codes "501 Unimplemented command ") word [])
+text_of (command.Unknown word) a = uncalled_text a (quoting (codes "501 Unimplemented command ") word [])

@@ -1,4 +1,4 @@
 -- What the code keeps on its way; no public contract cites it.
 pub mod Going
 pub mod Lines
-pub mod Shown
+pub mod ReplyRef

@@ -1,8 +1,8 @@
 //! A session's commands, and what comes of them.
 
 use crate::port::AskFault;
+use click_base::sequence::Sequence;
 use click_router::Reply;
-use click_text::sequence::Sequence;
 
 /// One command of a session (Click manual, "ControlSocket").
 #[derive(Drop)]

@@ -125,7 +125,7 @@ impl<D: InputDevice> Source for Reading<D> {
         ensures bound { IfOk result (λ n. n ≤ length piece.new) }
         ensures bytes { ReadConsumes (D.remaining self.old.device) (D.remaining self.new.device) result piece.new }
         ensures counted { OnOk result (self.new.reads ≡ self.old.reads + 1) }
-        ensures uncounted { OnErr result (self.new.reads ≡ self.old.reads) }
+        ensures bad_count { OnErr result (self.new.reads ≡ self.old.reads) }
         ensures stays { self.old.failed ≡ true → is_err result ≡ true }
         ensures failed { self.new.failed ≡ (self.old.failed || is_err result) }
         // It fails only where the device did, in the one read that is made of it.

@@ -1,22 +1,22 @@
 //! Control sessions (Click::ControlSocket/1.3): bytes to commands, commands to calls, answers to bytes.
 #![tactic(auto)]
 
-mod alone;
 mod command;
 mod device;
+mod direction;
 pub mod laws;
 mod line;
 pub mod line_laws;
+mod parsed;
 mod peer;
 mod port;
 mod reply;
-mod said;
+mod reply_ref;
+mod router_port;
 mod serving;
 mod session;
-mod shown;
 mod start;
 mod turns;
-mod way;
 
 pub use command::{Answer, Command};
 pub use device::{InputDevice, OutputDevice, Reading, Writing};

@@ -1,17 +1,17 @@
 //! The first line of some bytes, with the payload that it announces.
 
 ghost use Rattle.std.specs.Prelude.{◌≡◌, ◌<◌, ◌≤◌, ℕ, List, length, take, true, slice_index, IfOk, MatchOption, Some};
-ghost use Rattle.click_control.specs.Commands.{is_end, said_of, announces, HasNoEnd};
-ghost use Rattle.click_control.specs.kept.Lines.{IsEnded, IsFound, end_length};
+ghost use Rattle.click_control.specs.Commands.{is_end, parse_line, announces, HasNoEnd};
+ghost use Rattle.click_control.specs.kept.Lines.{IsEnded, IsFirstLine, end_length};
 ghost use Rattle.click_control.specs.declared.command.Command.TheVariants as command;
 ghost use Rattle.click_control.specs.declared.start.Start.TheVariants as start;
-ghost use Rattle.click_control.specs.declared.line.Found.TheVariants as found;
+ghost use Rattle.click_control.specs.declared.line.FirstLine.TheVariants as found;
 
 use crate::command::Command;
-use crate::said::{Said, said_of, text_command};
+use crate::direction::Direction;
+use crate::parsed::{ParsedLine, parse_line, text_command};
 use crate::start::{Start, after_end, start_after};
-use crate::way::Way;
-use click_text::sequence::Sequence;
+use click_base::sequence::Sequence;
 use memchr::memchr2;
 use std::alloc::{AllocError, Global};
 
@@ -20,7 +20,7 @@ const LONGEST_LINE: usize = 65_536;
 
 /// What bytes from the beginning of a line on hold.
 #[derive(Drop)]
-pub enum Found {
+pub enum FirstLine {
     /// No command is whole, and none is with fewer bytes than are wanted. The first that were searched hold no line end.
     Partial {
         searched: usize,
@@ -35,14 +35,14 @@ pub enum Found {
 }
 
 /// Finds the first line, and its payload. The first bytes that were searched before hold no line end.
-pub fn first_line(alloc: Global, bytes: &[u8], searched: usize) -> Result<Found, AllocError>
+pub fn first_line(alloc: Global, bytes: &[u8], searched: usize) -> Result<FirstLine, AllocError>
     requires within { searched ≤ length bytes.now }
     requires no_end { HasNoEnd (take searched bytes.now) }
-    ensures { IfOk result (λ found. IsFound bytes.now found) }
+    ensures { IfOk result (λ found. IsFirstLine bytes.now found) }
 {
     match line_len(bytes, searched) {
         None if bytes.len() > LONGEST_LINE => Ok(too_long(bytes)),
-        None => Ok(Found::Partial {
+        None => Ok(FirstLine::Partial {
             searched: bytes.len(),
             wanted: 0,
         }),
@@ -52,10 +52,10 @@ pub fn first_line(alloc: Global, bytes: &[u8], searched: usize) -> Result<Found,
 }
 
 /// The same, where the first line is too long.
-fn too_long(bytes: &[u8]) -> Found
+fn too_long(bytes: &[u8]) -> FirstLine
     ensures { result ≡ found.Taken (Some command.LineTooLong) (length bytes.now) start.Over }
 {
-    Found::Taken {
+    FirstLine::Taken {
         command: Some(Command::LineTooLong),
         length: bytes.len(),
         start: Start::Over,
@@ -63,30 +63,30 @@ fn too_long(bytes: &[u8]) -> Found
 }
 
 /// The same, where the first line has so many bytes before its end.
-fn ended_line(alloc: Global, bytes: &[u8], len: usize) -> Result<Found, AllocError>
+fn ended_line(alloc: Global, bytes: &[u8], len: usize) -> Result<FirstLine, AllocError>
     requires { IsEnded bytes.now len }
-    ensures { IfOk result (λ found. IsFound bytes.now found) }
+    ensures { IfOk result (λ found. IsFirstLine bytes.now found) }
 {
     let last = bytes[len];
-    match said_of(alloc, &bytes[..len])? {
-        Said::Blank => Ok(Found::Taken {
+    match parse_line(alloc, &bytes[..len])? {
+        ParsedLine::Blank => Ok(FirstLine::Taken {
             command: None,
             length: len + 1,
             start: after_end(last),
         }),
-        Said::Whole(command) => {
+        ParsedLine::Whole(command) => {
             let start = start_after(&command, last);
-            Ok(Found::Taken {
+            Ok(FirstLine::Taken {
                 command: Some(command),
                 length: len + 1,
                 start,
             })
         }
-        Said::Announces {
-            way,
+        ParsedLine::Announces {
+            direction,
             handler,
             count,
-        } => payload(alloc, bytes, len, way, handler, count),
+        } => payload(alloc, bytes, len, direction, handler, count),
     }
 }
 
@@ -95,27 +95,27 @@ fn payload(
     alloc: Global,
     bytes: &[u8],
     len: usize,
-    way: Way,
+    direction: Direction,
     handler: Sequence<u8>,
     count: usize,
-) -> Result<Found, AllocError>
+) -> Result<FirstLine, AllocError>
     requires ended { IsEnded bytes.now len }
-    requires says { announces way handler count ≡ said_of (take len bytes.now) }
+    requires says { announces direction handler count ≡ parse_line (take len bytes.now) }
     requires some { 0 < count }
     requires small { count ≤ 1048576 }
-    ensures { IfOk result (λ found. IsFound bytes.now found) }
+    ensures { IfOk result (λ found. IsFirstLine bytes.now found) }
 {
     let begin = len + end_len(&bytes[len..]);
     let wanted = begin + count;
     if bytes.len() < wanted {
-        return Ok(Found::Partial {
+        return Ok(FirstLine::Partial {
             searched: len,
             wanted,
         });
     }
-    let text = Sequence::of(Vec::from_slice(alloc, &bytes[begin..wanted])?);
-    Ok(Found::Taken {
-        command: Some(text_command(way, handler, text)),
+    let text = Sequence::copy_of(alloc, &bytes[begin..wanted])?;
+    Ok(FirstLine::Taken {
+        command: Some(text_command(direction, handler, text)),
         length: wanted,
         start: Start::Line,
     })

@@ -1,6 +1,6 @@
 //! Where a session's calls go.
 
-use click_router::{Call, Recorded, Reply};
+use click_router::{Call, Reply, StoredReply};
 use std::alloc::Global;
 use thiserror::Error;
 
@@ -26,7 +26,7 @@ pub trait Port {
     ghost asks: { Self → Call → Result Reply AskFault → Self → Type 0 };
 
     /// Answers one call, which is no poll, with the reply as a history keeps it, which is small.
-    fn record(&mut self, alloc: Global, call: Call) -> Result<Recorded, AskFault>
+    fn record(&mut self, alloc: Global, call: Call) -> Result<StoredReply, AskFault>
         requires { is_poll call ≡ false }
         ensures { asks self.old call result self.new };
 

@@ -2,17 +2,17 @@
 
 ghost use Rattle.std.specs.Prelude.{◌≡◌, ◌++◌, IfOk, codes};
 ghost use Rattle.std.specs.List.{before_last};
-ghost use Rattle.click_router.specs.One.{is_dot};
-ghost use Rattle.click_control.specs.ReplyText.{text_of, read_text, done_text, good_text, refused_text, failed_text, denied_text, naming, data_text, error_text};
-ghost use Rattle.click_control.specs.kept.Shown.{shown_reply, refusal_of};
+ghost use Rattle.click_base.specs.Dotted.{is_dot};
+ghost use Rattle.click_control.specs.ReplyText.{text_of, read_text, done_text, good_text, refused_text, failed_text, denied_text, quoting, data_text, error_text};
+ghost use Rattle.click_control.specs.kept.ReplyRef.{shown_reply, refusal_of};
 
 use crate::command::{Answer, Command};
+use crate::direction::Direction;
 use crate::port::AskFault;
-use crate::shown::{Cause, Shown, shown_of, shown_of_recorded};
-use crate::way::Way;
-use click_router::Recorded;
+use crate::reply_ref::{RefusalRef, ReplyRef, borrow_reply, borrow_stored_reply};
+use click_base::split;
+use click_router::StoredReply;
 use itoa::Buffer;
-use memchr::memrchr;
 use std::alloc::{AllocError, Global};
 
 /// The lines that a session writes for a command with its answer. For an answer that the command cannot have there are none.
@@ -20,7 +20,7 @@ pub fn reply_text(alloc: Global, command: &Command, answer: &Answer) -> Result<V
     ensures { IfOk result (λ text. text.items ≡ text_of command.now answer.now) }
 {
     match answer {
-        Answer::Replied(reply) => shown_text(alloc, command, shown_of(reply)),
+        Answer::Replied(reply) => shown_text(alloc, command, borrow_reply(reply)),
         Answer::Failed(fault) => unreplied_text(alloc, command, *fault),
         Answer::NoCall => uncalled_text(alloc, command),
     }
@@ -30,22 +30,27 @@ pub fn reply_text(alloc: Global, command: &Command, answer: &Answer) -> Result<V
 pub(crate) fn replied_text(
     alloc: Global,
     command: &Command,
-    reply: &Recorded,
+    reply: &StoredReply,
 ) -> Result<Vec<u8>, AllocError>
     ensures { IfOk result (λ text. text.items ≡ text_of command.now (Answer.Replied reply.now)) }
 {
-    shown_text(alloc, command, shown_of_recorded(reply))
+    shown_text(alloc, command, borrow_stored_reply(reply))
 }
 
 /// The lines for a command of whose reply this is shown.
-fn shown_text(alloc: Global, command: &Command, shown: Shown) -> Result<Vec<u8>, AllocError>
-    ensures { IfOk result (λ text. text.items ≡ text_of command.now (Answer.Replied (shown_reply shown.entry))) }
+fn shown_text(alloc: Global, command: &Command, reply_ref: ReplyRef) -> Result<Vec<u8>, AllocError>
+    ensures { IfOk result (λ text. text.items ≡ text_of command.now (Answer.Replied (shown_reply reply_ref.entry))) }
 {
     match command {
-        Command::Read { handler, .. } => read_text(alloc, handler.as_slice(), shown),
-        Command::CheckRead { handler } => done_text(alloc, Way::Read, handler.as_slice(), shown),
+        Command::Read { handler, .. } => read_text(alloc, handler.as_slice(), reply_ref),
+        Command::CheckRead { handler } => done_text(
+            alloc,
+            Direction::Read,
+            handler.as_slice(),
+            reply_ref,
+        ),
         Command::Write { handler, .. } | Command::CheckWrite { handler } => {
-            done_text(alloc, Way::Write, handler.as_slice(), shown)
+            done_text(alloc, Direction::Write, handler.as_slice(), reply_ref)
         }
         Command::Quit
         | Command::Syntax
@@ -82,50 +87,55 @@ pub(crate) fn uncalled_text(alloc: Global, command: &Command) -> Result<Vec<u8>,
 {
     match command {
         Command::Read { handler, .. } | Command::CheckRead { handler } => {
-            denied_text(alloc, Way::Read, handler.as_slice())
+            denied_text(alloc, Direction::Read, handler.as_slice())
         }
         Command::Write { handler, .. } | Command::CheckWrite { handler } => {
-            denied_text(alloc, Way::Write, handler.as_slice())
+            denied_text(alloc, Direction::Write, handler.as_slice())
         }
         Command::Quit => Vec::from_slice(alloc, b"200 Goodbye!\r\n"),
         Command::Syntax => Vec::from_slice(alloc, b"500 Syntax error\r\n"),
         Command::LineTooLong => Vec::from_slice(alloc, b"500 Line too long\r\n"),
         Command::DataTooLong => Vec::from_slice(alloc, b"500 Data too long\r\n"),
         Command::Unknown { word } => {
-            naming(alloc, b"501 Unimplemented command ", word.as_slice(), b"")
+            quoting(alloc, b"501 Unimplemented command ", word.as_slice(), b"")
         }
     }
 }
 
 /// The reply to a read of a handler.
-fn read_text(alloc: Global, handler: &[u8], shown: Shown) -> Result<Vec<u8>, AllocError>
-    ensures { IfOk result (λ text. text.items ≡ read_text handler.now (Answer.Replied (shown_reply shown.entry))) }
+fn read_text(alloc: Global, handler: &[u8], reply_ref: ReplyRef) -> Result<Vec<u8>, AllocError>
+    ensures { IfOk result (λ text. text.items ≡ read_text handler.now (Answer.Replied (shown_reply reply_ref.entry))) }
 {
-    match shown {
-        Shown::Value(bytes) => value_text(alloc, handler, bytes),
-        Shown::Refused(why) => refused_text(alloc, Way::Read, handler, why),
-        Shown::Done | Shown::Nothing => Ok(Vec::new(alloc)),
+    match reply_ref {
+        ReplyRef::Value(bytes) => value_text(alloc, handler, bytes),
+        ReplyRef::Refused(why) => refused_text(alloc, Direction::Read, handler, why),
+        ReplyRef::Done | ReplyRef::Nothing => Ok(Vec::new(alloc)),
     }
 }
 
 /// The reply to a write, and to the question whether a handler can be used that way.
-fn done_text(alloc: Global, way: Way, handler: &[u8], shown: Shown) -> Result<Vec<u8>, AllocError>
-    ensures { IfOk result (λ text. text.items ≡ done_text way handler.now (Answer.Replied (shown_reply shown.entry))) }
+fn done_text(
+    alloc: Global,
+    direction: Direction,
+    handler: &[u8],
+    reply_ref: ReplyRef,
+) -> Result<Vec<u8>, AllocError>
+    ensures { IfOk result (λ text. text.items ≡ done_text direction handler.now (Answer.Replied (shown_reply reply_ref.entry))) }
 {
-    match shown {
-        Shown::Done => good_text(alloc, way, handler),
-        Shown::Refused(why) => refused_text(alloc, way, handler, why),
-        Shown::Value(_) | Shown::Nothing => Ok(Vec::new(alloc)),
+    match reply_ref {
+        ReplyRef::Done => good_text(alloc, direction, handler),
+        ReplyRef::Refused(why) => refused_text(alloc, direction, handler, why),
+        ReplyRef::Value(_) | ReplyRef::Nothing => Ok(Vec::new(alloc)),
     }
 }
 
 /// The line of a read or a write that is good.
-fn good_text(alloc: Global, way: Way, handler: &[u8]) -> Result<Vec<u8>, AllocError>
-    ensures { IfOk result (λ text. text.items ≡ good_text way handler.now) }
+fn good_text(alloc: Global, direction: Direction, handler: &[u8]) -> Result<Vec<u8>, AllocError>
+    ensures { IfOk result (λ text. text.items ≡ good_text direction handler.now) }
 {
-    match way {
-        Way::Read => naming(alloc, b"200 Read handler ", handler, b" OK"),
-        Way::Write => naming(alloc, b"200 Write handler ", handler, b" OK"),
+    match direction {
+        Direction::Read => quoting(alloc, b"200 Read handler ", handler, b" OK"),
+        Direction::Write => quoting(alloc, b"200 Write handler ", handler, b" OK"),
     }
 }
 
@@ -134,11 +144,11 @@ const LONGEST_DATA: usize = 27;
 
 /// The lines of a read that has a value.
 fn value_text(alloc: Global, handler: &[u8], bytes: &[u8]) -> Result<Vec<u8>, AllocError>
-    ensures { IfOk result (λ text. text.items ≡ naming (codes "200 Read handler ") handler.now (codes " OK") ++ data_text bytes.now) }
+    ensures { IfOk result (λ text. text.items ≡ quoting (codes "200 Read handler ") handler.now (codes " OK") ++ data_text bytes.now) }
 {
     let mut digits = Buffer::new();
     let more = bytes.len().saturating_add(LONGEST_DATA);
-    let mut text = naming_with(alloc, b"200 Read handler ", handler, b" OK", more)?;
+    let mut text = quoting_with(alloc, b"200 Read handler ", handler, b" OK", more)?;
     text.extend_from_slice(b"DATA ")?;
     text.extend_from_slice(digits.format(bytes.len()).as_bytes())?;
     text.extend_from_slice(b"\r\n")?;
@@ -147,28 +157,37 @@ fn value_text(alloc: Global, handler: &[u8], bytes: &[u8]) -> Result<Vec<u8>, Al
 }
 
 /// Why a read or a write was refused.
-fn refused_text(alloc: Global, way: Way, handler: &[u8], why: Cause) -> Result<Vec<u8>, AllocError>
-    ensures { IfOk result (λ text. text.items ≡ refused_text way handler.now (refusal_of why.entry)) }
+fn refused_text(
+    alloc: Global,
+    direction: Direction,
+    handler: &[u8],
+    why: RefusalRef,
+) -> Result<Vec<u8>, AllocError>
+    ensures { IfOk result (λ text. text.items ≡ refused_text direction handler.now (refusal_of why.entry)) }
 {
     match why {
-        Cause::NoElement => naming(alloc, b"510 No element named ", element_of(handler), b""),
-        Cause::NoHandler => naming(alloc, b"511 No handler named ", handler, b""),
-        Cause::WrongWay => wrong_way_text(alloc, way, handler),
-        Cause::Handler(fault) => error_text(alloc, way, handler, fault.text()),
-        Cause::Config(fault) => {
+        RefusalRef::NoElement => quoting(alloc, b"510 No element named ", element_of(handler), b""),
+        RefusalRef::NoHandler => quoting(alloc, b"511 No handler named ", handler, b""),
+        RefusalRef::WrongWay => wrong_way_text(alloc, direction, handler),
+        RefusalRef::Handler(fault) => error_text(alloc, direction, handler, fault.text()),
+        RefusalRef::Config(fault) => {
             let text = fault.text(alloc)?;
-            error_text(alloc, way, handler, &text)
+            error_text(alloc, direction, handler, &text)
         }
     }
 }
 
 /// A handler is for the other way alone.
-fn wrong_way_text(alloc: Global, way: Way, handler: &[u8]) -> Result<Vec<u8>, AllocError>
-    ensures { IfOk result (λ text. text.items ≡ refused_text way handler.now (refusal_of Cause.WrongWay)) }
+fn wrong_way_text(
+    alloc: Global,
+    direction: Direction,
+    handler: &[u8],
+) -> Result<Vec<u8>, AllocError>
+    ensures { IfOk result (λ text. text.items ≡ refused_text direction handler.now (refusal_of RefusalRef.WrongWay)) }
 {
-    match way {
-        Way::Read => naming(alloc, b"530 Handler ", handler, b" write-only"),
-        Way::Write => naming(alloc, b"530 Handler ", handler, b" read-only"),
+    match direction {
+        Direction::Read => quoting(alloc, b"530 Handler ", handler, b" write-only"),
+        Direction::Write => quoting(alloc, b"530 Handler ", handler, b" read-only"),
     }
 }
 
@@ -183,22 +202,27 @@ fn failed_text(alloc: Global, fault: AskFault) -> Result<Vec<u8>, AllocError>
 }
 
 /// Where a session may not make the call: it may always read.
-fn denied_text(alloc: Global, way: Way, handler: &[u8]) -> Result<Vec<u8>, AllocError>
-    ensures { IfOk result (λ text. text.items ≡ denied_text way handler.now) }
+fn denied_text(alloc: Global, direction: Direction, handler: &[u8]) -> Result<Vec<u8>, AllocError>
+    ensures { IfOk result (λ text. text.items ≡ denied_text direction handler.now) }
 {
-    match way {
-        Way::Read => Ok(Vec::new(alloc)),
-        Way::Write => naming(alloc, b"530 Permission denied for ", handler, b""),
+    match direction {
+        Direction::Read => Ok(Vec::new(alloc)),
+        Direction::Write => quoting(alloc, b"530 Permission denied for ", handler, b""),
     }
 }
 
 /// The lines that say what a handler, or a configuration, finds wrong.
-fn error_text(alloc: Global, way: Way, handler: &[u8], fault: &[u8]) -> Result<Vec<u8>, AllocError>
-    ensures { IfOk result (λ text. text.items ≡ error_text way handler.now fault.now) }
+fn error_text(
+    alloc: Global,
+    direction: Direction,
+    handler: &[u8],
+    fault: &[u8],
+) -> Result<Vec<u8>, AllocError>
+    ensures { IfOk result (λ text. text.items ≡ error_text direction handler.now fault.now) }
 {
-    let mut text = match way {
-        Way::Read => naming(alloc, b"520-Read handler ", handler, b" error:")?,
-        Way::Write => naming(alloc, b"520-Write handler ", handler, b" error:")?,
+    let mut text = match direction {
+        Direction::Read => quoting(alloc, b"520-Read handler ", handler, b" error:")?,
+        Direction::Write => quoting(alloc, b"520-Write handler ", handler, b" error:")?,
     };
     text.extend_from_slice(b"520 ")?;
     text.extend_from_slice(fault)?;
@@ -207,21 +231,21 @@ fn error_text(alloc: Global, way: Way, handler: &[u8], fault: &[u8]) -> Result<V
 }
 
 /// A line with a name in quotes.
-fn naming(alloc: Global, front: &[u8], name: &[u8], back: &[u8]) -> Result<Vec<u8>, AllocError>
-    ensures { IfOk result (λ text. text.items ≡ naming front.now name.now back.now) }
+fn quoting(alloc: Global, front: &[u8], name: &[u8], back: &[u8]) -> Result<Vec<u8>, AllocError>
+    ensures { IfOk result (λ text. text.items ≡ quoting front.now name.now back.now) }
 {
-    naming_with(alloc, front, name, back, 0)
+    quoting_with(alloc, front, name, back, 0)
 }
 
 /// The same, with room for so many bytes behind it.
-fn naming_with(
+fn quoting_with(
     alloc: Global,
     front: &[u8],
     name: &[u8],
     back: &[u8],
     more: usize,
 ) -> Result<Vec<u8>, AllocError>
-    ensures { IfOk result (λ text. text.items ≡ naming front.now name.now back.now) }
+    ensures { IfOk result (λ text. text.items ≡ quoting front.now name.now back.now) }
 {
     let room = front
         .len()
@@ -241,8 +265,8 @@ fn naming_with(
 fn element_of(handler: &[u8]) -> &[u8]
     ensures { result.now ≡ before_last is_dot handler.now }
 {
-    match memrchr(b'.', handler) {
-        Some(dot) => &handler[..dot],
+    match split(handler) {
+        Some((element, _)) => element,
         None => &handler[..0],
     }
 }

@@ -15,8 +15,8 @@ use crate::port::Port;
 use crate::reply::{replied_text, uncalled_text, unreplied_text};
 use crate::session::Session;
 use crate::turns::{Open, Turns};
+use click_base::sequence::Sequence;
 use click_router::Call;
-use click_text::sequence::Sequence;
 use std::alloc::{AllocError, Global};
 use thiserror::Error;
 
@@ -85,10 +85,10 @@ pub fn serve_turns<R: Source, W: Sink, P: Port, T: Turns>(
     let mut piece = [0; PIECE];
     let mut taken = 0;
     for _reads in 0..reads {
-        if !take_in(reader, &mut piece, &mut session)? {
+        if !feed_piece(reader, &mut piece, &mut session)? {
             return Ok(Ended::EndOfInput);
         }
-        if let Some(ended) = answer_whole(
+        if let Some(ended) = answer_commands(
             alloc,
             writer,
             port,
@@ -114,7 +114,7 @@ fn greet<W: Sink>(writer: &mut W) -> Result<(), ServeFault>
 }
 
 /// Takes in the next bytes of the input; `false` at its end.
-fn take_in<R: Source>(
+fn feed_piece<R: Source>(
     reader: &mut R,
     piece: &mut [u8],
     session: &mut Session,
@@ -135,7 +135,7 @@ fn take_in<R: Source>(
 }
 
 /// Takes up each command that is whole, and answers it; says how the session ends, where one of them ends it. So many were taken up before, and `taken` counts on.
-fn answer_whole<W: Sink, P: Port, T: Turns>(
+fn answer_commands<W: Sink, P: Port, T: Turns>(
     alloc: Global,
     writer: &mut W,
     port: &mut P,
@@ -210,7 +210,7 @@ fn call_of(
     match command {
         Command::Write { .. } | Command::CheckWrite { .. } if readonly => Ok((None, command)),
         Command::Read { handler, text } => {
-            let name = copy(alloc, &handler)?;
+            let name = handler.copy(alloc)?;
             let text_left = Sequence::new(alloc);
             let command = Command::Read {
                 handler,
@@ -219,7 +219,7 @@ fn call_of(
             Ok((Some(Call::Read { name, text }), command))
         }
         Command::Write { handler, text } => {
-            let name = copy(alloc, &handler)?;
+            let name = handler.copy(alloc)?;
             let text_left = Sequence::new(alloc);
             let command = Command::Write {
                 handler,
@@ -228,14 +228,14 @@ fn call_of(
             Ok((Some(Call::Write { name, text }), command))
         }
         Command::CheckRead { handler } => {
-            let name = copy(alloc, &handler)?;
+            let name = handler.copy(alloc)?;
             Ok((
                 Some(Call::CheckRead { name }),
                 Command::CheckRead { handler },
             ))
         }
         Command::CheckWrite { handler } => {
-            let name = copy(alloc, &handler)?;
+            let name = handler.copy(alloc)?;
             Ok((
                 Some(Call::CheckWrite { name }),
                 Command::CheckWrite { handler },
@@ -247,12 +247,6 @@ fn call_of(
         | Command::DataTooLong
         | Command::Unknown { .. } => Ok((None, command)),
     }
-}
-
-fn copy(alloc: Global, bytes: &Sequence<u8>) -> Result<Sequence<u8>, AllocError>
-    ensures { IfOk result (λ copy. copy ≡ bytes.now) }
-{
-    Ok(Sequence::of(Vec::from_slice(alloc, bytes.as_slice())?))
 }
 
 /// Asks the port, where there is a call, and writes the reply to the command in full.

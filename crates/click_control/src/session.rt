@@ -5,7 +5,7 @@ ghost use Rattle.click_control.specs.Taking.{fresh, fed, GivesNext, GivesNone};
 ghost use Rattle.click_control.specs.kept.Lines.{TakesLine};
 
 use crate::command::Command;
-use crate::line::{Found, first_line};
+use crate::line::{FirstLine, first_line};
 use crate::start::{Start, line_start};
 use std::alloc::{AllocError, Global};
 use std::marker::Model;
@@ -106,19 +106,19 @@ impl Session {
         let begin = self.at + skipped;
         let searched = if skipped == 0 { self.searched } else { 0 };
         match first_line(alloc, &self.buffer[begin..], searched)? {
-            Found::Partial { searched, wanted } => {
-                self.at = settled(&mut self.buffer, begin);
+            FirstLine::Partial { searched, wanted } => {
+                self.at = compact_buffer(&mut self.buffer, begin);
                 self.searched = searched;
                 self.wanted = wanted;
                 self.start = Start::Line;
                 Ok(Line::Partial)
             }
-            Found::Taken {
+            FirstLine::Taken {
                 command,
                 length,
                 start,
             } => {
-                self.at = settled(&mut self.buffer, begin + length);
+                self.at = compact_buffer(&mut self.buffer, begin + length);
                 self.searched = 0;
                 self.wanted = 0;
                 self.start = start;
@@ -133,7 +133,7 @@ impl Session {
 
 /// Gives up the bytes of a buffer that were taken up, where they are more than the rest, and says where the rest begins then: no byte is moved that another was not
 /// taken up for.
-fn settled(buffer: &mut Vec<u8>, at: usize) -> usize
+fn compact_buffer(buffer: &mut Vec<u8>, at: usize) -> usize
     requires { at ≤ length buffer.old.items }
     ensures rest { drop result buffer.new.items ≡ drop at buffer.old.items }
     ensures kept { result + result ≤ length buffer.new.items }

@@ -3,14 +3,14 @@ use Rattle.std.specs.Prelude.{◌≡◌, ◌≤◌, ℕ, false, List, [], ◌∷
 use Rattle.std.specs.List.{All}
 use Rattle.std.specs.Str.{bytes_eq}
 use Rattle.click_packet.specs.Packet.{Packet}
-use Rattle.click_rings.specs.Feeds.{FeedName, Drawing, has_feed}
+use Rattle.click_rings.specs.Feeds.{FeedName, ConsumerState, has_feed}
 use Rattle.click_router.specs.Polls.{poll}
 use Rattle.click_router.specs.declared.call.Call.{Call}
 use Rattle.click_router.specs.declared.call.Call.TheVariants as call
 use Rattle.click_router.specs.declared.call.Reply.{Reply}
 use Rattle.click_router.specs.declared.call.Reply.TheVariants.{NoDevice}
 use Rattle.click_desk.specs.declared.entry.Entry.{Entry}
-use Rattle.click_desk.specs.Sittings.{Sitting, Calls}
+use Rattle.click_desk.specs.SeatStates.{SeatState, Calls}
 
 -- the packets that a call took from the feed of a device
 abbrev pub taken_of : Call → List ℕ → List Packet
@@ -30,8 +30,8 @@ polled [] device = []
 polled (e ∷ es) device = taken_of e.call device ++ polled es device
 
 -- what was drawn from each feed is what the history polled of its device
-abbrev pub IsPolled : List Entry → List Drawing → Type 0
-IsPolled history taps = All (λ t. t.drawn ≡ polled history t.device) taps
+abbrev pub IsPolled : List Entry → List ConsumerState → Type 0
+IsPolled history consumers = All (λ t. t.drawn ≡ polled history t.device) consumers
 
 -- How many packets a poll may take: up to the most that is asked for, and none where the configuration has no such device, or the desk no feed of it.
 pub record MayTake (feeds : List FeedName) (device : List ℕ) (limit : ℕ) (taken : List Packet) (reply : Reply) : Type 0 where
@@ -40,12 +40,12 @@ pub record MayTake (feeds : List FeedName) (device : List ℕ) (limit : ℕ) (ta
   pub no_feed : has_feed device feeds ≡ false → taken ≡ []
 
 -- the seat has polled a device: a call of its own, with packets that were drawn
-pub record Polls (old new : Sitting) (device : List ℕ) (limit : ℕ) (reply : Reply) : Type 0 where
+pub record Polls (old new : SeatState) (device : List ℕ) (limit : ℕ) (reply : Reply) : Type 0 where
   pub taken : List Packet
   pub may : MayTake new.feeds device limit taken reply
   pub calls : Calls old new (poll device taken) reply
 
 -- the feeds without that of a device
-abbrev pub without : List ℕ → List Drawing → List Drawing
+abbrev pub without : List ℕ → List ConsumerState → List ConsumerState
 without device [] = []
 without device (t ∷ ts) = if bytes_eq t.device device then ts else (t ∷ without device ts)

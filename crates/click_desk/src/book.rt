@@ -11,12 +11,12 @@ ghost use Rattle.click_desk.specs.Polls.{polled, without};
 use crate::entry::Entry;
 use crate::seat::Seat;
 use crate::watch::View;
+use click_base::sequence::Sequence;
 use click_packet::StoredPacket;
-use click_rings::{FeedEnd, Tap, place_of};
+use click_rings::{FeedEnd, PacketConsumer, place_of};
 use click_router::{Install, Router};
-use click_text::sequence::Sequence;
 use click_trail::Trail;
-use click_views::Closed;
+use click_views::ClosedPublisher;
 use std::alloc::Global;
 use std::marker::Model;
 use thiserror::Error;
@@ -29,22 +29,22 @@ pub struct Book<T> {
     pub entries: Trail<Entry>,
     pub router: Router<T>,
     pub seats: Vec<Seat<T>>,
-    pub(crate) taps: Vec<Tap>,
-    pub(crate) published: Closed<Install>,
+    pub(crate) consumers: Vec<PacketConsumer>,
+    pub(crate) published: ClosedPublisher<Install>,
 }
 
 impl<T> Model for Book<T> {
     ghost use Rattle.std.specs.Prelude.{◌≡◌, map, true};
-    ghost use Rattle.click_rings.specs.Feeds.{name_of, are_apart};
-    ghost use Rattle.click_desk.specs.Booklet.{Booklet};
+    ghost use Rattle.click_rings.specs.Feeds.{name_of, have_distinct_devices};
+    ghost use Rattle.click_desk.specs.BookState.{BookState};
     ghost use Rattle.click_desk.specs.Polls.{IsPolled};
     ghost use Rattle.click_desk.specs.History.{installs};
 
-    ghost Value = { Booklet };
+    ghost Value = { BookState };
 
-    ghost view = { λ b. record { opening = b.opening; keeps = b.entries.keeps; entries = b.entries.items; router = b.router; seats = b.seats.items; taps = b.taps.items; board = b.published.board } };
+    ghost view = { λ b. record { opening = b.opening; keeps = b.entries.keeps; entries = b.entries.items; router = b.router; seats = b.seats.items; consumers = b.consumers.items; board = b.published.board } };
 
-    ghost invariant = { λ b. IsPolled b.entries.items b.taps.items × (are_apart (map name_of b.taps.items) ≡ true) × (b.published.list ≡ installs b.opening b.entries.items) };
+    ghost invariant = { λ b. IsPolled b.entries.items b.consumers.items × (have_distinct_devices (map name_of b.consumers.items) ≡ true) × (b.published.list ≡ installs b.opening b.entries.items) };
 }
 
 /// Why a feed was not settled.
@@ -80,21 +80,21 @@ impl<T> Book<T> {
         device: &[u8],
         mut end: FeedEnd,
     ) -> Result<Vec<StoredPacket>, SettleRefused>
-        requires { All (λ t. t.device ≡ device.now → t.ring ≡ end.ring) self.old.taps }
+        requires { All (λ t. t.device ≡ device.now → t.ring ≡ end.ring) self.old.consumers }
         ensures left { IfOk result (λ left. end.put ≡ polled self.old.entries device.now ++ left.items) }
-        ensures begins { has_feed device.now (map name_of self.old.taps) ≡ true → (rest : List Packet) × (end.put ≡ polled self.old.entries device.now ++ rest) }
-        ensures settled { OnOk result (self.new ≡ record self.old { taps = without device.now self.old.taps }) }
+        ensures begins { has_feed device.now (map name_of self.old.consumers) ≡ true → (rest : List Packet) × (end.put ≡ polled self.old.entries device.now ++ rest) }
+        ensures settled { OnOk result (self.new ≡ record self.old { consumers = without device.now self.old.consumers }) }
         ensures refused { IfErr result (λ r. (r.end ≡ end) × (self.new ≡ self.old)) }
-        ensures unknown { IfErr result (λ r. (r.fault ≡ SettleFault.NoFeed) ↔ (has_feed device.now (map name_of self.old.taps) ≡ false)) }
-        ensures known { OnOk result (has_feed device.now (map name_of self.old.taps) ≡ true) }
+        ensures unknown { IfErr result (λ r. (r.fault ≡ SettleFault.NoFeed) ↔ (has_feed device.now (map name_of self.old.consumers) ≡ false)) }
+        ensures known { OnOk result (has_feed device.now (map name_of self.old.consumers) ≡ true) }
     {
-        let Some(place) = place_of(self.taps.as_slice(), device) else {
+        let Some(place) = place_of(self.consumers.as_slice(), device) else {
             return Err(SettleRefused {
                 end,
                 fault: SettleFault::NoFeed,
             });
         };
-        let left = match self.taps[place].drain(alloc, &mut end) {
+        let left = match self.consumers[place].drain(alloc, &mut end) {
             Ok(left) => left,
             Err(_) => {
                 return Err(SettleRefused {
@@ -103,7 +103,7 @@ impl<T> Book<T> {
                 });
             }
         };
-        let _settled = self.taps.remove(place);
+        let _settled = self.consumers.remove(place);
         Ok(left)
     }
 }

@@ -3,7 +3,7 @@
 ghost use Rattle.std.specs.Prelude.{◌≡◌};
 
 use click_packet::PacketRoom;
-use click_router::{Call, Handlers, Recorded, Running, StepFault};
+use click_router::{Call, Handlers, RunningConfig, StepFault, StoredReply};
 use std::alloc::Global;
 
 /// A table of handlers in a box. Each call at a desk moves the desk's table out of the queue and back, which costs less where that is small.
@@ -15,11 +15,11 @@ pub struct BoxedTable<T> {
 impl<T: Handlers> Handlers for BoxedTable<T> {
     fn record(
         &self,
-        running: &mut Running,
+        running: &mut RunningConfig,
         alloc: Global,
         call: &Call,
         room: Option<PacketRoom>,
-    ) -> Result<Recorded, StepFault> {
+    ) -> Result<StoredReply, StepFault> {
         self.table.record(running, alloc, call, room)
     }
 }

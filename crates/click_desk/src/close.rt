@@ -6,16 +6,16 @@ ghost use Rattle.crossbeam_queue.specs.Passes.{view, IsPassOf};
 ghost use Rattle.click_desk.specs.Views.{agent as agent_of, holding};
 ghost use Rattle.click_desk.specs.Bounds.{IsWithin};
 ghost use Rattle.click_desk.specs.History.{entries};
-ghost use Rattle.click_desk.specs.Charters.{charter_of, terms_of};
-ghost use Rattle.click_desk.specs.Sittings.{Sitting};
+ghost use Rattle.click_desk.specs.DeskSetups.{setup_of, terms_of};
+ghost use Rattle.click_desk.specs.SeatStates.{SeatState};
 ghost use Rattle.click_desk.specs.Closing.{IsEachOnce, IsEntered, Closes};
 
 use crate::book::Book;
-use crate::booked::Booked;
 use crate::desk::{Desk, take};
+use crate::logged_router::LoggedRouter;
+use crate::options::DeskOptions;
 use crate::rule::{Agent, DeskPass, Meeting, Queue};
 use crate::seat::Seat;
-use crate::terms::Terms;
 use std::sync::Wait;
 use std::sync::atomic::AtomicU32;
 use thiserror::Error;
@@ -62,7 +62,7 @@ fn is_each_once<T>(seats: &[Seat<T>], count: usize) -> bool
 fn agent<T>(queue: &Queue<T>, seat: &mut Seat<T>) -> DeskPass<T>
     requires { seat.old.desk.table ≡ queue.now.table.shared.table_id }
     ensures same { seat.new ≡ seat.old }
-    ensures agent { IsPassOf queue.now result × (view result ≡ agent_of (charter_of seat.old.desk.terms seat.old.feeds)) }
+    ensures agent { IsPassOf queue.now result × (view result ≡ agent_of (setup_of seat.old.desk.options seat.old.feeds)) }
 {
     queue.another::<Agent>(&mut seat.pass)
 }
@@ -70,9 +70,9 @@ fn agent<T>(queue: &Queue<T>, seat: &mut Seat<T>) -> DeskPass<T>
 /// Holds the whole history against what the seat knows.
 fn audit<T>(queue: &Queue<T>, seat: &mut Seat<T>, agent: DeskPass<T>) -> DeskPass<T>
     requires seat { seat.old.desk.table ≡ queue.now.table.shared.table_id }
-    requires agent { IsPassOf queue.now agent × (view agent ≡ holding (view agent).terms (view agent).seen) }
+    requires agent { IsPassOf queue.now agent × (view agent ≡ holding (view agent).options (view agent).seen) }
     ensures same { seat.new ≡ seat.old }
-    ensures agent { IsPassOf queue.now result × (view result ≡ holding (charter_of seat.old.desk.terms seat.old.feeds) (view agent).seen) }
+    ensures agent { IsPassOf queue.now result × (view result ≡ holding (setup_of seat.old.desk.options seat.old.feeds) (view agent).seen) }
     ensures entered { IsEntered (view agent).seen seat.old }
 {
     queue.absorb::<Meeting>(&mut seat.pass, agent);
@@ -83,7 +83,7 @@ fn audit<T>(queue: &Queue<T>, seat: &mut Seat<T>, agent: DeskPass<T>) -> DeskPas
 /// Holds the whole history against what each seat knows.
 fn audit_all<T>(queue: &Queue<T>, seats: &mut [Seat<T>], mut agent: DeskPass<T>) -> DeskPass<T>
     requires seats { All (λ s. s.desk.table ≡ queue.now.table.shared.table_id) seats.old }
-    requires agent { IsPassOf queue.now agent × (view agent ≡ holding (view agent).terms (view agent).seen) }
+    requires agent { IsPassOf queue.now agent × (view agent ≡ holding (view agent).options (view agent).seen) }
     ensures same { seats.new ≡ seats.old }
     ensures entered { All (IsEntered (view agent).seen) seats.old }
 {
@@ -99,20 +99,20 @@ fn take_last<T, R: Wait>(
     queue: &Queue<T>,
     waiting: &AtomicU32,
     seats: &mut [Seat<T>],
-) -> Booked<T>
+) -> LoggedRouter<T>
     requires some { 0 < length seats.old }
     requires seats { All (λ s. s.desk.table ≡ queue.now.table.shared.table_id) seats.old }
     ensures same { seats.new ≡ seats.old }
-    ensures terms { (s : Sitting) → (slice_index_or seats.old 0 s).desk.terms ≡ terms_of result.terms }
-    ensures feeds { (s : Sitting) → (slice_index_or seats.old 0 s).feeds ≡ result.terms.feeds }
+    ensures options { (s : SeatState) → (slice_index_or seats.old 0 s).desk.options ≡ terms_of result.options }
+    ensures feeds { (s : SeatState) → (slice_index_or seats.old 0 s).feeds ≡ result.options.feeds }
     ensures entered { All (IsEntered result.entries) seats.old }
-    ensures numbered { (n : ℕ) → result.terms.seats ≤ n → entries result.entries n ≡ [] }
-    ensures within { IsWithin result.terms.room (length result.entries) }
+    ensures numbered { (n : ℕ) → result.options.seats ≤ n → entries result.entries n ≡ [] }
+    ensures within { IsWithin result.options.room (length result.entries) }
 {
     let mut agent = agent(queue, &mut seats[0]);
-    let booked = take(rt, queue, waiting, &mut agent);
+    let logged_router = take(rt, queue, waiting, &mut agent);
     audit_all(queue, seats, agent);
-    booked
+    logged_router
 }
 
 impl<T: Drop, R: Wait + Drop> Desk<T, R> {
@@ -123,25 +123,25 @@ impl<T: Drop, R: Wait + Drop> Desk<T, R> {
         mut seats: Vec<Seat<T>>,
     ) -> Result<Book<T>, CloseRefused<T, R>>
         requires { All (λ s. s.desk ≡ self) seats.items }
-        ensures ok { IfOk result (λ book. IsEachOnce self.terms.seats seats.items × Closes self seats.items book) }
-        ensures refused { IfErr result (λ r. (¬ IsEachOnce self.terms.seats seats.items) × (r.desk ≡ self) × (r.seats.items ≡ seats.items) × (r.fault ≡ CloseFault.SeatsMissing)) }
+        ensures ok { IfOk result (λ book. IsEachOnce self.options.seats seats.items × Closes self seats.items book) }
+        ensures refused { IfErr result (λ r. (¬ IsEachOnce self.options.seats seats.items) × (r.desk ≡ self) × (r.seats.items ≡ seats.items) × (r.fault ≡ CloseFault.SeatsMissing)) }
     {
-        if !is_each_once(seats.as_slice(), self.terms.seats) {
+        if !is_each_once(seats.as_slice(), self.options.seats) {
             return Err(CloseRefused {
                 desk: self,
                 seats,
                 fault: CloseFault::SeatsMissing,
             });
         }
-        let booked = take_last(rt, &self.queue, &self.waiting, seats.as_mut_slice());
-        let (terms, entries, router, taps, published) = booked.into_parts();
-        let Terms { opening, .. } = terms;
+        let logged_router = take_last(rt, &self.queue, &self.waiting, seats.as_mut_slice());
+        let (options, entries, router, consumers, published) = logged_router.into_parts();
+        let DeskOptions { opening, .. } = options;
         Ok(Book {
             opening,
             entries,
             router,
             seats,
-            taps,
+            consumers,
             published,
         })
     }

@@ -5,15 +5,15 @@ ghost use Rattle.click_router.specs.Polls.{is_poll};
 ghost use Rattle.crossbeam_queue.specs.Passes.{view, IsPassOf, ruled_capacity};
 ghost use Rattle.click_desk.specs.Views.{first, Takes, Gives, MayGive, IsFirstGive};
 ghost use Rattle.click_desk.specs.Polls.{Polls};
-ghost use Rattle.click_desk.specs.Sittings.{Calls, IsRefused};
+ghost use Rattle.click_desk.specs.SeatStates.{Calls, IsRefused};
 
-use crate::booked::{Booked, DeskFault};
+use crate::logged_router::{DeskFault, LoggedRouter};
+use crate::options::DeskOptions;
 use crate::rule::{DeskPass, Give, Queue, Take};
 use crate::seat::Seat;
-use crate::terms::Terms;
 use crate::watch::Notice;
-use click_router::{Call, Handlers, Recorded, Reply};
-use click_views::Bell;
+use click_router::{Call, Handlers, Reply, StoredReply};
+use click_views::InstallSignal;
 use std::alloc::Global;
 use std::marker::Model;
 use std::sync::Wait;
@@ -27,21 +27,21 @@ pub struct Desk<T, R: Wait + Drop> {
     pub(crate) queue: Queue<T>,
     /// How many found the booked router taken, and look for it again and again.
     pub(crate) waiting: AtomicU32,
-    pub(crate) terms: Terms,
-    pub(crate) bell: Option<Bell<R>>,
+    pub(crate) options: DeskOptions,
+    pub(crate) install_signal: Option<InstallSignal<R>>,
 }
 
 impl<T, R: Wait + Drop> Model for Desk<T, R> {
-    ghost use Rattle.click_desk.specs.Sittings.{DeskName};
+    ghost use Rattle.click_desk.specs.SeatStates.{DeskName};
 
     ghost Value = { DeskName };
 
     ghost use Rattle.std.specs.Prelude.{◌≡◌, ◌<◌};
     ghost use Rattle.crossbeam_queue.specs.Passes.{ruled_capacity};
 
-    ghost view = { λ d. record { table = d.queue.table.shared.table_id; terms = d.terms } };
+    ghost view = { λ d. record { table = d.queue.table.shared.table_id; options = d.options } };
 
-    ghost invariant = { λ d. (ruled_capacity d.queue ≡ 1) × (0 < d.terms.seats) };
+    ghost invariant = { λ d. (ruled_capacity d.queue ≡ 1) × (0 < d.options.seats) };
 }
 
 /// How often a call yields its core at most, before it looks again for a booked router that another has.
@@ -57,7 +57,7 @@ fn yield_times(times: u32) {
 /// has it.
 #[cold]
 #[inline(never)]
-fn wait_for<T, R: Wait>(rt: &R, queue: &Queue<T>, pass: &mut DeskPass<T>) -> Booked<T>
+fn wait_for<T, R: Wait>(rt: &R, queue: &Queue<T>, pass: &mut DeskPass<T>) -> LoggedRouter<T>
     requires queue { IsPassOf queue.now pass.old }
     requires opened { (view pass.old).opened ≡ true }
     ensures queue { IsPassOf queue.now pass.new }
@@ -67,7 +67,7 @@ fn wait_for<T, R: Wait>(rt: &R, queue: &Queue<T>, pass: &mut DeskPass<T>) -> Boo
     for _ in rt.forever() {
         yield_times(yields);
         match queue.try_pop_as::<Take>(pass) {
-            Some(booked) => return booked,
+            Some(logged_router) => return logged_router,
             None => yields = yields.saturating_mul(2).min(MOST_YIELDS),
         }
     }
@@ -81,7 +81,7 @@ pub(crate) fn take<T, R: Wait>(
     queue: &Queue<T>,
     waiting: &AtomicU32,
     pass: &mut DeskPass<T>,
-) -> Booked<T>
+) -> LoggedRouter<T>
     requires queue { IsPassOf queue.now pass.old }
     requires opened { (view pass.old).opened ≡ true }
     ensures queue { IsPassOf queue.now pass.new }
@@ -90,30 +90,35 @@ pub(crate) fn take<T, R: Wait>(
     if waiting.load(Ordering::Relaxed) > 0 {
         thread::yield_now();
     }
-    if let Some(booked) = queue.try_pop_as::<Take>(pass) {
-        return booked;
+    if let Some(logged_router) = queue.try_pop_as::<Take>(pass) {
+        return logged_router;
     }
     waiting.fetch_add(1, Ordering::Relaxed);
-    let booked = wait_for(rt, queue, pass);
+    let logged_router = wait_for(rt, queue, pass);
     waiting.fetch_sub(1, Ordering::Relaxed);
-    booked
+    logged_router
 }
 
 /// Gives the booked router back. The queue is empty.
-pub(crate) fn give<T, R: Wait>(rt: &R, queue: &Queue<T>, pass: &mut DeskPass<T>, booked: Booked<T>)
+pub(crate) fn give<T, R: Wait>(
+    rt: &R,
+    queue: &Queue<T>,
+    pass: &mut DeskPass<T>,
+    logged_router: LoggedRouter<T>,
+)
     requires queue { IsPassOf queue.now pass.old × (ruled_capacity queue.now ≡ 1) }
-    requires rule { MayGive (view pass.old) booked ⊎ IsFirstGive (view pass.old) booked }
+    requires rule { MayGive (view pass.old) logged_router ⊎ IsFirstGive (view pass.old) logged_router }
     ensures queue { IsPassOf queue.now pass.new }
-    ensures given { Gives (view pass.old) booked (view pass.new) }
+    ensures given { Gives (view pass.old) logged_router (view pass.new) }
 {
-    match queue.push_as::<Give, R>(rt, pass, booked) {
+    match queue.push_as::<Give, R>(rt, pass, logged_router) {
         Ok(()) => {}
         Err(_) => unreachable!(),
     }
 }
 
 /// The reply of what was entered. It is made last of all, since one has a packet's room and costs to move.
-fn told(entered: Result<Recorded, DeskFault>) -> Result<Reply, DeskFault>
+fn entered_reply(entered: Result<StoredReply, DeskFault>) -> Result<Reply, DeskFault>
     ensures { result ≡ entered }
 {
     match entered {
@@ -124,9 +129,9 @@ fn told(entered: Result<Recorded, DeskFault>) -> Result<Reply, DeskFault>
 
 impl<T, R: Wait + Drop> Desk<T, R> {
     /// The views hear of the newest configuration.
-    fn ring<S: Wait>(&self, rt: &S, notice: &Notice) {
-        if let Some(bell) = &self.bell {
-            bell.ring(rt, notice);
+    fn signal<S: Wait>(&self, rt: &S, notice: &Notice) {
+        if let Some(install_signal) = &self.install_signal {
+            install_signal.signal(rt, notice);
         }
     }
 }
@@ -140,7 +145,7 @@ impl<T: Handlers, R: Wait + Drop> Desk<T, R> {
         ensures ok { IfOk result (λ reply. Calls seat.old seat.new call reply) }
         ensures err { IfErr result (λ fault. IsRefused seat.old seat.new fault) }
     {
-        told(self.record(rt, seat, call))
+        entered_reply(self.record(rt, seat, call))
     }
 
     /// One call as `call` makes it, with the reply as the history keeps it, which is small.
@@ -149,21 +154,21 @@ impl<T: Handlers, R: Wait + Drop> Desk<T, R> {
         rt: &S,
         seat: &mut Seat<T>,
         call: Call,
-    ) -> Result<Recorded, DeskFault>
+    ) -> Result<StoredReply, DeskFault>
         requires seat { seat.old.desk ≡ self.now }
         requires call { is_poll call ≡ false }
         ensures seat { (seat.new.desk ≡ seat.old.desk) × (seat.new.feeds ≡ seat.old.feeds) × (seat.new.number ≡ seat.old.number) }
         ensures ok { IfOk result (λ reply. Calls seat.old seat.new call reply) }
         ensures err { IfErr result (λ fault. IsRefused seat.old seat.new fault) }
     {
-        let rings = self.bell.is_some() && call.swap_text().is_some();
-        let mut booked = take(rt, &self.queue, &self.waiting, &mut seat.pass);
-        let result = booked.enter(rt, self.alloc, seat.number, &mut seat.calls, call);
-        seat.notice = booked.notice();
+        let rings = self.install_signal.is_some() && call.swap_text().is_some();
+        let mut logged_router = take(rt, &self.queue, &self.waiting, &mut seat.pass);
+        let result = logged_router.enter(rt, self.alloc, seat.number, &mut seat.calls, call);
+        seat.notice = logged_router.notice();
         if rings {
-            self.ring(rt, &seat.notice);
+            self.signal(rt, &seat.notice);
         }
-        give(rt, &self.queue, &mut seat.pass, booked);
+        give(rt, &self.queue, &mut seat.pass, logged_router);
         result
     }
 
@@ -174,10 +179,10 @@ impl<T: Handlers, R: Wait + Drop> Desk<T, R> {
         ensures ok { IfOk result (λ count. Calls seat.old seat.new Call.Round (Reply.Worked count)) }
         ensures err { IfErr result (λ fault. IsRefused seat.old seat.new fault) }
     {
-        let mut booked = take(rt, &self.queue, &self.waiting, &mut seat.pass);
-        let result = booked.enter_round(seat.number, &mut seat.calls);
-        let notice = booked.notice();
-        give(rt, &self.queue, &mut seat.pass, booked);
+        let mut logged_router = take(rt, &self.queue, &self.waiting, &mut seat.pass);
+        let result = logged_router.enter_round(seat.number, &mut seat.calls);
+        let notice = logged_router.notice();
+        give(rt, &self.queue, &mut seat.pass, logged_router);
         seat.notice = notice;
         result
     }
@@ -196,11 +201,17 @@ impl<T: Handlers, R: Wait + Drop> Desk<T, R> {
         ensures ok { IfOk result (λ reply. Polls seat.old seat.new device.now most reply) }
         ensures err { IfErr result (λ fault. IsRefused seat.old seat.new fault) }
     {
-        let mut booked = take(rt, &self.queue, &self.waiting, &mut seat.pass);
-        let result = booked.enter_poll(self.alloc, seat.number, &mut seat.calls, device, most);
-        let notice = booked.notice();
-        give(rt, &self.queue, &mut seat.pass, booked);
+        let mut logged_router = take(rt, &self.queue, &self.waiting, &mut seat.pass);
+        let result = logged_router.enter_poll(
+            self.alloc,
+            seat.number,
+            &mut seat.calls,
+            device,
+            most,
+        );
+        let notice = logged_router.notice();
+        give(rt, &self.queue, &mut seat.pass, logged_router);
         seat.notice = notice;
-        told(result)
+        entered_reply(result)
     }
 }

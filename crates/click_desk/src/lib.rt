@@ -2,27 +2,27 @@
 #![tactic(auto)]
 
 mod book;
-mod booked;
 mod boxed_table;
-mod charter;
 mod close;
 mod desk;
+mod desk_setup;
 mod entry;
 pub mod laws;
+mod logged_router;
 mod open;
+mod options;
 mod polling;
 mod rule;
 mod seat;
-mod terms;
 mod view;
 mod watch;
 
 pub use book::{Book, SettleFault, SettleRefused};
-pub use booked::DeskFault;
 pub use boxed_table::BoxedTable;
 pub use close::{CloseFault, CloseRefused};
 pub use desk::Desk;
 pub use entry::Entry;
+pub use logged_router::DeskFault;
 pub use open::{OpenFault, OpenRefused};
 pub use seat::Seat;
 pub use watch::{Notice, View};

@@ -6,21 +6,21 @@ ghost use Rattle.crossbeam_queue.specs.Passes.{view, IsPassOf, ruled_capacity};
 ghost use Rattle.click_router.specs.Opened.{IsOpened, IsFirstFault};
 ghost use Rattle.click_desk.specs.History.{IsLegal};
 ghost use Rattle.click_desk.specs.Views.{first, maker as maker_of};
-ghost use Rattle.click_desk.specs.Charters.{terms_of};
-ghost use Rattle.click_desk.specs.Sittings.{seats_below};
+ghost use Rattle.click_desk.specs.DeskSetups.{terms_of};
+ghost use Rattle.click_desk.specs.SeatStates.{seats_below};
 ghost use Rattle.click_desk.specs.Openings.{AreFit, IsOpenFault, IsViewFault, IsViewless};
 ghost use Rattle.click_rings.specs.Feeds.{name_of};
 
-use crate::booked::{Booked, Ledger};
 use crate::desk::{Desk, give};
+use crate::logged_router::{LoggedRouter, RouterLog};
+use crate::options::DeskOptions;
 use crate::rule::{DeskPass, NextSeat, Queue};
 use crate::seat::Seat;
-use crate::terms::Terms;
 use crate::watch::{Notice, View};
-use click_rings::{Inlet, Tap, are_apart};
+use click_rings::{Inlet, PacketConsumer, have_distinct_devices};
 use click_router::{ConfigFault, FaultKind, Install, Prepared, Router, prepare};
 use click_trail::Trail;
-use click_views::{Bell, Publisher};
+use click_views::{InstallSignal, Publisher};
 use std::alloc::{AllocError, Global};
 use std::sync::Wait;
 use std::sync::atomic::AtomicU32;
@@ -75,8 +75,8 @@ struct Sizes {
 
 /// All that takes memory.
 struct Parts<T> {
-    ledger: Box<Ledger>,
-    beside: Terms,
+    router_log: Box<RouterLog>,
+    beside: DeskOptions,
     queue: Queue<T>,
     maker: DeskPass<T>,
     given: Vec<Seat<T>>,
@@ -86,20 +86,20 @@ struct Parts<T> {
 /// A ledger without an entry, with room for so many feeds. It keeps its entries where there is a bound of them.
 fn empty_ledger(
     alloc: Global,
-    terms: Terms,
+    options: DeskOptions,
     inlets: usize,
     published: Publisher<Install>,
-) -> Result<Box<Ledger>, AllocError>
-    ensures { IfOk result (λ l. (l.value.terms ≡ terms) × (l.value.published ≡ published) × (l.value.entries.items ≡ []) × (l.value.entries.keeps ≡ is_some terms.room) × (l.value.taps.items ≡ []) × (inlets ≤ vec_capacity l.value.taps)) }
+) -> Result<Box<RouterLog>, AllocError>
+    ensures { IfOk result (λ l. (l.value.options ≡ options) × (l.value.published ≡ published) × (l.value.entries.items ≡ []) × (l.value.entries.keeps ≡ is_some options.room) × (l.value.consumers.items ≡ []) × (inlets ≤ vec_capacity l.value.consumers)) }
 {
-    let keeps = terms.room.is_some();
-    let ledger = Ledger {
-        terms,
+    let keeps = options.room.is_some();
+    let router_log = RouterLog {
+        options,
         entries: Trail::new(alloc, keeps),
-        taps: Vec::with_capacity(alloc, inlets)?,
+        consumers: Vec::with_capacity(alloc, inlets)?,
         published,
     };
-    Ok(Box::new(alloc, ledger)?)
+    Ok(Box::new(alloc, router_log)?)
 }
 
 /// Takes all memory that a desk of these terms needs.
@@ -111,25 +111,25 @@ fn make_parts<T, R: Wait>(
     sizes: Sizes,
 ) -> Result<Parts<T>, AllocError>
     requires { IsOpened text.now prepared.now }
-    ensures terms { IfOk result (λ p. (p.ledger.value.terms ≡ record { opening = text.now; room = sizes.room; seats = sizes.seats; origin = p.ledger.value.published.board }) × (p.beside ≡ p.ledger.value.terms)) }
-    ensures published { IfOk result (λ p. p.ledger.value.published ≡ record { board = p.ledger.value.published.board; list = text.now ∷ [] }) }
-    ensures empty { IfOk result (λ p. (p.ledger.value.entries.items ≡ []) × (p.ledger.value.entries.keeps ≡ is_some sizes.room)) }
+    ensures options { IfOk result (λ p. (p.router_log.value.options ≡ record { opening = text.now; room = sizes.room; seats = sizes.seats; origin = p.router_log.value.published.board }) × (p.beside ≡ p.router_log.value.options)) }
+    ensures published { IfOk result (λ p. p.router_log.value.published ≡ record { board = p.router_log.value.published.board; list = text.now ∷ [] }) }
+    ensures empty { IfOk result (λ p. (p.router_log.value.entries.items ≡ []) × (p.router_log.value.entries.keeps ≡ is_some sizes.room)) }
     ensures queue { IfOk result (λ p. (ruled_capacity p.queue ≡ 1) × IsPassOf p.queue p.maker × (view p.maker ≡ first)) }
     ensures given { IfOk result (λ p. (p.given.items ≡ []) × (sizes.seats ≤ vec_capacity p.given)) }
     ensures views { IfOk result (λ p. (p.views.items ≡ []) × (sizes.views ≤ vec_capacity p.views)) }
-    ensures taps { IfOk result (λ p. (p.ledger.value.taps.items ≡ []) × (sizes.inlets ≤ vec_capacity p.ledger.value.taps)) }
+    ensures consumers { IfOk result (λ p. (p.router_log.value.consumers.items ≡ []) × (sizes.inlets ≤ vec_capacity p.router_log.value.consumers)) }
 {
     let install = Install::of_prepared(alloc, text, prepared)?;
     // Where there are no views nothing that is published is kept.
     let published = Publisher::open(rt, alloc, install, sizes.views > 0)?;
-    let inside = Terms::of(alloc, text, sizes.room, sizes.seats, published.origin())?;
-    let beside = Terms::of(alloc, text, sizes.room, sizes.seats, published.origin())?;
-    let ledger = empty_ledger(alloc, inside, sizes.inlets, published)?;
+    let inside = DeskOptions::of(alloc, text, sizes.room, sizes.seats, published.origin())?;
+    let beside = DeskOptions::of(alloc, text, sizes.room, sizes.seats, published.origin())?;
+    let router_log = empty_ledger(alloc, inside, sizes.inlets, published)?;
     let given = Vec::with_capacity(alloc, sizes.seats)?;
     let views = Vec::with_capacity(alloc, sizes.views)?;
     let (queue, maker) = Queue::<T>::ruled(alloc, 1)?;
     Ok(Parts {
-        ledger,
+        router_log,
         beside,
         queue,
         maker,
@@ -139,13 +139,13 @@ fn make_parts<T, R: Wait>(
 }
 
 /// Opens the inlets. It takes no memory.
-fn open_all(inlets: Vec<Inlet>, taps: &mut Vec<Tap>)
-    requires { (taps.old.items ≡ []) × (length inlets.items ≤ vec_capacity taps.old) }
-    ensures names { map name_of taps.new.items ≡ inlets.items }
-    ensures fresh { All (λ t. t.drawn ≡ []) taps.new.items }
+fn open_all(inlets: Vec<Inlet>, consumers: &mut Vec<PacketConsumer>)
+    requires { (consumers.old.items ≡ []) × (length inlets.items ≤ vec_capacity consumers.old) }
+    ensures names { map name_of consumers.new.items ≡ inlets.items }
+    ensures fresh { All (λ t. t.drawn ≡ []) consumers.new.items }
 {
     for inlet in inlets {
-        taps.push_reserved(Tap::of(inlet));
+        consumers.push_reserved(PacketConsumer::of(inlet));
     }
 }
 
@@ -160,13 +160,13 @@ fn make_seats<T>(
     told: &Notice,
 )
     requires queue { IsPassOf queue.now maker }
-    requires maker { view maker ≡ maker_of (view maker).terms 0 [] }
-    requires legal { IsLegal (view maker).terms.opening [] }
-    requires keeps { keeps ≡ is_some (view maker).terms.room }
-    requires count { (view maker).terms.seats ≡ count }
+    requires maker { view maker ≡ maker_of (view maker).options 0 [] }
+    requires legal { IsLegal (view maker).options.opening [] }
+    requires keeps { keeps ≡ is_some (view maker).options.room }
+    requires count { (view maker).options.seats ≡ count }
     requires given { (given.old.items ≡ []) × (count ≤ vec_capacity given.old) }
-    requires told { told.now ≡ record { board = (view maker).terms.origin; list = (view maker).terms.opening ∷ [] } }
-    ensures { given.new.items ≡ seats_below (record { table = queue.now.table.shared.table_id; terms = terms_of (view maker).terms }) (view maker).terms.feeds count }
+    requires told { told.now ≡ record { board = (view maker).options.origin; list = (view maker).options.opening ∷ [] } }
+    ensures { given.new.items ≡ seats_below (record { table = queue.now.table.shared.table_id; options = terms_of (view maker).options }) (view maker).options.feeds count }
 {
     for number in 0..count {
         let pass = queue.another::<NextSeat>(&mut maker);
@@ -180,18 +180,18 @@ fn make_seats<T>(
 }
 
 /// What tells views of swaps, where there are views.
-fn bell_for<'a, R: Wait>(
+fn signal_for<'a, R: Wait>(
     rt: &'a R,
     alloc: Global,
     views: usize,
-) -> Result<Option<Bell<&'a R>>, AllocError>
+) -> Result<Option<InstallSignal<&'a R>>, AllocError>
     requires { views ≤ 16 }
     ensures { IfOk result (λ b. is_some b ≡ nat_lt 0 views) }
 {
     if views == 0 {
         Ok(None)
     } else {
-        Ok(Some(Bell::open(rt, alloc, views)?))
+        Ok(Some(InstallSignal::open(rt, alloc, views)?))
     }
 }
 
@@ -199,7 +199,7 @@ fn bell_for<'a, R: Wait>(
 fn view_of<S: Wait, R: Wait + Drop>(
     rt: &S,
     published: &Publisher<Install>,
-    bell: &Option<Bell<R>>,
+    install_signal: &Option<InstallSignal<R>>,
 ) -> Result<View, OpenFault>
     ensures ok { IfOk result (λ v. v ≡ published.now) }
     ensures err { IfErr result IsViewless }
@@ -207,8 +207,8 @@ fn view_of<S: Wait, R: Wait + Drop>(
     let Ok(mut shown) = published.view() else {
         return Err(OpenFault::NoView);
     };
-    if let Some(bell) = bell {
-        match bell.listener(rt) {
+    if let Some(install_signal) = install_signal {
+        match install_signal.listener(rt) {
             Ok(reader) => shown.listen(reader),
             Err(_) => return Err(OpenFault::NoMemory),
         }
@@ -220,7 +220,7 @@ fn view_of<S: Wait, R: Wait + Drop>(
 fn make_views<S: Wait, R: Wait + Drop>(
     rt: &S,
     published: &Publisher<Install>,
-    bell: &Option<Bell<R>>,
+    install_signal: &Option<InstallSignal<R>>,
     count: usize,
     views: &mut Vec<View>,
 ) -> Result<(), OpenFault>
@@ -229,7 +229,7 @@ fn make_views<S: Wait, R: Wait + Drop>(
     ensures none { IfErr result (λ fault. (0 < count) × IsViewless fault) }
 {
     for _number in 0..count {
-        match view_of(rt, published, bell) {
+        match view_of(rt, published, install_signal) {
             Ok(view) => views.push_reserved(view),
             Err(fault) => return Err(fault),
         }
@@ -249,14 +249,14 @@ fn fault_of(fault: ConfigFault) -> OpenFault
 }
 
 /// Why no desk has this many seats with these inlets and so many views, if none has.
-fn misfit(seats: usize, inlets: &[Inlet], views: usize) -> Option<OpenFault>
+fn size_fault(seats: usize, inlets: &[Inlet], views: usize) -> Option<OpenFault>
     ensures fits { IfNone result (AreFit seats inlets.now × (views ≤ 16)) }
     ensures fault { IfSome result (λ fault. (text : List ℕ) → IsViewFault seats inlets.now views text fault) }
 {
     if seats == 0 || seats > MOST_SEATS {
         return Some(OpenFault::SeatCount);
     }
-    if !are_apart(inlets) {
+    if !have_distinct_devices(inlets) {
         return Some(OpenFault::DeviceTwice);
     }
     if inlets.len() > MOST_INLETS {
@@ -292,7 +292,7 @@ impl<'a, T: Drop, R: Wait> Desk<T, &'a R> {
         seats: usize,
         inlets: Vec<Inlet>,
     ) -> Result<(Desk<T, &'a R>, Vec<Seat<T>>), OpenRefused<T>>
-        ensures desk { IfOk result (λ r. (r.0.terms.opening ≡ text.now) × (r.0.terms.room ≡ Some room) × (r.0.terms.seats ≡ seats)) }
+        ensures desk { IfOk result (λ r. (r.0.options.opening ≡ text.now) × (r.0.options.room ≡ Some room) × (r.0.options.seats ≡ seats)) }
         ensures seats { IfOk result (λ r. (r.1.items ≡ seats_below r.0 inlets.items seats) × All (λ s. s.desk ≡ r.0) r.1.items) }
         ensures fed { IfOk result (λ r. All (λ s. s.feeds ≡ inlets.items) r.1.items) }
         ensures good { IfOk result (λ r. AreFit seats inlets.items × IsLegal text.now []) }
@@ -317,10 +317,10 @@ impl<'a, T: Drop, R: Wait> Desk<T, &'a R> {
         inlets: Vec<Inlet>,
         views: usize,
     ) -> Result<(Desk<T, &'a R>, Vec<Seat<T>>, Vec<View>), OpenRefused<T>>
-        ensures desk { IfOk result (λ r. (r.0.terms.opening ≡ text.now) × (r.0.terms.room ≡ Some room) × (r.0.terms.seats ≡ seats)) }
+        ensures desk { IfOk result (λ r. (r.0.options.opening ≡ text.now) × (r.0.options.room ≡ Some room) × (r.0.options.seats ≡ seats)) }
         ensures seats { IfOk result (λ r. (r.1.items ≡ seats_below r.0 inlets.items seats) × All (λ s. s.desk ≡ r.0) r.1.items) }
         ensures fed { IfOk result (λ r. All (λ s. s.feeds ≡ inlets.items) r.1.items) }
-        ensures views { IfOk result (λ r. (length r.2.items ≡ views) × All (λ v. v ≡ record { board = r.0.terms.origin; list = text.now ∷ [] }) r.2.items) }
+        ensures views { IfOk result (λ r. (length r.2.items ≡ views) × All (λ v. v ≡ record { board = r.0.options.origin; list = text.now ∷ [] }) r.2.items) }
         ensures good { IfOk result (λ r. AreFit seats inlets.items × (views ≤ 16) × IsLegal text.now []) }
         ensures handed { IfErr result (λ r. (r.table ≡ table) × (r.inlets ≡ inlets)) }
         ensures fault { IfErr result (λ r. IsViewFault seats inlets.items views text.now r.fault) }
@@ -340,10 +340,10 @@ impl<'a, T: Drop, R: Wait> Desk<T, &'a R> {
         inlets: Vec<Inlet>,
         views: usize,
     ) -> Result<(Desk<T, &'a R>, Vec<Seat<T>>, Vec<View>), OpenRefused<T>>
-        ensures desk { IfOk result (λ r. (r.0.terms.opening ≡ text.now) × (r.0.terms.room ≡ None) × (r.0.terms.seats ≡ seats)) }
+        ensures desk { IfOk result (λ r. (r.0.options.opening ≡ text.now) × (r.0.options.room ≡ None) × (r.0.options.seats ≡ seats)) }
         ensures seats { IfOk result (λ r. (r.1.items ≡ seats_below r.0 inlets.items seats) × All (λ s. s.desk ≡ r.0) r.1.items) }
         ensures fed { IfOk result (λ r. All (λ s. s.feeds ≡ inlets.items) r.1.items) }
-        ensures views { IfOk result (λ r. (length r.2.items ≡ views) × All (λ v. v ≡ record { board = r.0.terms.origin; list = text.now ∷ [] }) r.2.items) }
+        ensures views { IfOk result (λ r. (length r.2.items ≡ views) × All (λ v. v ≡ record { board = r.0.options.origin; list = text.now ∷ [] }) r.2.items) }
         ensures good { IfOk result (λ r. AreFit seats inlets.items × (views ≤ 16) × IsLegal text.now []) }
         ensures handed { IfErr result (λ r. (r.table ≡ table) × (r.inlets ≡ inlets)) }
         ensures fault { IfErr result (λ r. IsViewFault seats inlets.items views text.now r.fault) }
@@ -362,15 +362,15 @@ impl<'a, T: Drop, R: Wait> Desk<T, &'a R> {
         inlets: Vec<Inlet>,
         views: usize,
     ) -> Result<(Desk<T, &'a R>, Vec<Seat<T>>, Vec<View>), OpenRefused<T>>
-        ensures desk { IfOk result (λ r. (r.0.terms.opening ≡ text.now) × (r.0.terms.room ≡ room) × (r.0.terms.seats ≡ seats)) }
+        ensures desk { IfOk result (λ r. (r.0.options.opening ≡ text.now) × (r.0.options.room ≡ room) × (r.0.options.seats ≡ seats)) }
         ensures seats { IfOk result (λ r. (r.1.items ≡ seats_below r.0 inlets.items seats) × All (λ s. s.desk ≡ r.0) r.1.items) }
         ensures fed { IfOk result (λ r. All (λ s. s.feeds ≡ inlets.items) r.1.items) }
-        ensures views { IfOk result (λ r. (length r.2.items ≡ views) × All (λ v. v ≡ record { board = r.0.terms.origin; list = text.now ∷ [] }) r.2.items) }
+        ensures views { IfOk result (λ r. (length r.2.items ≡ views) × All (λ v. v ≡ record { board = r.0.options.origin; list = text.now ∷ [] }) r.2.items) }
         ensures good { IfOk result (λ r. AreFit seats inlets.items × (views ≤ 16) × IsLegal text.now []) }
         ensures handed { IfErr result (λ r. (r.table ≡ table) × (r.inlets ≡ inlets)) }
         ensures fault { IfErr result (λ r. IsViewFault seats inlets.items views text.now r.fault) }
     {
-        if let Some(fault) = misfit(seats, inlets.as_slice(), views) {
+        if let Some(fault) = size_fault(seats, inlets.as_slice(), views) {
             return Err(refused(table, inlets, fault));
         }
         let prepared = match prepare(alloc, text) {
@@ -383,27 +383,38 @@ impl<'a, T: Drop, R: Wait> Desk<T, &'a R> {
             inlets: inlets.len(),
             views,
         };
-        let Ok(bell) = bell_for(rt, alloc, views) else {
+        let Ok(install_signal) = signal_for(rt, alloc, views) else {
             return Err(refused(table, inlets, OpenFault::NoMemory));
         };
         let Ok(parts) = make_parts(rt, alloc, text, &prepared, sizes) else {
             return Err(refused(table, inlets, OpenFault::NoMemory));
         };
         let Parts {
-            mut ledger,
+            mut router_log,
             beside,
             queue,
             mut maker,
             mut given,
             views: mut shown,
         } = parts;
-        if let Err(fault) = make_views(rt, &ledger.published, &bell, views, &mut shown) {
+        if let Err(fault) = make_views(
+            rt,
+            &router_log.published,
+            &install_signal,
+            views,
+            &mut shown,
+        ) {
             return Err(refused(table, inlets, fault));
         }
-        let told = ledger.published.notice();
+        let told = router_log.published.notice();
         let router = Router::open(table, prepared);
-        open_all(inlets, &mut ledger.taps);
-        give(rt, &queue, &mut maker, Booked::new(ledger, router));
+        open_all(inlets, &mut router_log.consumers);
+        give(
+            rt,
+            &queue,
+            &mut maker,
+            LoggedRouter::new(router_log, router),
+        );
         make_seats(
             alloc,
             &queue,
@@ -417,8 +428,8 @@ impl<'a, T: Drop, R: Wait> Desk<T, &'a R> {
             alloc,
             queue,
             waiting: AtomicU32::new(0),
-            terms: beside,
-            bell,
+            options: beside,
+            install_signal,
         };
         Ok((desk, given, shown))
     }

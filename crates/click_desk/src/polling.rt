@@ -2,7 +2,7 @@
 
 ghost use Rattle.std.specs.Prelude.{◌≡◌, ◌≤◌, ◌++◌, ◌∷◌, ◌↔◌, [], length, map, true, false, is_some, IfOk, IfErr, OnErr, Err, List, vec_len, vec_capacity};
 ghost use Rattle.click_packet.specs.Packet.{Packet};
-ghost use Rattle.click_rings.specs.Feeds.{name_of, has_feed, are_apart, drew};
+ghost use Rattle.click_rings.specs.Feeds.{name_of, has_feed, have_distinct_devices, drew};
 ghost use Rattle.click_desk.specs.Bounds.{IsWithin, IsFull};
 ghost use Rattle.click_desk.specs.History.{entry, Legal};
 ghost use Rattle.click_router.specs.One.{Answers};
@@ -10,12 +10,12 @@ ghost use Rattle.click_router.specs.Polls.{poll};
 ghost use Rattle.click_router.specs.State.{RouterState};
 ghost use Rattle.click_desk.specs.Polls.{IsPolled, MayTake};
 
-use crate::booked::{Booked, DeskFault, note, recorded_twice};
 use crate::entry::Entry;
+use crate::logged_router::{DeskFault, LoggedRouter, copy_twice, note};
+use click_base::sequence::Sequence;
 use click_packet::{PacketRoom, StoredPacket};
-use click_rings::{Tap, draw_from, seen_in};
-use click_router::{Call, Handlers, Recorded, Reply, Router};
-use click_text::sequence::Sequence;
+use click_rings::{PacketConsumer, available_in, draw_from};
+use click_router::{Call, Handlers, Reply, Router, StoredReply};
 use click_trail::Trail;
 use std::alloc::{AllocError, Global};
 
@@ -42,7 +42,7 @@ impl PollRoom {
         ensures { IfOk result (λ r. (r.name ≡ device.now) × (r.drawn.items ≡ []) × (most ≤ vec_capacity r.drawn)) }
     {
         Ok(PollRoom {
-            name: Sequence::of(Vec::from_slice(alloc, device)?),
+            name: Sequence::copy_of(alloc, device)?,
             drawn: Vec::with_capacity(alloc, most)?,
         })
     }
@@ -88,13 +88,18 @@ fn copy_all(
 }
 
 /// How many packets a poll is to draw: as many as are seen to be there, up to `most`, and none where the configuration has no such source.
-fn seen_for<T>(router: &Router<T>, taps: &mut Vec<Tap>, device: &[u8], most: usize) -> usize
-    ensures taps { taps.new.items ≡ taps.old.items }
+fn poll_size<T>(
+    router: &Router<T>,
+    consumers: &mut Vec<PacketConsumer>,
+    device: &[u8],
+    most: usize,
+) -> usize
+    ensures consumers { consumers.new.items ≡ consumers.old.items }
     ensures most { result ≤ most }
     ensures nothing { (packets : List Packet) (next : RouterState) (reply : Reply) → Answers router.now (poll device.now packets) next reply → reply ≡ Reply.NoDevice → result ≡ 0 }
 {
     if router.has_source(device) {
-        seen_in(taps.as_mut_slice(), device, most)
+        available_in(consumers.as_mut_slice(), device, most)
     } else {
         0
     }
@@ -102,17 +107,17 @@ fn seen_for<T>(router: &Router<T>, taps: &mut Vec<Tap>, device: &[u8], most: usi
 
 impl PollRoom {
     /// Draws up to `most` packets of the device, and gives the poll of what was drawn. It takes no memory.
-    fn draw(self, taps: &mut [Tap], device: &[u8], most: usize) -> Call
-        requires apart { are_apart (map name_of taps.old) ≡ true }
+    fn draw(self, consumers: &mut [PacketConsumer], device: &[u8], most: usize) -> Call
+        requires apart { have_distinct_devices (map name_of consumers.old) ≡ true }
         requires room { (self.name ≡ device.now) × (self.drawn.items ≡ []) × (most ≤ vec_capacity self.drawn) }
-        ensures { (taken : List Packet) × (result ≡ poll device.now taken) × (taps.new ≡ drew device.now taken taps.old)
-            × (length taken ≤ most) × (has_feed device.now (map name_of taps.old) ≡ false → taken ≡ []) }
+        ensures { (taken : List Packet) × (result ≡ poll device.now taken) × (consumers.new ≡ drew device.now taken consumers.old)
+            × (length taken ≤ most) × (has_feed device.now (map name_of consumers.old) ≡ false → taken ≡ []) }
     {
         let PollRoom {
             name,
             drawn: mut taken,
         } = self;
-        draw_from(taps, device, most, &mut taken);
+        draw_from(consumers, device, most, &mut taken);
         Call::Poll {
             device: name,
             taken: Sequence::of(taken),
@@ -122,13 +127,13 @@ impl PollRoom {
 
 impl PollRooms {
     /// Draws up to `most` packets of the device. Gives the poll of what was drawn twice. It takes no memory.
-    fn draw(self, taps: &mut [Tap], device: &[u8], most: usize) -> (Call, Call)
-        requires apart { are_apart (map name_of taps.old) ≡ true }
+    fn draw(self, consumers: &mut [PacketConsumer], device: &[u8], most: usize) -> (Call, Call)
+        requires apart { have_distinct_devices (map name_of consumers.old) ≡ true }
         requires names { (self.entered.name ≡ device.now) × (self.listed.name ≡ device.now) }
         requires drawn { (self.entered.drawn.items ≡ []) × (most ≤ vec_capacity self.entered.drawn) }
         requires listed { (self.listed.drawn.items ≡ []) × (most ≤ vec_capacity self.listed.drawn) × (vec_len self.rooms ≡ most) }
-        ensures { (taken : List Packet) × (result.0 ≡ poll device.now taken) × (result.1 ≡ poll device.now taken) × (taps.new ≡ drew device.now taken taps.old)
-            × (length taken ≤ most) × (has_feed device.now (map name_of taps.old) ≡ false → taken ≡ []) }
+        ensures { (taken : List Packet) × (result.0 ≡ poll device.now taken) × (result.1 ≡ poll device.now taken) × (consumers.new ≡ drew device.now taken consumers.old)
+            × (length taken ≤ most) × (has_feed device.now (map name_of consumers.old) ≡ false → taken ≡ []) }
     {
         let PollRooms {
             entered,
@@ -140,7 +145,7 @@ impl PollRooms {
             name: again,
             drawn: copies,
         } = listed;
-        draw_from(taps, device, most, &mut drawn);
+        draw_from(consumers, device, most, &mut drawn);
         let copies = copy_all(drawn.as_slice(), rooms, copies);
         let call = Call::Poll {
             device: name,
@@ -154,70 +159,70 @@ impl PollRooms {
     }
 }
 
-impl<T: Handlers> Booked<T> {
+impl<T: Handlers> LoggedRouter<T> {
     /// One poll of a device, by the seat with this number, entered in the history and in the seat's list. All memory is taken before a packet is drawn.
     pub fn enter_poll(
         &mut self,
         alloc: Global,
         number: usize,
-        calls: &mut Trail<(Call, Recorded)>,
+        calls: &mut Trail<(Call, StoredReply)>,
         device: &[u8],
         most: usize,
-    ) -> Result<Recorded, DeskFault>
-        requires keeps { calls.old.keeps ≡ is_some self.old.terms.room }
-        ensures terms { self.new.terms ≡ self.old.terms }
-        ensures legal { Legal self.new.terms.opening self.new.entries self.new.state }
-        ensures polled { IsPolled self.new.entries self.new.taps }
-        ensures ok { IfOk result (λ reply. (taken : List Packet) × MayTake self.new.terms.feeds device.now most taken reply × (self.new.entries ≡ self.old.entries ++ entry number (poll device.now taken) reply ∷ []) × (calls.new.items ≡ calls.old.items ++ (poll device.now taken, reply) ∷ []) × IsWithin self.new.terms.room (length self.new.entries)) }
+    ) -> Result<StoredReply, DeskFault>
+        requires keeps { calls.old.keeps ≡ is_some self.old.options.room }
+        ensures options { self.new.options ≡ self.old.options }
+        ensures legal { Legal self.new.options.opening self.new.entries self.new.state }
+        ensures polled { IsPolled self.new.entries self.new.consumers }
+        ensures ok { IfOk result (λ reply. (taken : List Packet) × MayTake self.new.options.feeds device.now most taken reply × (self.new.entries ≡ self.old.entries ++ entry number (poll device.now taken) reply ∷ []) × (calls.new.items ≡ calls.old.items ++ (poll device.now taken, reply) ∷ []) × IsWithin self.new.options.room (length self.new.entries)) }
         ensures err { OnErr result ((self.new ≡ self.old) × (calls.new.items ≡ calls.old.items)) }
         ensures keeps { calls.new.keeps ≡ calls.old.keeps }
-        ensures full { (result ≡ Err DeskFault.HistoryFull) ↔ IsFull self.old.terms.room (length self.old.entries) }
+        ensures full { (result ≡ Err DeskFault.HistoryFull) ↔ IsFull self.old.options.room (length self.old.entries) }
     {
         if self.is_full() {
             return Err(DeskFault::HistoryFull);
         }
-        if self.ledger.terms.room.is_some() {
-            self.enter_poll_kept(alloc, number, calls, device, most)
+        if self.router_log.options.room.is_some() {
+            self.enter_poll_with_history(alloc, number, calls, device, most)
         } else {
-            self.enter_poll_noted(alloc, number, calls, device, most)
+            self.enter_poll_without_history(alloc, number, calls, device, most)
         }
     }
 
     /// A poll, with copies of it and of its reply in both lists.
-    fn enter_poll_kept(
+    fn enter_poll_with_history(
         &mut self,
         alloc: Global,
         number: usize,
-        calls: &mut Trail<(Call, Recorded)>,
+        calls: &mut Trail<(Call, StoredReply)>,
         device: &[u8],
         most: usize,
-    ) -> Result<Recorded, DeskFault>
-        requires { (is_some self.old.terms.room ≡ true) × (calls.old.keeps ≡ true) }
-        ensures terms { self.new.terms ≡ self.old.terms }
-        ensures legal { Legal self.new.terms.opening self.new.entries self.new.state }
-        ensures polled { IsPolled self.new.entries self.new.taps }
-        ensures ok { IfOk result (λ reply. (taken : List Packet) × MayTake self.new.terms.feeds device.now most taken reply × (self.new.entries ≡ self.old.entries ++ entry number (poll device.now taken) reply ∷ []) × (calls.new.items ≡ calls.old.items ++ (poll device.now taken, reply) ∷ [])) }
+    ) -> Result<StoredReply, DeskFault>
+        requires { (is_some self.old.options.room ≡ true) × (calls.old.keeps ≡ true) }
+        ensures options { self.new.options ≡ self.old.options }
+        ensures legal { Legal self.new.options.opening self.new.entries self.new.state }
+        ensures polled { IsPolled self.new.entries self.new.consumers }
+        ensures ok { IfOk result (λ reply. (taken : List Packet) × MayTake self.new.options.feeds device.now most taken reply × (self.new.entries ≡ self.old.entries ++ entry number (poll device.now taken) reply ∷ []) × (calls.new.items ≡ calls.old.items ++ (poll device.now taken, reply) ∷ [])) }
         ensures err { OnErr result ((self.new ≡ self.old) × (calls.new.items ≡ calls.old.items)) }
         ensures keeps { calls.new.keeps ≡ calls.old.keeps }
         ensures fault { IfErr result (λ fault. fault ≡ DeskFault.NoMemory) }
     {
-        let ledger = &mut *self.ledger;
-        if ledger.entries.reserve().is_err() || calls.reserve().is_err() {
+        let router_log = &mut *self.router_log;
+        if router_log.entries.reserve().is_err() || calls.reserve().is_err() {
             return Err(DeskFault::NoMemory);
         }
-        let count = seen_for(&self.router, &mut ledger.taps, device, most);
+        let count = poll_size(&self.router, &mut router_log.consumers, device, most);
         let Ok(rooms) = PollRooms::new(alloc, device, count) else {
             return Err(DeskFault::NoMemory);
         };
-        let (call, listed) = rooms.draw(ledger.taps.as_mut_slice(), device, count);
+        let (call, listed) = rooms.draw(router_log.consumers.as_mut_slice(), device, count);
         // From here on nothing fails: a poll and its reply take no memory.
         let Ok(reply) = self.router.record(alloc, &call, None) else {
             unreachable!()
         };
-        let Ok((entered, told)) = recorded_twice(alloc, &reply, None, None) else {
+        let Ok((entered, told)) = copy_twice(alloc, &reply, None, None) else {
             unreachable!()
         };
-        ledger.entries.add(Entry {
+        router_log.entries.add(Entry {
             seat: number,
             call,
             reply: entered,
@@ -227,33 +232,33 @@ impl<T: Handlers> Booked<T> {
     }
 
     /// A poll of which nothing is kept: the packets that it drew are let go once they entered.
-    fn enter_poll_noted(
+    fn enter_poll_without_history(
         &mut self,
         alloc: Global,
         number: usize,
-        calls: &mut Trail<(Call, Recorded)>,
+        calls: &mut Trail<(Call, StoredReply)>,
         device: &[u8],
         most: usize,
-    ) -> Result<Recorded, DeskFault>
-        requires notes { (is_some self.old.terms.room ≡ false) × (calls.old.keeps ≡ false) }
-        ensures terms { self.new.terms ≡ self.old.terms }
-        ensures legal { Legal self.new.terms.opening self.new.entries self.new.state }
-        ensures polled { IsPolled self.new.entries self.new.taps }
-        ensures ok { IfOk result (λ reply. (taken : List Packet) × MayTake self.new.terms.feeds device.now most taken reply × (self.new.entries ≡ self.old.entries ++ entry number (poll device.now taken) reply ∷ []) × (calls.new.items ≡ calls.old.items ++ (poll device.now taken, reply) ∷ [])) }
+    ) -> Result<StoredReply, DeskFault>
+        requires notes { (is_some self.old.options.room ≡ false) × (calls.old.keeps ≡ false) }
+        ensures options { self.new.options ≡ self.old.options }
+        ensures legal { Legal self.new.options.opening self.new.entries self.new.state }
+        ensures polled { IsPolled self.new.entries self.new.consumers }
+        ensures ok { IfOk result (λ reply. (taken : List Packet) × MayTake self.new.options.feeds device.now most taken reply × (self.new.entries ≡ self.old.entries ++ entry number (poll device.now taken) reply ∷ []) × (calls.new.items ≡ calls.old.items ++ (poll device.now taken, reply) ∷ [])) }
         ensures err { OnErr result ((self.new ≡ self.old) × (calls.new.items ≡ calls.old.items)) }
         ensures keeps { calls.new.keeps ≡ calls.old.keeps }
         ensures fault { IfErr result (λ fault. fault ≡ DeskFault.NoMemory) }
     {
-        let ledger = &mut *self.ledger;
-        let seen = seen_for(&self.router, &mut ledger.taps, device, most);
+        let router_log = &mut *self.router_log;
+        let seen = poll_size(&self.router, &mut router_log.consumers, device, most);
         let Ok(room) = PollRoom::new(alloc, device, seen) else {
             return Err(DeskFault::NoMemory);
         };
-        let call = room.draw(ledger.taps.as_mut_slice(), device, seen);
+        let call = room.draw(router_log.consumers.as_mut_slice(), device, seen);
         // From here on nothing fails.
         let Ok(reply) = self.router.record(alloc, &call, None) else {
             unreachable!()
         };
-        Ok(note(&mut ledger.entries, calls, number, call, reply))
+        Ok(note(&mut router_log.entries, calls, number, call, reply))
     }
 }

@@ -1,6 +1,6 @@
 //! The queue of one place through which the booked router passes.
 
-use crate::booked::Booked;
+use crate::logged_router::LoggedRouter;
 use crate::view::View;
 use crossbeam_queue::protocol::{Join, Lesson, Outcome, Protocol, Split};
 use crossbeam_queue::{Pass, RuledArrayQueue};
@@ -8,7 +8,7 @@ use crossbeam_queue::{Pass, RuledArrayQueue};
 /// The rule of the queue.
 pub struct OnePlace;
 
-impl<T> Protocol<Booked<T>, View> for OnePlace {
+impl<T> Protocol<LoggedRouter<T>, View> for OnePlace {
     ghost use Rattle.click_desk.specs.Rule.{OnePlace as TheRule};
     ghost use Rattle.click_desk.specs.Views.{first as first_view};
 
@@ -20,7 +20,7 @@ impl<T> Protocol<Booked<T>, View> for OnePlace {
 /// A take.
 pub struct Take;
 
-impl<T> Outcome<Booked<T>, View> for Take {
+impl<T> Outcome<LoggedRouter<T>, View> for Take {
     ghost use Rattle.click_desk.specs.Views.{Takes};
 
     ghost then = { Takes };
@@ -29,13 +29,13 @@ impl<T> Outcome<Booked<T>, View> for Take {
 /// A give, which finds the queue empty.
 pub struct Give;
 
-impl<T> Outcome<Booked<T>, View> for Give {
+impl<T> Outcome<LoggedRouter<T>, View> for Give {
     ghost use Rattle.click_desk.specs.Views.{Gives};
 
     ghost then = { Gives };
 }
 
-impl<T> Lesson<Booked<T>, View> for Give {
+impl<T> Lesson<LoggedRouter<T>, View> for Give {
     ghost use Rattle.std.specs.Prelude.{◌≡◌, [], true};
 
     ghost fact = { λ v items. v.holds ≡ true → items ≡ [] };
@@ -60,7 +60,7 @@ impl Split<View> for Agent {
 
     ghost left = { λ v. v };
 
-    ghost right = { λ v. agent v.terms };
+    ghost right = { λ v. agent v.options };
 }
 
 /// A seat and who holds the booked router look at the history together, and part again.
@@ -74,7 +74,7 @@ impl Join<View> for Meeting {
     ghost spent = { nobody };
 }
 
-impl<T> Lesson<Booked<T>, View> for Meeting {
+impl<T> Lesson<LoggedRouter<T>, View> for Meeting {
     ghost use Rattle.click_desk.specs.Views.{Audits};
 
     ghost fact = { Audits };
@@ -85,9 +85,9 @@ impl Split<View> for Meeting {
 
     ghost left = { parted };
 
-    ghost right = { λ v. holding v.terms v.seen };
+    ghost right = { λ v. holding v.options v.seen };
 }
 
-pub type Queue<T> = RuledArrayQueue<Booked<T>, View, OnePlace>;
+pub type Queue<T> = RuledArrayQueue<LoggedRouter<T>, View, OnePlace>;
 
-pub type DeskPass<T> = Pass<Booked<T>, View>;
+pub type DeskPass<T> = Pass<LoggedRouter<T>, View>;

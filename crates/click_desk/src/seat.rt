@@ -1,12 +1,12 @@
 //! A seat at a desk.
 
 ghost use Rattle.std.specs.Prelude.{◌≡◌, [], true, false, is_some};
-ghost use Rattle.click_desk.specs.Sittings.{IsSeat};
+ghost use Rattle.click_desk.specs.SeatStates.{IsSeat};
 ghost use Rattle.click_desk.specs.History.{installs};
 
 use crate::rule::DeskPass;
 use crate::watch::Notice;
-use click_router::{Call, Recorded};
+use click_router::{Call, StoredReply};
 use click_trail::Trail;
 use std::marker::Model;
 
@@ -15,27 +15,27 @@ use std::marker::Model;
 pub struct Seat<T> {
     pub(crate) pass: DeskPass<T>,
     pub(crate) number: usize,
-    pub(crate) calls: Trail<(Call, Recorded)>,
+    pub(crate) calls: Trail<(Call, StoredReply)>,
     pub(crate) notice: Notice,
 }
 
 impl<T> Model for Seat<T> {
-    ghost use Rattle.click_desk.specs.Sittings.{Sitting};
+    ghost use Rattle.click_desk.specs.SeatStates.{SeatState};
 
-    ghost Value = { Sitting };
+    ghost Value = { SeatState };
 
     ghost use Rattle.std.specs.Prelude.{◌≡◌, [], is_some};
     ghost use Rattle.crossbeam_queue.specs.Passes.{view as known};
-    ghost use Rattle.click_desk.specs.Charters.{terms_of};
+    ghost use Rattle.click_desk.specs.DeskSetups.{terms_of};
     ghost use Rattle.click_desk.specs.Views.{seated};
-    ghost use Rattle.click_desk.specs.Sittings.{IsSeat};
+    ghost use Rattle.click_desk.specs.SeatStates.{IsSeat};
     ghost use Rattle.click_desk.specs.History.{installs};
 
-    ghost view = { λ s. record { desk = record { table = s.pass.table_id; terms = terms_of (known s.pass).terms }; feeds = (known s.pass).terms.feeds; number = s.number; calls = s.calls.items; seen = (known s.pass).seen } };
+    ghost view = { λ s. record { desk = record { table = s.pass.table_id; options = terms_of (known s.pass).options }; feeds = (known s.pass).options.feeds; number = s.number; calls = s.calls.items; seen = (known s.pass).seen } };
 
-    ghost invariant = { λ s. (s.pass.me.1 ≡ []) × (known s.pass ≡ seated (known s.pass).terms s.number s.calls.items (known s.pass).seen) × IsSeat (record { desk = record { table = s.pass.table_id; terms = terms_of (known s.pass).terms }; feeds = (known s.pass).terms.feeds; number = s.number; calls = s.calls.items; seen = (known s.pass).seen })
-        × (s.notice ≡ record { board = (known s.pass).terms.origin; list = installs (known s.pass).terms.opening (known s.pass).seen })
-        × (s.calls.keeps ≡ is_some (known s.pass).terms.room) };
+    ghost invariant = { λ s. (s.pass.me.1 ≡ []) × (known s.pass ≡ seated (known s.pass).options s.number s.calls.items (known s.pass).seen) × IsSeat (record { desk = record { table = s.pass.table_id; options = terms_of (known s.pass).options }; feeds = (known s.pass).options.feeds; number = s.number; calls = s.calls.items; seen = (known s.pass).seen })
+        × (s.notice ≡ record { board = (known s.pass).options.origin; list = installs (known s.pass).options.opening (known s.pass).seen })
+        × (s.calls.keeps ≡ is_some (known s.pass).options.room) };
 }
 
 impl<T> Seat<T> {
@@ -50,16 +50,16 @@ impl<T> Seat<T> {
     /// What it was told in its latest call, or when the desk was opened: which configurations were installed so far. A view that learns it shows the last of these
     /// or a later one. It takes no memory.
     pub fn notice(&self) -> &Notice
-        ensures told { result.now ≡ record { board = self.now.desk.terms.origin; list = installs self.now.desk.terms.opening self.now.seen } }
+        ensures told { result.now ≡ record { board = self.now.desk.options.origin; list = installs self.now.desk.options.opening self.now.seen } }
         ensures sound { IsSeat self.now }
     {
         &self.notice
     }
 
     /// The calls that it made, each with its reply, where the desk keeps a book; else none.
-    pub fn calls(&self) -> &[(Call, Recorded)]
-        ensures calls { is_some self.now.desk.terms.room ≡ true → result.now ≡ self.now.calls }
-        ensures none { is_some self.now.desk.terms.room ≡ false → result.now ≡ [] }
+    pub fn calls(&self) -> &[(Call, StoredReply)]
+        ensures calls { is_some self.now.desk.options.room ≡ true → result.now ≡ self.now.calls }
+        ensures none { is_some self.now.desk.options.room ≡ false → result.now ≡ [] }
         ensures sound { IsSeat self.now }
     {
         self.calls.as_slice()

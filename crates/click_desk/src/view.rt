@@ -1,15 +1,15 @@
 //! What a pass of the queue knows.
 
-use crate::charter::Charter;
+use crate::desk_setup::DeskSetup;
 use crate::entry::Entry;
-use click_router::{Call, Recorded};
+use click_router::{Call, StoredReply};
 use std::collections::LinkedList;
 
 /// What a pass knows and may do. No value of it is made.
 pub struct View {
     /// It knows the terms.
     pub opened: bool,
-    pub terms: Charter,
+    pub options: DeskSetup,
     /// It has the booked router.
     pub holds: bool,
     /// It makes the seats whose numbers are `made` and above.
@@ -18,7 +18,7 @@ pub struct View {
     /// It makes the calls of seat `number`, which are `mine`.
     pub acts: bool,
     pub number: usize,
-    pub mine: LinkedList<(Call, Recorded)>,
+    pub mine: LinkedList<(Call, StoredReply)>,
     /// The history, as far as it was seen.
     pub seen: LinkedList<Entry>,
     /// What its seat had seen, while it lends itself to the close.

@@ -44,7 +44,7 @@ impl View {
         ensures later { BeginsWith self.new.list self.old.list }
         ensures answer { (text : List ℕ) × (l : Listing) × IsLast self.new.list text × IsListing text l × (result ≡ check l Direction.Read name.now) }
     {
-        self.shown.look();
+        self.shown.refresh();
         self.shown.install().check(Direction::Read, name)
     }
 
@@ -54,7 +54,7 @@ impl View {
         ensures later { BeginsWith self.new.list self.old.list }
         ensures answer { (text : List ℕ) × (l : Listing) × IsLast self.new.list text × IsListing text l × (result ≡ check l Direction.Write name.now) }
     {
-        self.shown.look();
+        self.shown.refresh();
         self.shown.install().check(Direction::Write, name)
     }
 
@@ -64,7 +64,7 @@ impl View {
         ensures later { BeginsWith self.new.list self.old.list }
         ensures names { IfOk result (λ names. (text : List ℕ) × (l : Listing) × IsLast self.new.list text × IsListing text l × (map (λ n. n.items) names.items ≡ l.names)) }
     {
-        self.shown.look();
+        self.shown.refresh();
         self.shown.install().names(alloc)
     }
 }

@@ -2,9 +2,9 @@
 use Rattle.std.proofs.Common.{◌≡◌, ◌<◌, ℕ, suc, true, List, [], ◌∷◌, ◌++◌, length, get_or, map, refl, sym, ap, ◌∙◌, arith}
 use Rattle.std.specs.List.{All, remove}
 use Rattle.std.proofs.lemmas.List.{append_assoc, append-nil}
-use Rattle.click_rings.specs.Feeds.{FeedName, Drawing, name_of, are_apart}
+use Rattle.click_rings.specs.Feeds.{FeedName, ConsumerState, name_of, have_distinct_devices}
 use Rattle.click_desk.specs.Polls.{without}
-use Rattle.click_desk.proofs.Settling.{own_ring, others_left}
+use Rattle.click_desk.proofs.Settlements.{own_ring, others_left}
 
 -- the first and the others
 split : (ds : List FeedName) (n : FeedName) → 0 < length ds → n ≡ get_or ds 0 n → ds ≡ n ∷ remove ds 0
@@ -12,24 +12,24 @@ split [] n some is = absurd (omega arith)
 split (d ∷ ds) n some is = ap (λ x. x ∷ ds) (sym is)
 
 -- a settlement of the first finds its ring
-pub first-ring : (ds : List FeedName) (n : FeedName) (taps : List Drawing) → 0 < length ds → n ≡ get_or ds 0 n → map name_of taps ≡ ds → are_apart ds ≡ true
-    → All (λ i. i.device ≡ n.device → i.ring ≡ n.ring) taps
-first-ring ds n taps some is names apart =
-    own_ring n (remove ds 0) taps (names ∙ split ds n some is) (ap are_apart names ∙ apart)
+pub first-ring : (ds : List FeedName) (n : FeedName) (consumers : List ConsumerState) → 0 < length ds → n ≡ get_or ds 0 n → map name_of consumers ≡ ds → have_distinct_devices ds ≡ true
+    → All (λ i. i.device ≡ n.device → i.ring ≡ n.ring) consumers
+first-ring ds n consumers some is names apart =
+    own_ring n (remove ds 0) consumers (names ∙ split ds n some is) (ap have_distinct_devices names ∙ apart)
 
 -- after it the others are left
-pub first-settled : (ds : List FeedName) (n : FeedName) (taps : List Drawing) → 0 < length ds → n ≡ get_or ds 0 n → map name_of taps ≡ ds
-    → map name_of (without n.device taps) ≡ remove ds 0
-first-settled ds n taps some is names = others_left n (remove ds 0) taps (names ∙ split ds n some is)
+pub first-settled : (ds : List FeedName) (n : FeedName) (consumers : List ConsumerState) → 0 < length ds → n ≡ get_or ds 0 n → map name_of consumers ≡ ds
+    → map name_of (without n.device consumers) ≡ remove ds 0
+first-settled ds n consumers some is names = others_left n (remove ds 0) consumers (names ∙ split ds n some is)
 
-none-named : (taps : List Drawing) → map name_of taps ≡ [] → taps ≡ []
+none-named : (consumers : List ConsumerState) → map name_of consumers ≡ [] → consumers ≡ []
 none-named [] e = refl
-none-named (t ∷ taps) e = absurd (let n : length (map name_of (t ∷ taps)) ≡ 0 = ap length e in omega arith)
+none-named (t ∷ consumers) e = absurd (let n : length (map name_of (t ∷ consumers)) ≡ 0 = ap length e in omega arith)
 
 -- where no feed is left, nothing is to be settled
-pub nothing-named : (ds : List FeedName) (taps : List Drawing) → length ds ≡ 0 → map name_of taps ≡ ds → taps ≡ []
-nothing-named [] taps none names = none-named taps names
-nothing-named (d ∷ ds) taps none names = absurd (omega arith)
+pub nothing-named : (ds : List FeedName) (consumers : List ConsumerState) → length ds ≡ 0 → map name_of consumers ≡ ds → consumers ≡ []
+nothing-named [] consumers none names = none-named consumers names
+nothing-named (d ∷ ds) consumers none names = absurd (omega arith)
 
 -- lists of which each element is the other's
 pub same-each : (xs ys : List FeedName) → length ys ≡ length xs → ((i : ℕ) (d : FeedName) → i < length xs → get_or ys i d ≡ get_or xs i d) → ys ≡ xs

@@ -2,13 +2,13 @@
 
 ghost use Rattle.std.specs.Prelude.{◌≡◌, ◌<◌, ◌+◌, ◌∷◌, [], true, map, IfSome, OnSome, vec_len};
 ghost use Rattle.std.specs.List.{All};
-ghost use Rattle.click_rings.specs.Feeds.{name_of, are_apart};
+ghost use Rattle.click_rings.specs.Feeds.{name_of, have_distinct_devices};
 
+use click_base::sequence::Sequence;
 use click_desk::{Book, Desk, Seat};
 use click_packet::{Packet, StoredPacket};
 use click_rings::opening::feed as make_feed;
 use click_rings::{Feed, FeedEnd, Inlet};
-use click_text::sequence::Sequence;
 use std::alloc::{AllocError, Global};
 use std::marker::Model;
 use std::sync::Wait;
@@ -105,7 +105,7 @@ fn driver_of(alloc: Global, letter: u8, places: usize) -> Option<(Driver, Inlet)
 {
     let name = [letter];
     let (feed, inlet) = make_feed(alloc, &name, places).ok()?;
-    let device = Sequence::of(Vec::from_slice(alloc, &name).ok()?);
+    let device = Sequence::copy_of(alloc, &name).ok()?;
     let count = 0;
     Some((
         Driver {
@@ -190,11 +190,11 @@ fn settle_first<T>(
     book: &mut Book<T>,
     finished: &mut Vec<Finished>,
 ) -> Option<Vec<StoredPacket>>
-    requires names { map name_of book.old.taps ≡ finished.old.items }
-    requires apart { are_apart finished.old.items ≡ true }
+    requires names { map name_of book.old.consumers ≡ finished.old.items }
+    requires apart { have_distinct_devices finished.old.items ≡ true }
     requires some { 0 < vec_len finished.old }
-    ensures names { OnSome result (map name_of book.new.taps ≡ finished.new.items) }
-    ensures apart { are_apart finished.new.items ≡ true }
+    ensures names { OnSome result (map name_of book.new.consumers ≡ finished.new.items) }
+    ensures apart { have_distinct_devices finished.new.items ≡ true }
     ensures len { vec_len finished.old ≡ vec_len finished.new + 1 }
 {
     let Finished { device, end } = finished.remove(0);
@@ -210,9 +210,9 @@ fn settle_all<T>(
     book: &mut Book<T>,
     mut finished: Vec<Finished>,
 ) -> Option<Vec<Vec<StoredPacket>>>
-    requires names { map name_of book.old.taps ≡ finished.items }
-    requires apart { are_apart finished.items ≡ true }
-    ensures { OnSome result (book.new.taps ≡ []) }
+    requires names { map name_of book.old.consumers ≡ finished.items }
+    requires apart { have_distinct_devices finished.items ≡ true }
+    ensures { OnSome result (book.new.consumers ≡ []) }
 {
     let mut all = Vec::new(alloc);
     while !finished.is_empty() {
@@ -231,9 +231,9 @@ pub(crate) fn close_and_settle<T: Drop, R: Wait>(
     drivers: Vec<Driver>,
 ) -> Option<(Book<T>, Vec<Vec<StoredPacket>>)>
     requires seats { All (λ s. (s.desk ≡ desk) × (s.feeds ≡ drivers.items)) seats.items }
-    requires apart { are_apart drivers.items ≡ true }
+    requires apart { have_distinct_devices drivers.items ≡ true }
     requires some { 0 < vec_len seats }
-    ensures { IfSome result (λ r. r.0.taps ≡ []) }
+    ensures { IfSome result (λ r. r.0.consumers ≡ []) }
 {
     let finished = finish_all(alloc, drivers)?;
     match desk.close(rt, seats) {

@@ -3,17 +3,17 @@
 ghost use Rattle.std.specs.Prelude.{◌≡◌, ◌≤◌, [], true, false, IfOk, IfSome};
 ghost use Rattle.std.specs.List.{All};
 ghost use Rattle.std.specs.Thread.{IsSync};
-ghost use Rattle.click_rings.specs.Feeds.{are_apart};
+ghost use Rattle.click_rings.specs.Feeds.{have_distinct_devices};
 ghost use Rattle.click_router.specs.Polls.{is_poll};
 
 use crate::drivers::{Driver, close_and_settle, count_on, drivers_of, hands_back, packet, puts};
+use click_base::sequence::Sequence;
 use click_desk::{Book, Desk, Entry, Seat, SettleFault};
 use click_handlers::{Table, TakesTable, with_table};
 use click_packet::StoredPacket;
 use click_rings::opening::feed as make_feed;
-use click_rings::{FeedEnd, FeedFault, Inlet, Tap};
-use click_router::{Call, Handlers, Kept, Reply};
-use click_text::sequence::Sequence;
+use click_rings::{FeedEnd, FeedFault, Inlet, PacketConsumer};
+use click_router::{Call, CompactReply, Handlers, Reply};
 use std::alloc::{AllocError, Global};
 use std::sync::Wait;
 use std::test::Fail;
@@ -44,7 +44,7 @@ fn open<'a, T: Drop, R: Wait>(
     places: usize,
 ) -> Option<(Desk<T, &'a R>, Seat<T>, Vec<Driver>)>
     ensures seat { IfSome result (λ r. (r.1.desk ≡ r.0) × (r.1.feeds ≡ r.2.items)) }
-    ensures apart { IfSome result (λ r. are_apart r.2.items ≡ true) }
+    ensures apart { IfSome result (λ r. have_distinct_devices r.2.items ≡ true) }
 {
     let (drivers, inlets) = drivers_of(alloc, letters, places)?;
     let (desk, seats) = Desk::open(rt, alloc, table, text, 1_000_000, 1, inlets).ok()?;
@@ -74,8 +74,8 @@ fn close<T: Drop, R: Wait>(
     drivers: Vec<Driver>,
 ) -> Option<(Book<T>, Vec<Vec<StoredPacket>>)>
     requires seat { (seat.desk ≡ desk) × (seat.feeds ≡ drivers.items) }
-    requires apart { are_apart drivers.items ≡ true }
-    ensures { IfSome result (λ r. r.0.taps ≡ []) }
+    requires apart { have_distinct_devices drivers.items ≡ true }
+    ensures { IfSome result (λ r. r.0.consumers ≡ []) }
 {
     let mut seats = Vec::with_capacity(alloc, 1).ok()?;
     seats.push_reserved(seat);
@@ -112,7 +112,7 @@ fn swap(alloc: Global, text: &[u8]) -> Result<Call, AllocError>
     ensures { IfOk result (λ call. is_poll call ≡ false) }
 {
     Ok(Call::Swap {
-        text: Sequence::of(Vec::from_slice(alloc, text)?),
+        text: Sequence::copy_of(alloc, text)?,
     })
 }
 
@@ -218,8 +218,9 @@ fn is_poll(entry: &Entry, first: u16, count: u16) -> bool {
 
 /// Whether in an entry so many packets entered by a poll, numbered from `first` on.
 fn has_entered(entry: &Entry, first: u16, count: u16) -> bool {
-    match entry.reply.kept() {
-        Kept::Entered(entered) => (*entered == u64::from(count)) & is_poll(entry, first, count),
+    match entry.reply.compact() {
+        CompactReply::Entered(entered) => (*entered == u64::from(count))
+            & is_poll(entry, first, count),
         _ => false,
     }
 }
@@ -228,7 +229,7 @@ fn has_entered(entry: &Entry, first: u16, count: u16) -> bool {
 fn are_away_and_back(entries: &[Entry]) -> bool {
     match entries {
         [_, away, _, back] => {
-            matches!(away.reply.kept(), Kept::NoDevice)
+            matches!(away.reply.compact(), CompactReply::NoDevice)
                 & is_poll(away, 0, 0)
                 & has_entered(back, 0, 1)
         }
@@ -249,13 +250,13 @@ fn swapped<T: Handlers + Drop, R: Wait>(rt: &R, alloc: Global, table: T) -> Opti
 fn left_in(alloc: Global, inlet: Inlet, mut end: FeedEnd) -> Option<Vec<StoredPacket>>
     requires { end.ring ≡ inlet.ring }
 {
-    let mut tap = Tap::of(inlet);
-    tap.drain(alloc, &mut end).ok()
+    let mut packet_consumer = PacketConsumer::of(inlet);
+    packet_consumer.drain(alloc, &mut end).ok()
 }
 
 /// A second feed of the device is not settled: its end is handed back, and what it put is still to be had by it.
 fn settles_no_more<T>(alloc: Global, book: &mut Book<T>) -> Option<bool>
-    requires { book.old.taps ≡ [] }
+    requires { book.old.consumers ≡ [] }
 {
     let (mut feed, inlet) = make_feed(alloc, b"z", 1).ok()?;
     feed.put(packet(alloc, 0)?).ok()?;
@@ -415,7 +416,7 @@ fn closes_with_all<T: Drop, R: Wait>(
     letters: &[u8],
 ) -> Option<bool>
     requires seat { (seat.desk ≡ desk) × (seat.feeds ≡ drivers.items) }
-    requires apart { are_apart drivers.items ≡ true }
+    requires apart { have_distinct_devices drivers.items ≡ true }
 {
     let put = counts(alloc, &drivers)?;
     let (book, left) = close(rt, alloc, desk, seat, drivers)?;

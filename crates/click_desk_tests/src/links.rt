@@ -3,17 +3,18 @@
 ghost use Rattle.std.specs.Prelude.{◌≡◌, length, IfOk, IfSome, vec_len};
 ghost use Rattle.std.specs.List.{All};
 
+use click_base::sequence::Sequence;
 use click_desk::{Desk, Seat};
 use click_handlers::{Table, TakesTable, with_table};
 use click_links::{
-    Counted, Counts, Datagram, Device, Dropped, Ended, Inbound, Intake, Kept, LinkFailed, Linked,
-    Listed, Received, Receiving, Swept, Tally, Turn, forward, receive, run_links, sweep,
+    CountSnapshot, Counts, Datagram, Device, Dropped, Ended, Inbound, Intake, LinkFailed, Linked,
+    MemoryIn, MemoryOut, Received, Receiving, SweepResult, Tally, Turn, forward, receive,
+    run_links, sweep,
 };
 use click_packet::StoredPacket;
 use click_rings::Inlet;
 use click_rings::opening::feed as make_feed;
 use click_router::Handlers;
-use click_text::sequence::Sequence;
 use std::alloc::{AllocError, Global};
 use std::sync::Wait;
 use std::sync::atomic::{AtomicBool, AtomicUsize, Ordering};
@@ -34,36 +35,32 @@ const MOVED: &[u8] =
 /// The bytes of a datagram that has one more than a packet.
 const TOO_MANY: usize = 1601;
 
-fn name_of(alloc: Global, name: &[u8]) -> Result<Sequence<u8>, AllocError> {
-    Ok(Sequence::of(Vec::from_slice(alloc, name)?))
-}
-
 fn datagram(alloc: Global, bytes: &[u8], known: bool) -> Result<Datagram, AllocError> {
-    let bytes = name_of(alloc, bytes)?;
+    let bytes = Sequence::copy_of(alloc, bytes)?;
     Ok(Datagram { bytes, known })
 }
 
 /// Two packets, one of them of no bytes, among a stranger's and one that is too long, and then one packet more.
-fn mixed(alloc: Global) -> Result<Listed, AllocError> {
+fn mixed(alloc: Global) -> Result<MemoryIn, AllocError> {
     let mut all = Vec::new(alloc);
     all.push(datagram(alloc, b"ab", true)?)?;
     all.push(datagram(alloc, b"xy", false)?)?;
     all.push(datagram(alloc, &vec![in alloc; 0; TOO_MANY]?, true)?)?;
     all.push(datagram(alloc, b"", true)?)?;
     all.push(datagram(alloc, b"cd", true)?)?;
-    Ok(Listed::new(all))
+    Ok(MemoryIn::new(all))
 }
 
 /// Two packets.
-fn pair(alloc: Global) -> Result<Listed, AllocError> {
+fn pair(alloc: Global) -> Result<MemoryIn, AllocError> {
     let mut all = Vec::new(alloc);
     all.push(datagram(alloc, b"ef", true)?)?;
     all.push(datagram(alloc, b"gh", true)?)?;
-    Ok(Listed::new(all))
+    Ok(MemoryIn::new(all))
 }
 
 /// A feed of so many places into which what came was put, with what became of that, and what was counted meanwhile.
-fn received(alloc: Global, places: usize) -> Option<(Inlet, Received, Counted)> {
+fn received(alloc: Global, places: usize) -> Option<(Inlet, Received, CountSnapshot)> {
     let (feed, inlet) = make_feed(alloc, b"a", places).ok()?;
     let mut intake = Intake::of(feed);
     let mut link = mixed(alloc).ok()?;
@@ -87,8 +84,8 @@ fn ended(no_room: u64) -> Received {
     }
 }
 
-fn counted(no_room: u64, entered: u64, sent: u64, failed: u64) -> Counted {
-    Counted {
+fn counted(no_room: u64, entered: u64, sent: u64, failed: u64) -> CountSnapshot {
+    CountSnapshot {
         received: 5,
         strangers: 1,
         too_long: 1,
@@ -129,12 +126,12 @@ fn one_inlet(alloc: Global, inlet: Inlet) -> Result<Vec<Inlet>, AllocError> {
 }
 
 /// Links that keep so many packets of these devices.
-fn keeping(alloc: Global, names: &[&[u8]], most: usize) -> Result<Kept, AllocError> {
+fn keeping(alloc: Global, names: &[&[u8]], most: usize) -> Result<MemoryOut, AllocError> {
     let mut devices = Vec::new(alloc);
     for name in names {
-        devices.push(name_of(alloc, name)?)?;
+        devices.push(Sequence::copy_of(alloc, name)?)?;
     }
-    Ok(Kept::new(alloc, devices, most))
+    Ok(MemoryOut::new(alloc, devices, most))
 }
 
 /// Whether the link of the device sent these packets, in this order.
@@ -162,7 +159,7 @@ fn sent<T: Handlers + Drop, R: Wait>(
 ) -> Option<bool> {
     let (inlet, _, _) = received(alloc, 8)?;
     let (desk, mut seat) = open(rt, alloc, table, LOOP, one_inlet(alloc, inlet).ok()?)?;
-    let device = Device::new(name_of(alloc, b"a").ok()?);
+    let device = Device::new(Sequence::copy_of(alloc, b"a").ok()?);
     let mut sender = keeping(alloc, names, most).ok()?;
     let turn = forward(rt, alloc, &desk, &mut seat, &device, &mut sender).ok()?;
     let next = forward(rt, alloc, &desk, &mut seat, &device, &mut sender).ok()?;
@@ -187,15 +184,15 @@ fn both(alloc: Global) -> Result<Vec<Device>, AllocError>
     ensures { IfOk result (λ devices. length devices.items ≡ 2) }
 {
     let mut devices = Vec::with_capacity(alloc, 2)?;
-    let first = Device::new(name_of(alloc, b"a")?);
-    let second = Device::new(name_of(alloc, b"b")?);
+    let first = Device::new(Sequence::copy_of(alloc, b"a")?);
+    let second = Device::new(Sequence::copy_of(alloc, b"b")?);
     devices.push_reserved(first);
     devices.push_reserved(second);
     Ok(devices)
 }
 
 /// Whether the only turns of a sweep let so many packets enter, and sent so many, each by the first and then the second device.
-fn swept(sweep: &Swept, entered: [u64; 2], went: [u64; 2]) -> bool {
+fn swept(sweep: &SweepResult, entered: [u64; 2], went: [u64; 2]) -> bool {
     match sweep.turns.as_slice() {
         [first, second] => {
             ([first.entered, second.entered] == entered)
@@ -238,15 +235,15 @@ fn count_down(left: &AtomicUsize, stop: &AtomicBool) {
 /// Datagrams over memory. When those of all such links have come, the run is told to stop.
 #[derive(Drop)]
 struct Closing<'a> {
-    listed: Listed,
+    listed: MemoryIn,
     left: &'a AtomicUsize,
     stop: &'a AtomicBool,
 }
 
 impl Inbound for Closing<'_> {
-    ghost came = { λ c. ⟦<Listed as Inbound>⟧.came c.listed };
+    ghost came = { λ c. ⟦<MemoryIn as Inbound>⟧.came c.listed };
 
-    ghost current = { λ c. ⟦<Listed as Inbound>⟧.current c.listed };
+    ghost current = { λ c. ⟦<MemoryIn as Inbound>⟧.current c.listed };
 
     fn receive(&mut self) -> Result<bool, LinkFailed> {
         let Ok(one) = self.listed.receive() else {
@@ -268,7 +265,7 @@ impl Inbound for Closing<'_> {
 fn receiving<'a>(
     device: Sequence<u8>,
     intake: Intake,
-    listed: Listed,
+    listed: MemoryIn,
     left: &'a AtomicUsize,
     stop: &'a AtomicBool,
 ) -> Receiving<Closing<'a>> {
@@ -286,7 +283,10 @@ fn two<'a>(
     ensures { IfOk result (λ links. vec_len links ≡ 2) }
 {
     let mut links = Vec::with_capacity(alloc, 2)?;
-    let (a, b) = (name_of(alloc, b"a")?, name_of(alloc, b"b")?);
+    let (a, b) = (
+        Sequence::copy_of(alloc, b"a")?,
+        Sequence::copy_of(alloc, b"b")?,
+    );
     links.push_reserved(receiving(a, first, mixed(alloc)?, left, stop));
     links.push_reserved(receiving(b, second, pair(alloc)?, left, stop));
     Ok(links)
@@ -300,9 +300,9 @@ fn run_both<'a, T: Handlers + Send + Drop, R: Threads + Wait + Sync>(
     seat: Seat<T>,
     devices: &[Device],
     links: Vec<Receiving<Closing<'a>>>,
-    sender: Kept,
+    sender: MemoryOut,
     stop: &AtomicBool,
-) -> Option<Linked<T, Closing<'a>, Kept>>
+) -> Option<Linked<T, Closing<'a>, MemoryOut>>
     requires { seat.desk ≡ desk.now }
 {
     if links.len() > devices.len() {
@@ -347,7 +347,7 @@ fn all_came<L: Drop>(links: &[Receiving<L>], devices: &[Device]) -> bool {
         dropped: Dropped::none(),
         ended: Ended::Link,
     };
-    let other = Counted {
+    let other = CountSnapshot {
         received: 2,
         strangers: 0,
         too_long: 0,

@@ -2,15 +2,15 @@
 
 ghost use Rattle.std.specs.Prelude.{◌≡◌, ◌≤◌, ◌<◌, true, false, IfOk, IfSome, vec_len};
 ghost use Rattle.std.specs.List.{All};
-ghost use Rattle.click_rings.specs.Feeds.{are_apart};
+ghost use Rattle.click_rings.specs.Feeds.{have_distinct_devices};
 ghost use Rattle.click_router.specs.Polls.{is_poll};
 
 use crate::drivers::{Driver, close_and_settle, count_on, drivers_of, puts};
 use crate::views::last_view_of;
+use click_base::sequence::Sequence;
 use click_desk::{Desk, Seat, View};
 use click_handlers::{Table, TakesTable, with_table};
 use click_router::{Call, Check, Handlers, Reply};
-use click_text::sequence::Sequence;
 use std::alloc::{AllocError, Global};
 use std::sync::Wait;
 use std::test::Fail;
@@ -26,16 +26,12 @@ const NEXT: &[u8] = b"FromDevice(a) -> s :: Switch(0) -> Discard; s [1] -> Disca
 /// How often each of two seats writes and reads.
 const TIMES: usize = 50;
 
-fn bytes(alloc: Global, text: &[u8]) -> Result<Sequence<u8>, AllocError> {
-    Ok(Sequence::of(Vec::from_slice(alloc, text)?))
-}
-
 fn write(alloc: Global, text: &[u8]) -> Result<Call, AllocError>
     ensures { IfOk result (λ call. is_poll call ≡ false) }
 {
     Ok(Call::Write {
-        name: bytes(alloc, b"s.switch")?,
-        text: bytes(alloc, text)?,
+        name: Sequence::copy_of(alloc, b"s.switch")?,
+        text: Sequence::copy_of(alloc, text)?,
     })
 }
 
@@ -43,8 +39,8 @@ fn read(alloc: Global, name: &[u8]) -> Result<Call, AllocError>
     ensures { IfOk result (λ call. is_poll call ≡ false) }
 {
     Ok(Call::Read {
-        name: bytes(alloc, name)?,
-        text: bytes(alloc, b"")?,
+        name: Sequence::copy_of(alloc, name)?,
+        text: Sequence::copy_of(alloc, b"")?,
     })
 }
 
@@ -52,7 +48,7 @@ fn swap(alloc: Global) -> Result<Call, AllocError>
     ensures { IfOk result (λ call. is_poll call ≡ false) }
 {
     Ok(Call::Swap {
-        text: bytes(alloc, NEXT)?,
+        text: Sequence::copy_of(alloc, NEXT)?,
     })
 }
 
@@ -136,7 +132,7 @@ fn polls_and_swaps<T: Handlers, R: Wait>(
     view: &mut View,
 ) -> bool
     requires seat { seat.old.desk ≡ desk.now }
-    requires view { view.old.board ≡ desk.now.terms.origin }
+    requires view { view.old.board ≡ desk.now.options.origin }
     ensures { (seat.new.desk ≡ desk.now) × (seat.new.feeds ≡ seat.old.feeds) }
 {
     let polled = enters(rt, desk, seat, 2);
@@ -158,7 +154,7 @@ fn closes<T: Drop, R: Wait>(
 ) -> Option<bool>
     requires one { (one.desk ≡ desk) × (one.feeds ≡ drivers.items) }
     requires other { (other.desk ≡ desk) × (other.feeds ≡ drivers.items) }
-    requires apart { are_apart drivers.items ≡ true }
+    requires apart { have_distinct_devices drivers.items ≡ true }
 {
     let none = one.calls().is_empty() & other.calls().is_empty();
     let mut seats = Vec::with_capacity(alloc, 2).ok()?;
@@ -183,8 +179,8 @@ fn serves_at<T: Handlers + Drop, R: Wait>(
 ) -> Option<bool>
     requires desk { All (λ s. s.desk ≡ desk) seats.items }
     requires fed { All (λ s. s.feeds ≡ drivers.items) seats.items }
-    requires views { All (λ v. v.board ≡ desk.terms.origin) views.items }
-    requires apart { are_apart drivers.items ≡ true }
+    requires views { All (λ v. v.board ≡ desk.options.origin) views.items }
+    requires apart { have_distinct_devices drivers.items ≡ true }
 {
     let mut other = seats.pop()?;
     let mut one = seats.pop()?;

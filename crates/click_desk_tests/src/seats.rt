@@ -5,10 +5,10 @@ ghost use Rattle.std.specs.List.{All};
 ghost use Rattle.std.specs.Thread.{IsSync};
 ghost use Rattle.click_router.specs.Polls.{is_poll};
 
+use click_base::sequence::Sequence;
 use click_desk::{Book, CloseFault, Desk, DeskFault, Entry, Seat};
 use click_handlers::{Table, TakesTable, with_table};
-use click_router::{Call, Handlers, Kept, Reply};
-use click_text::sequence::Sequence;
+use click_router::{Call, CompactReply, Handlers, Reply};
 use std::alloc::{AllocError, Global};
 use std::sync::Wait;
 use std::test::Fail;
@@ -35,16 +35,12 @@ enum Case {
     Full,
 }
 
-fn bytes(alloc: Global, text: &[u8]) -> Result<Sequence<u8>, AllocError> {
-    Ok(Sequence::of(Vec::from_slice(alloc, text)?))
-}
-
 fn write(alloc: Global, text: &[u8]) -> Result<Call, AllocError>
     ensures { IfOk result (λ call. is_poll call ≡ false) }
 {
     Ok(Call::Write {
-        name: bytes(alloc, b"s.switch")?,
-        text: bytes(alloc, text)?,
+        name: Sequence::copy_of(alloc, b"s.switch")?,
+        text: Sequence::copy_of(alloc, text)?,
     })
 }
 
@@ -52,8 +48,8 @@ fn read(alloc: Global, name: &[u8]) -> Result<Call, AllocError>
     ensures { IfOk result (λ call. is_poll call ≡ false) }
 {
     Ok(Call::Read {
-        name: bytes(alloc, name)?,
-        text: bytes(alloc, b"")?,
+        name: Sequence::copy_of(alloc, name)?,
+        text: Sequence::copy_of(alloc, b"")?,
     })
 }
 
@@ -270,9 +266,9 @@ fn has_turns(entries: &[Entry], seat: usize) -> bool {
 fn are_of_one_thread(entries: &[Entry]) -> bool {
     let mut switch: &[u8] = b"0";
     for entry in entries {
-        match (&entry.call, entry.reply.kept()) {
-            (Call::Write { text, .. }, Kept::Done) => switch = text.as_slice(),
-            (Call::Read { .. }, Kept::Value(value)) if value.as_slice() == switch => {}
+        match (&entry.call, entry.reply.compact()) {
+            (Call::Write { text, .. }, CompactReply::Done) => switch = text.as_slice(),
+            (Call::Read { .. }, CompactReply::Value(value)) if value.as_slice() == switch => {}
             _ => return false,
         }
     }

@@ -5,10 +5,10 @@ ghost use Rattle.std.specs.List.{All};
 ghost use Rattle.click_router.specs.Polls.{is_poll};
 
 use crate::seats::last_of;
+use click_base::sequence::Sequence;
 use click_desk::{Desk, OpenFault, Seat, View};
 use click_handlers::{Table, TakesTable, with_table};
 use click_router::{Call, Check, Handlers, Reply};
-use click_text::sequence::Sequence;
 use std::alloc::{AllocError, Global};
 use std::sync::Wait;
 use std::test::Fail;
@@ -57,15 +57,11 @@ const SWAPPED: Wanted = Wanted {
     names: &[b"Idle@1", b"Discard@2"],
 };
 
-fn bytes(alloc: Global, text: &[u8]) -> Result<Sequence<u8>, AllocError> {
-    Ok(Sequence::of(Vec::from_slice(alloc, text)?))
-}
-
 fn swap(alloc: Global, text: &[u8]) -> Result<Call, AllocError>
     ensures { IfOk result (λ call. is_poll call ≡ false) }
 {
     Ok(Call::Swap {
-        text: bytes(alloc, text)?,
+        text: Sequence::copy_of(alloc, text)?,
     })
 }
 
@@ -143,9 +139,9 @@ fn shows<T: Handlers, R: Wait>(
     view: &mut View,
 ) -> bool
     requires desk { seat.old.desk ≡ desk.now }
-    requires board { view.old.board ≡ desk.now.terms.origin }
+    requires board { view.old.board ≡ desk.now.options.origin }
     ensures desk { seat.new.desk ≡ desk.now }
-    ensures board { view.new.board ≡ desk.now.terms.origin }
+    ensures board { view.new.board ≡ desk.now.options.origin }
 {
     view.learn(seat.notice());
     let before = seat.notice().again();
@@ -167,8 +163,8 @@ pub(crate) fn last_view_of<T: Drop, B: Wait + Drop>(
     desk: &Desk<T, B>,
     mut views: Vec<View>,
 ) -> Option<(View, Vec<View>)>
-    requires { All (λ v. v.board ≡ desk.now.terms.origin) views.items }
-    ensures { IfSome result (λ r. (r.0.board ≡ desk.now.terms.origin) × All (λ v. v.board ≡ desk.now.terms.origin) r.1.items) }
+    requires { All (λ v. v.board ≡ desk.now.options.origin) views.items }
+    ensures { IfSome result (λ r. (r.0.board ≡ desk.now.options.origin) × All (λ v. v.board ≡ desk.now.options.origin) r.1.items) }
 {
     let view = views.pop()?;
     Some((view, views))
@@ -183,7 +179,7 @@ pub(crate) fn meets<T: Drop, R: Wait>(
     view: &View,
 ) -> Option<usize>
     requires seats { (seat.desk ≡ desk) × All (λ s. s.desk ≡ desk) others.items }
-    requires board { view.now.board ≡ desk.terms.origin }
+    requires board { view.now.board ≡ desk.options.origin }
 {
     others.push(seat).ok()?;
     match desk.close(rt, others) {
@@ -204,7 +200,7 @@ fn one_of<T: Handlers + Drop, R: Wait>(
     views: Vec<View>,
 ) -> Option<bool>
     requires seats { All (λ s. s.desk ≡ desk) seats.items }
-    requires views { All (λ v. v.board ≡ desk.terms.origin) views.items }
+    requires views { All (λ v. v.board ≡ desk.options.origin) views.items }
 {
     let (mut seat, seats) = last_of(&desk, seats)?;
     let (mut view, others) = last_view_of(&desk, views)?;

@@ -86,9 +86,9 @@ fn swap_one<T: Handlers, R: Wait>(
     number: usize,
 ) -> bool
     requires desk { seat.old.desk ≡ desk.now }
-    requires board { view.old.board ≡ desk.now.terms.origin }
+    requires board { view.old.board ≡ desk.now.options.origin }
     ensures desk { seat.new.desk ≡ desk.now }
-    ensures board { view.new.board ≡ desk.now.terms.origin }
+    ensures board { view.new.board ≡ desk.now.options.origin }
 {
     let done = match text_of(alloc, number) {
         Ok(text) => swaps(rt, alloc, desk, seat, text.as_bytes(), true),
@@ -107,8 +107,8 @@ fn swap_all<T: Handlers, R: Wait>(
     mut view: View,
     done: &AtomicBool,
 ) -> (Seat<T>, View, bool)
-    requires { (seat.desk ≡ desk.now) × (view.board ≡ desk.now.terms.origin) }
-    ensures { (result.0.desk ≡ desk.now) × (result.1.board ≡ desk.now.terms.origin) }
+    requires { (seat.desk ≡ desk.now) × (view.board ≡ desk.now.options.origin) }
+    ensures { (result.0.desk ≡ desk.now) × (result.1.board ≡ desk.now.options.origin) }
 {
     let mut good = true;
     for number in 1..=SWAPS {
@@ -127,16 +127,16 @@ fn beside<T: Handlers + Send + Drop, R: Threads + Wait + Sync>(
     told: View,
     looks: View,
 ) -> ((Seat<T>, View, bool), (View, bool))
-    requires { (seat.desk ≡ desk.now) × (told.board ≡ desk.now.terms.origin) × (looks.board ≡ desk.now.terms.origin) }
-    ensures { (result.0.0.desk ≡ desk.now) × (result.0.1.board ≡ desk.now.terms.origin) × (result.1.0.board ≡ desk.now.terms.origin) }
+    requires { (seat.desk ≡ desk.now) × (told.board ≡ desk.now.options.origin) × (looks.board ≡ desk.now.options.origin) }
+    ensures { (result.0.0.desk ≡ desk.now) × (result.0.1.board ≡ desk.now.options.origin) × (result.1.0.board ≡ desk.now.options.origin) }
 {
     let all = AtomicBool::new(false);
     let done = &all;
     thread::join(
         rt,
         move || -> (Seat<T>, View, bool)
-            requires { IsSync R.row × (seat.desk ≡ desk.now) × (told.board ≡ desk.now.terms.origin) }
-            ensures { (result.0.desk ≡ desk.entry.now) × (result.1.board ≡ desk.entry.now.terms.origin) }
+            requires { IsSync R.row × (seat.desk ≡ desk.now) × (told.board ≡ desk.now.options.origin) }
+            ensures { (result.0.desk ≡ desk.entry.now) × (result.1.board ≡ desk.entry.now.options.origin) }
         { swap_all(rt, alloc, desk, seat, told, done) },
         move || -> (View, bool)
             requires { IsSync R.row }
@@ -154,7 +154,7 @@ fn two_of<T: Handlers + Send + Drop, R: Threads + Wait + Sync>(
     views: Vec<View>,
 ) -> Option<bool>
     requires seats { All (λ s. s.desk ≡ desk) seats.items }
-    requires views { All (λ v. v.board ≡ desk.terms.origin) views.items }
+    requires views { All (λ v. v.board ≡ desk.options.origin) views.items }
 {
     let (seat, seats) = last_of(&desk, seats)?;
     let (told, views) = last_view_of(&desk, views)?;

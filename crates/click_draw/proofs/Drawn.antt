@@ -7,7 +7,7 @@ use Rattle.click_classes.specs.declared.ports.Side.TheVariants.{Input, Output}
 use Rattle.click_expand.specs.declared.flat.Connection.{Connection}
 use Rattle.click_ports.specs.Ports.{used}
 use Rattle.click_ports.specs.Net.{Net, IsLawfulNet}
-use Rattle.click_ports.proofs.Using.{has-end}
+use Rattle.click_ports.proofs.PortUses.{has-end}
 use Rattle.click_draw.specs.Measures.{element_width, port_offset}
 use Rattle.click_draw.specs.Picture.{EachAt, AreMarks, IsFigure, AreApart, IsInside, Overlap}
 use Rattle.click_draw.specs.kept.Boxed.{IsBoxed}

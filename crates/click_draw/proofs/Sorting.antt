@@ -13,7 +13,7 @@ slots-sorted count xs ys e h p f = record {
   all = f;
   within = All-permutation (λ (s : Slot). s.node < count) xs ys p (λ k d l. let n = h k d l in omega (arith, n, l, e));
   each = λ n l.
-      let d : Slot = record { row = 0; wish = 0; node = 0 } in
+      let d : Slot = record { row = 0; preferred = 0; node = 0 } in
       let m : n < length xs = omega (arith, l, e) in
       let x : Slot = get_or xs n d in
       let w = Contains-permutation xs ys x p (n, m, get_or_default xs n x d m) in

@@ -1,7 +1,7 @@
 -- How large a box is, and where its ports are.
 use Rattle.std.specs.Prelude.{ℕ, ◌+◌, ◌-◌, ◌*◌, ◌/◌, min, max, List, [], length, slice_index_or}
-use Rattle.click_classes.specs.declared.class.Class.{Class}
-use Rattle.click_classes.specs.Classes.{name}
+use Rattle.click_base.specs.declared.class.Class.{Class}
+use Rattle.click_base.specs.Classes.{name}
 use Rattle.click_classes.specs.declared.ports.Side.TheVariants.{Input, Output}
 use Rattle.click_ports.specs.Ports.{used}
 use Rattle.click_ports.specs.Links.{class_at}

@@ -1,8 +1,8 @@
 -- A drawing as an SVG text.
 use Rattle.std.specs.Prelude.{ℕ, ◌-◌, ◌/◌, ◌==◌, List, [], ◌∷◌, ◌++◌, flat_map, Bool, true, false, codes, decimal, if◌then◌else◌}
-use Rattle.click_classes.specs.declared.class.Class.{Class}
-use Rattle.click_classes.specs.declared.class.Class.TheVariants as class
-use Rattle.click_classes.specs.Classes.{name}
+use Rattle.click_base.specs.declared.class.Class.{Class}
+use Rattle.click_base.specs.declared.class.Class.TheVariants as class
+use Rattle.click_base.specs.Classes.{name}
 use Rattle.click_draw.specs.declared.drawing.Point.{Point}
 use Rattle.click_draw.specs.declared.drawing.Rectangle.{Rectangle}
 use Rattle.click_draw.specs.declared.drawing.Mark.{Mark}

@@ -2,7 +2,7 @@
 
 use crate::measures::BESIDE;
 use crate::order::{Mean, add_to, mean_of};
-use crate::ways::Node;
+use crate::routes::Node;
 use std::alloc::{AllocError, Global};
 
 /// What a compound keeps free at its sides.
@@ -21,8 +21,8 @@ impl Node {
     /// The name of the node's block: its first node.
     pub fn name(&self, level: Level) -> usize {
         match level {
-            Level::Inner if self.home.inner < usize::MAX => self.home.inner,
-            Level::Outer if self.home.outer < usize::MAX => self.home.outer,
+            Level::Inner if self.compound_path.inner < usize::MAX => self.compound_path.inner,
+            Level::Outer if self.compound_path.outer < usize::MAX => self.compound_path.outer,
             Level::All => 0,
             _ => self.chain,
         }
@@ -107,7 +107,7 @@ fn means_of(
 }
 
 /// Sets the nodes of each block to one another as they were, in the mean of where they stand.
-pub fn fit(
+pub fn align_blocks(
     alloc: Global,
     nodes: &[Node],
     old: &[u64],
@@ -195,7 +195,7 @@ fn push_left(block: &mut Block, taken: &mut [Taken]) {
 }
 
 /// Moves the blocks within each greater one so that no two have a place of a row in common; two that hinder one another give way alike.
-pub fn part(
+pub fn separate_blocks(
     alloc: Global,
     nodes: &[Node],
     rows: usize,

@@ -5,24 +5,24 @@ use std::alloc::{AllocError, Global};
 
 /// The compound that an element is in, and the one within that, each by the first element in it; the greatest number where there is none.
 #[derive(Clone, Copy, Debug, PartialEq, Eq)]
-pub struct Home {
+pub struct CompoundPath {
     pub outer: usize,
     pub inner: usize,
 }
 
-impl Home {
+impl CompoundPath {
     /// In no compound.
-    pub fn none() -> Home {
-        Home {
+    pub fn none() -> CompoundPath {
+        CompoundPath {
             outer: usize::MAX,
             inner: usize::MAX,
         }
     }
 
-    /// What two homes have in common.
-    pub fn shared(self, other: Home) -> Home {
+    /// What two compound paths have in common.
+    pub fn shared(self, other: CompoundPath) -> CompoundPath {
         let same = |a: usize, b: usize| if a == b { a } else { usize::MAX };
-        Home {
+        CompoundPath {
             outer: same(self.outer, other.outer),
             inner: same(self.inner, other.inner),
         }
@@ -54,26 +54,26 @@ fn depths(name: &[u8]) -> (usize, usize) {
     (first, second)
 }
 
-/// The homes of the elements. Those of one compound follow one another.
-pub fn homes_of(alloc: Global, net: &Net) -> Result<Vec<Home>, AllocError> {
-    let mut homes = Vec::new(alloc);
-    let mut last = Home::none();
+/// The compound paths of the elements. Those of one compound follow one another.
+pub fn compound_paths_of(alloc: Global, net: &Net) -> Result<Vec<CompoundPath>, AllocError> {
+    let mut compound_paths = Vec::new(alloc);
+    let mut last = CompoundPath::none();
     let mut before: &[u8] = b"";
     for element in 0..net.shapes().len() {
         let name = net.name(element);
         let (outer, inner) = depths(name);
         let shared = shared_len(before, name);
-        let home = |len: usize, old: usize| match len {
+        let compound_path = |len: usize, old: usize| match len {
             0 => usize::MAX,
             _ if shared >= len => old,
             _ => element,
         };
-        last = Home {
-            outer: home(outer, last.outer),
-            inner: home(inner, last.inner),
+        last = CompoundPath {
+            outer: compound_path(outer, last.outer),
+            inner: compound_path(inner, last.inner),
         };
-        homes.push(last)?;
+        compound_paths.push(last)?;
         before = name;
     }
-    Ok(homes)
+    Ok(compound_paths)
 }

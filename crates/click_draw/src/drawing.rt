@@ -1,7 +1,7 @@
 //! What is drawn of a net: figures of the elements, lines of the connections, and frames of the compounds.
 
-use click_classes::Class;
-use click_text::sequence::Sequence;
+use click_base::Class;
+use click_base::sequence::Sequence;
 
 /// A place in the picture, in its units from the left and from the top.
 #[derive(Clone, Copy, Debug, PartialEq, Eq)]

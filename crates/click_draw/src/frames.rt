@@ -6,7 +6,7 @@ ghost use Rattle.click_draw.specs.Picture.{IsInside};
 use crate::compounds::shared_len;
 use crate::drawing::{Figure, Frame, Rectangle};
 use crate::lines::Size;
-use click_text::sequence::Sequence;
+use click_base::sequence::Sequence;
 use std::alloc::{AllocError, Global};
 
 /// How far a frame is from what it is around.
@@ -99,7 +99,7 @@ fn frame_of(alloc: Global, open: &Open, name: &[u8], size: Size) -> Result<Frame
 {
     let name = name.get(..open.len).unwrap_or(name);
     Ok(Frame {
-        name: Sequence::of(Vec::from_slice(alloc, name)?),
+        name: Sequence::copy_of(alloc, name)?,
         around: open.around.widened().rectangle(size),
     })
 }

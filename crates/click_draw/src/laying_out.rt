@@ -6,18 +6,18 @@ ghost use Rattle.click_draw.specs.Picture.{AreApart, EachAt, IsFigure, IsInside,
 ghost use Rattle.click_draw.specs.kept.Boxed.{IsBoxed};
 ghost use Rattle.click_draw.specs.kept.Placing.{AreSlots};
 
-use crate::compounds::homes_of;
+use crate::compounds::compound_paths_of;
 use crate::drawing::{Drawing, Figure, Rectangle};
 use crate::frames::frames_of;
 use crate::lines::{Size, lines_of};
 use crate::looks::{element_width, look_of};
 use crate::order::ordered_rows;
 use crate::placing::{Slot, place};
+use crate::preferred_places::preferred_places_in;
+use crate::routes::{BEND, MOST_BENDS, Route, layout_graph_of};
 use crate::rows::rows_of;
-use crate::ways::{BEND, MOST_BENDS, Way, ways_of};
-use crate::wishes::wishes_in;
+use click_base::sequence::Sequence;
 use click_ports::Net;
-use click_text::sequence::Sequence;
 use std::alloc::{AllocError, Global};
 
 /// How wide the boxes of the elements are.
@@ -35,7 +35,7 @@ fn widths_of(alloc: Global, net: &Net) -> Result<Vec<u64>, AllocError>
 
 /// Where a node would stand: its row, and how far from the left.
 #[derive(Clone, Copy, Debug, PartialEq, Eq)]
-struct Wish {
+struct PreferredPlace {
     row: usize,
     left: u64,
 }
@@ -43,27 +43,36 @@ struct Wish {
 /// Where the nodes would stand, the elements first, and which of them are the bends of each connection.
 #[derive(Drop)]
 struct Plan {
-    wishes: Vec<Wish>,
-    ways: Vec<Way>,
+    preferred_places: Vec<PreferredPlace>,
+    routes: Vec<Route>,
 }
 
 /// A plan for the net, with boxes of those widths. It is for the eye: whatever it is, what is drawn by it is a drawing of the net.
 fn plan_of(alloc: Global, net: &Net, widths: &[u64]) -> Result<Plan, AllocError> {
     let rows = rows_of(alloc, widths.len(), net.connections())?;
-    let homes = homes_of(alloc, net)?;
-    let ways = ways_of(alloc, net, widths, rows.as_slice(), homes.as_slice())?;
-    let nodes = ways.nodes.as_slice();
-    let lefts = wishes_in(alloc, nodes, ordered_rows(alloc, nodes)?.as_slice())?;
-    let mut wishes = Vec::new(alloc);
+    let compound_paths = compound_paths_of(alloc, net)?;
+    let routes = layout_graph_of(
+        alloc,
+        net,
+        widths,
+        rows.as_slice(),
+        compound_paths.as_slice(),
+    )?;
+    let nodes = routes.nodes.as_slice();
+    let lefts = preferred_places_in(alloc, nodes, ordered_rows(alloc, nodes)?.as_slice())?;
+    let mut preferred_places = Vec::new(alloc);
     for (node, left) in nodes.iter().zip(lefts.iter()) {
-        wishes.push(Wish {
+        preferred_places.push(PreferredPlace {
             row: node.row,
             left: *left,
         })?;
     }
     let mut kept = Vec::new(alloc);
-    kept.extend_from_slice(ways.ways.as_slice())?;
-    Ok(Plan { wishes, ways: kept })
+    kept.extend_from_slice(routes.routes.as_slice())?;
+    Ok(Plan {
+        preferred_places,
+        routes: kept,
+    })
 }
 
 /// Adds the widths of so many bends.
@@ -88,16 +97,20 @@ fn bend_count(nodes: usize, elements: usize) -> usize
 }
 
 /// The nodes in the order in which they are placed.
-fn slots_of(alloc: Global, count: usize, wishes: &[Wish]) -> Result<Vec<Slot>, AllocError>
+fn slots_of(
+    alloc: Global,
+    count: usize,
+    preferred_places: &[PreferredPlace],
+) -> Result<Vec<Slot>, AllocError>
     ensures { IfOk result (λ slots. AreSlots count slots.items) }
 {
-    let none = Wish { row: 0, left: 0 };
+    let none = PreferredPlace { row: 0, left: 0 };
     let mut slots = Vec::new(alloc);
     for node in 0..count {
-        let wish = wishes.get(node).copied().unwrap_or(none);
+        let preferred = preferred_places.get(node).copied().unwrap_or(none);
         slots.push(Slot {
-            row: wish.row,
-            wish: wish.left,
+            row: preferred.row,
+            preferred: preferred.left,
             node,
         })?;
     }
@@ -152,10 +165,13 @@ pub fn layout(alloc: Global, net: &Net) -> Result<Drawing, AllocError>
     ensures frames_inside { IfOk result (λ d. All (λ f. IsInside d.width d.height f.around) d.frames) }
 {
     let mut widths = widths_of(alloc, net)?;
-    let Plan { wishes, ways } = plan_of(alloc, net, widths.as_slice())?;
-    let bends = bend_count(wishes.len(), widths.len());
+    let Plan {
+        preferred_places,
+        routes,
+    } = plan_of(alloc, net, widths.as_slice())?;
+    let bends = bend_count(preferred_places.len(), widths.len());
     with_bends(&mut widths, bends)?;
-    let slots = slots_of(alloc, widths.len(), wishes.as_slice())?;
+    let slots = slots_of(alloc, widths.len(), preferred_places.as_slice())?;
     let placed = place(alloc, widths.as_slice(), slots.as_slice())?;
     let boxes = placed.boxes.as_slice();
     let size = Size {
@@ -166,7 +182,7 @@ pub fn layout(alloc: Global, net: &Net) -> Result<Drawing, AllocError>
     let lines = lines_of(
         alloc,
         net.connections(),
-        ways.as_slice(),
+        routes.as_slice(),
         figures.as_slice(),
         boxes,
         size,

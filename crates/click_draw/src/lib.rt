@@ -12,10 +12,10 @@ mod loose;
 mod measures;
 mod order;
 mod placing;
+mod preferred_places;
+mod routes;
 mod rows;
 mod svg_writing;
-mod ways;
-mod wishes;
 
 pub use drawing::{Drawing, Figure, Frame, Line, Look, Mark, Point, Rectangle};
 pub use laying_out::layout;

@@ -5,9 +5,9 @@ ghost use Rattle.click_draw.specs.Picture.{EachAt, IsInside, IsLine, IsLineInsid
 ghost use Rattle.click_draw.specs.kept.Joined.{AreJoined, IsFigureInside};
 
 use crate::drawing::{Figure, Line, Mark, Point, Rectangle};
-use crate::ways::Way;
+use crate::routes::Route;
+use click_base::sequence::Sequence;
 use click_expand::Connection;
-use click_text::sequence::Sequence;
 use std::alloc::{AllocError, Global};
 
 /// How far beyond its row a line that goes up is led.
@@ -88,12 +88,12 @@ fn points_of(
 }
 
 /// The boxes of a way's bends.
-fn bends_of<'a>(way: &Way, boxes: &'a [Rectangle], size: Size) -> &'a [Rectangle]
+fn bends_of<'a>(route: &Route, boxes: &'a [Rectangle], size: Size) -> &'a [Rectangle]
     requires { All (IsInside size.width size.height) boxes.now }
     ensures { All (IsInside size.width size.height) result.now }
 {
-    let rest = boxes.get(way.first..).unwrap_or(&[]);
-    rest.get(..way.bends).unwrap_or(&[])
+    let rest = boxes.get(route.first..).unwrap_or(&[]);
+    rest.get(..route.bends).unwrap_or(&[])
 }
 
 /// The line of a connection between two of the figures.
@@ -128,7 +128,7 @@ fn line_of(
 pub fn lines_of(
     alloc: Global,
     connections: &[Connection],
-    ways: &[Way],
+    routes: &[Route],
     figures: &[Figure],
     boxes: &[Rectangle],
     size: Size,
@@ -142,14 +142,14 @@ pub fn lines_of(
     ensures inside { IfOk result (All (IsLineInside size.width size.height)) }
 {
     let mut lines = Sequence::new(alloc);
-    let none = Way {
+    let none = Route {
         first: 0,
         bends: 0,
         rises: false,
     };
     for (number, connection) in connections.iter().enumerate() {
-        let way = ways.get(number).copied().unwrap_or(none);
-        let bends = points_of(alloc, bends_of(&way, boxes, size), way.rises, size)?;
+        let route = routes.get(number).copied().unwrap_or(none);
+        let bends = points_of(alloc, bends_of(&route, boxes, size), route.rises, size)?;
         lines.push(line_of(number, connection, figures, bends, size))?;
     }
     Ok(lines)

@@ -7,9 +7,9 @@ ghost use Rattle.click_draw.specs.Picture.{AreMarks, EachAt, IsLook, IsMark, por
 
 use crate::drawing::{Look, Mark};
 use crate::measures::{box_width, port_offset};
+use click_base::sequence::Sequence;
 use click_classes::{Code, Side, code};
 use click_ports::Net;
-use click_text::sequence::Sequence;
 use std::alloc::{AllocError, Global};
 
 /// How wide the element's box is.
@@ -66,7 +66,7 @@ pub fn look_of(alloc: Global, net: &Net, element: usize) -> Result<Look, AllocEr
     let name = net.name(element);
     Ok(Look {
         number: element,
-        name: Sequence::of(Vec::from_slice(alloc, name)?),
+        name: Sequence::copy_of(alloc, name)?,
         class,
         inputs: marks_of(alloc, net, element, Side::Input)?,
         outputs: marks_of(alloc, net, element, Side::Output)?,

@@ -2,8 +2,8 @@
 
 use crate::blocks::{Block, Level, blocks_of};
 use crate::measures::BESIDE;
-use crate::ways::Node;
-use crate::wishes::{State, wish};
+use crate::preferred_places::{State, preferred};
+use crate::routes::Node;
 use std::alloc::{AllocError, Global};
 
 /// How often the rows are gone through from the top down and from the bottom up.
@@ -20,7 +20,7 @@ struct Stretch {
 /// The node of the block, if it is one by itself; else the greatest number, which is no node's.
 fn loose_node(nodes: &[Node], name: usize, block: &Block) -> usize {
     match nodes.get(name) {
-        Some(node) if block.first == block.last && node.home.outer == usize::MAX => name,
+        Some(node) if block.first == block.last && node.compound_path.outer == usize::MAX => name,
         _ => usize::MAX,
     }
 }
@@ -67,9 +67,9 @@ fn moved(stretch: Stretch, state: &State, downward: bool, from: u64, to: u64) ->
     let Some(node) = state.nodes.get(stretch.node) else {
         return stretch;
     };
-    let ties = if downward { &node.above } else { &node.below };
+    let links = if downward { &node.above } else { &node.below };
     let width = stretch.right.saturating_sub(stretch.left);
-    let left = wish(node, ties.as_slice(), stretch.left, state)
+    let left = preferred(node, links.as_slice(), stretch.left, state)
         .min(to.saturating_sub(width))
         .max(from);
     Stretch {

@@ -3,7 +3,7 @@
 ghost use Rattle.std.specs.Prelude.{◌≡◌, ◌≤◌, length};
 ghost use Rattle.click_draw.specs.Measures as spec;
 
-use click_classes::Class;
+use click_base::Class;
 
 /// How high each box is.
 pub const BOX_HEIGHT: u64 = 46;

@@ -1,6 +1,6 @@
 //! Who stands beside whom in the rows: those that are joined come one below the other, and those of one compound side by side.
 
-use crate::ways::{Node, Tie};
+use crate::routes::{Link, Node};
 use std::alloc::{AllocError, Global};
 
 /// How often the rows are ordered from the top down and from the bottom up.
@@ -12,11 +12,11 @@ const ROW_LEN: u64 = 0x1_0000_0000;
 /// A node with what it is ordered by.
 #[derive(Clone, Copy, Debug, PartialEq, Eq, PartialOrd, Ord)]
 struct Turn {
-    outer_wish: u64,
+    outer_preferred: u64,
     outer: usize,
     inner_wish: u64,
     inner: usize,
-    wish: u64,
+    preferred: u64,
     node: usize,
 }
 
@@ -65,11 +65,11 @@ pub fn rows_with(alloc: Global, nodes: &[Node]) -> Result<Vec<Vec<usize>>, Alloc
 }
 
 /// Where a node would stand: at the mean of its neighbours, else where it stands.
-fn wish(ties: &[Tie], own: u64, places: &[u64]) -> u64 {
+fn preferred(links: &[Link], own: u64, places: &[u64]) -> u64 {
     let mut mean = Mean::none();
-    for tie in ties {
-        let place = places.get(tie.node).copied().unwrap_or(0);
-        mean = mean.with(place.saturating_add(tie.there));
+    for link in links {
+        let place = places.get(link.node).copied().unwrap_or(0);
+        mean = mean.with(place.saturating_add(link.there));
     }
     mean.value().unwrap_or(own)
 }
@@ -97,15 +97,15 @@ fn turns_of(
     let mut turns = Vec::new(alloc);
     for number in row {
         if let Some(node) = nodes.get(*number) {
-            let ties = if downward { &node.above } else { &node.below };
+            let links = if downward { &node.above } else { &node.below };
             let own = places.get(*number).copied().unwrap_or(0);
-            let wish = wish(ties.as_slice(), own, places);
+            let preferred = preferred(links.as_slice(), own, places);
             turns.push(Turn {
-                outer_wish: wish,
-                outer: node.home.outer.min(node.chain),
-                inner_wish: wish,
-                inner: node.home.inner.min(node.chain),
-                wish,
+                outer_preferred: preferred,
+                outer: node.compound_path.outer.min(node.chain),
+                inner_wish: preferred,
+                inner: node.compound_path.inner.min(node.chain),
+                preferred,
                 node: *number,
             })?;
         }
@@ -125,8 +125,8 @@ fn means_of(alloc: Global, nodes: &[Node], places: &[u64]) -> Result<Means, Allo
     let mut outer = vec![in alloc; Mean::none(); nodes.len()]?;
     let mut inner = vec![in alloc; Mean::none(); nodes.len()]?;
     for (node, place) in nodes.iter().zip(places) {
-        add_to(outer.as_mut_slice(), node.home.outer, *place);
-        add_to(inner.as_mut_slice(), node.home.inner, *place);
+        add_to(outer.as_mut_slice(), node.compound_path.outer, *place);
+        add_to(inner.as_mut_slice(), node.compound_path.inner, *place);
     }
     Ok(Means { outer, inner })
 }
@@ -134,8 +134,10 @@ fn means_of(alloc: Global, nodes: &[Node], places: &[u64]) -> Result<Means, Allo
 /// Gives those of a compound one wish, so that they stay side by side.
 fn agree(turns: &mut [Turn], means: &Means) {
     for turn in turns.iter_mut() {
-        turn.outer_wish = mean_of(means.outer.as_slice(), turn.outer).unwrap_or(turn.wish);
-        turn.inner_wish = mean_of(means.inner.as_slice(), turn.inner).unwrap_or(turn.wish);
+        turn.outer_preferred = mean_of(means.outer.as_slice(), turn.outer).unwrap_or(
+            turn.preferred,
+        );
+        turn.inner_wish = mean_of(means.inner.as_slice(), turn.inner).unwrap_or(turn.preferred);
     }
 }
 

@@ -21,7 +21,7 @@ const FURTHEST: u64 = 0x1_0000_0000;
 #[derive(Clone, Copy, Debug, PartialEq, Eq, PartialOrd, Ord)]
 pub struct Slot {
     pub row: usize,
-    pub wish: u64,
+    pub preferred: u64,
     pub node: usize,
 }
 
@@ -53,7 +53,7 @@ impl Pen {
             self.top
         };
         let free = if new_row { BESIDE } else { self.free };
-        let left = free.max(BESIDE + slot.wish.min(FURTHEST));
+        let left = free.max(BESIDE + slot.preferred.min(FURTHEST));
         let right = left + width;
         let frame = Rectangle {
             left,

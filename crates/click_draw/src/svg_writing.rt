@@ -5,7 +5,7 @@ ghost use Rattle.click_draw.specs.Svg as spec;
 ghost use Rattle.click_draw.specs.Svg.{svg_of};
 
 use crate::drawing::{Drawing, Figure, Frame, Line, Look, Mark, Point, Rectangle};
-use click_classes::Class;
+use click_base::Class;
 use itoa::Buffer;
 use std::alloc::{AllocError, Global};
 

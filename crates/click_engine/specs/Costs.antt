@@ -4,8 +4,8 @@ use Rattle.click_packet.specs.Packet.{Packet}
 use Rattle.click_classes.specs.Acts.{act}
 use Rattle.click_classes.specs.Settings.{settings}
 use Rattle.click_classes.specs.declared.state.State.{State}
-use Rattle.click_engine.specs.declared.world.Element.{Element}
-use Rattle.click_engine.specs.World.{Wiring, blank}
+use Rattle.click_engine.specs.declared.run_state.Element.{Element}
+use Rattle.click_engine.specs.RunState.{Wiring, blank}
 
 module _ (net : Wiring) (cost : ℕ → ℕ) where
   -- one crossing, and what the element at the other end costs

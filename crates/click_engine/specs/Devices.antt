@@ -3,8 +3,8 @@ use Rattle.std.specs.Prelude.{ℕ, ◌+◌, List, [], ◌∷◌, Option, Some, N
 use Rattle.std.specs.Str.{bytes_eq}
 use Rattle.click_classes.specs.declared.state.State.{State}
 use Rattle.click_classes.specs.declared.state.State.TheVariants as state
-use Rattle.click_engine.specs.declared.devices.Way.{Way}
-use Rattle.click_engine.specs.declared.devices.Way.TheVariants as way
+use Rattle.click_engine.specs.declared.devices.PacketDirection.{PacketDirection}
+use Rattle.click_engine.specs.declared.devices.PacketDirection.TheVariants as direction
 
 -- a device, and the place of its element in flat order
 pub record Device : Type 0 where
@@ -12,11 +12,11 @@ pub record Device : Type 0 where
   pub element : ℕ
 
 -- the device whose packets enter, or leave, at an element
-abbrev pub device_of : Way → State → Option (List ℕ)
-device_of way.In (state.FromDevice device) = Some device
-device_of way.In s = None
-device_of way.Out (state.ToDevice device) = Some device
-device_of way.Out s = None
+abbrev pub device_of : PacketDirection → State → Option (List ℕ)
+device_of direction.In (state.FromDevice device) = Some device
+device_of direction.In s = None
+device_of direction.Out (state.ToDevice device) = Some device
+device_of direction.Out s = None
 
 abbrev pub without : List ℕ → List Device → List Device
 without name [] = []
@@ -27,7 +27,7 @@ first_with None at ds = ds
 first_with (Some name) at ds = record { name = name; element = at } ∷ without name ds
 
 -- the devices of the elements from a place on, each with the first element that names it
-abbrev pub devices_from : Way → ℕ → List State → List Device
+abbrev pub devices_from : PacketDirection → ℕ → List State → List Device
 devices_from w at [] = []
 devices_from w at (s ∷ ss) = first_with (device_of w s) at (devices_from w (at + 1) ss)
 

@@ -2,7 +2,7 @@
 use Rattle.std.specs.Prelude.{◌≡◌, ℕ, ◌+◌, ◌-◌, ◌*◌, ◌<◌, ◌≤◌, List, [], ◌∷◌, length, Bool, true, false, Option, Some, None}
 use Rattle.click_packet.specs.Packet.{Packet}
 use Rattle.click_classes.specs.Acts.{after}
-use Rattle.click_engine.specs.World.{Wiring, World}
+use Rattle.click_engine.specs.RunState.{Wiring, RunState}
 use Rattle.click_engine.specs.Run.{sent, pull, asked, given, Pulled}
 
 pub data Frame : Type 0 where
@@ -14,18 +14,18 @@ pub data Frame : Type 0 where
   Asks : (at inputs count input back : ℕ) → Frame
 
 -- the frames, the top first; what the last pull answered; and how many frames there is room for
-pub record Machine : Type 0 where
+pub record TransferStack : Type 0 where
   pub frames : List Frame
   pub last : Option Packet
   pub room : ℕ
 
--- what a frame makes of what the frames above it left: a world, and what the last pull answered
+-- what a frame makes of what the frames above it left: a run state, and what the last pull answered
 abbrev pub resume : Wiring → Frame → Pulled → Pulled
-resume net (Sends at first count p) r = record { world = sent net r.world.left at p count first r.world; packet = r.packet }
-resume net (Pulls at input) r = pull net r.world.left r.world at input
+resume net (Sends at first count p) r = record { run_state = sent net r.run_state.left at p count first r.run_state; packet = r.packet }
+resume net (Pulls at input) r = pull net r.run_state.left r.run_state at input
 resume net (Asks at inputs count input back) r = elim r.packet [
-  | None ↦ asked net r.world.left at inputs count input r.world
-  | Some p ↦ given net r.world.left at r.world back p
+  | None ↦ asked net r.run_state.left at inputs count input r.run_state
+  | Some p ↦ given net r.run_state.left at r.run_state back p
 ]
 
 -- what all frames make in turn, the top first
@@ -33,8 +33,8 @@ abbrev pub finish : Wiring → List Frame → Pulled → Pulled
 finish net [] r = r
 finish net (f ∷ below) r = finish net below (resume net f r)
 
-abbrev pub complete : Wiring → World → Machine → Pulled
-complete net w m = finish net m.frames (record { world = w; packet = m.last })
+abbrev pub complete : Wiring → RunState → TransferStack → Pulled
+complete net w m = finish net m.frames (record { run_state = w; packet = m.last })
 
 -- a frame with one output or input less to go
 abbrev pub moved_on : Frame → Frame
@@ -50,7 +50,7 @@ AtLast None (Asks at inputs count input back) = count ≤ 0
 AtLast (Some p) (Asks at inputs count input back) = Unit {0}
 
 -- the top frame moves on by one step, or it does and one is begun above it; or at its last step it ends, or another takes its place
-pub data Turned (old new : Machine) : Type 0 where
+pub data Turned (old new : TransferStack) : Type 0 where
   ended : (f : Frame) (below : List Frame) → old.frames ≡ f ∷ below → AtLast old.last f → new.frames ≡ below → Turned old new
   handed_on : (f g : Frame) (below : List Frame) → old.frames ≡ f ∷ below → AtLast old.last f → new.frames ≡ g ∷ below → Turned old new
   moved : (f : Frame) (below : List Frame) → old.frames ≡ f ∷ below → new.frames ≡ moved_on f ∷ below → Turned old new
@@ -72,7 +72,7 @@ sends_first (Sends at first count p ∷ below) = true
 sends_first fs = false
 
 -- one turn
-pub record IsTurn (net : Wiring) (w : World) (old : Machine) (v : World) (new : Machine) : Type 0 where
+pub record IsTurn (net : Wiring) (w : RunState) (old : TransferStack) (v : RunState) (new : TransferStack) : Type 0 where
   pub keeps : complete net v new ≡ complete net w old
   pub step : Turned old new
   pub fewer : v.left ≤ w.left
@@ -82,7 +82,7 @@ pub record IsTurn (net : Wiring) (w : World) (old : Machine) (v : World) (new : 
   pub falls : to_do v.left new.frames < to_do w.left old.frames
 
 -- some turns, or none
-pub record Follows (net : Wiring) (w : World) (old : Machine) (v : World) (new : Machine) : Type 0 where
+pub record Follows (net : Wiring) (w : RunState) (old : TransferStack) (v : RunState) (new : TransferStack) : Type 0 where
   pub keeps : complete net v new ≡ complete net w old
   pub fewer : v.left ≤ w.left
   pub room : new.room ≡ old.room

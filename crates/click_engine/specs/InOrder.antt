@@ -4,16 +4,16 @@ use Rattle.std.specs.List.{All}
 use Rattle.click_classes.specs.Fitting.{FitsPorts}
 use Rattle.click_classes.specs.Queues.{IsSound}
 use Rattle.click_classes.specs.State.{class}
-use Rattle.click_classes.specs.declared.class.Class.TheVariants as kind
+use Rattle.click_base.specs.declared.class.Class.TheVariants as kind
 use Rattle.click_classes.specs.declared.ports.Side.TheVariants as side
 use Rattle.click_ports.specs.Net.{Net, IsLawfulNet}
 use Rattle.click_ports.specs.Ports.{used}
 use Rattle.click_ports.specs.declared.shape.Shape.{Shape}
-use Rattle.click_engine.specs.declared.world.Element.{Element}
-use Rattle.click_engine.specs.declared.world.Port.{Port}
+use Rattle.click_engine.specs.declared.run_state.Element.{Element}
+use Rattle.click_engine.specs.declared.run_state.ConnectionEnd.{ConnectionEnd}
 use Rattle.click_engine.specs.Plant.{Plant}
 use Rattle.click_engine.specs.Rounds.{source_of, sink_of, state_at}
-use Rattle.click_engine.specs.World.{Wiring, blank}
+use Rattle.click_engine.specs.RunState.{Wiring, blank}
 
 -- an element has the class and the ports that the net says of its place
 pub record IsPlaced (net : Net) (at : ℕ) (e : Element) : Type 0 where
@@ -37,5 +37,5 @@ pub record IsInOrder (v : Plant) : Type 0 where
 
 -- another wiring joins what the first one joins, and whatever else
 pub record JoinsToo (first other : Wiring) : Type 0 where
-  pub target : (at output : ℕ) (far : Port) → first.target at output ≡ Some far → other.target at output ≡ Some far
-  pub source : (at input : ℕ) (far : Port) → first.source at input ≡ Some far → other.source at input ≡ Some far
+  pub target : (at output : ℕ) (far : ConnectionEnd) → first.target at output ≡ Some far → other.target at output ≡ Some far
+  pub source : (at input : ℕ) (far : ConnectionEnd) → first.source at input ≡ Some far → other.source at input ≡ Some far

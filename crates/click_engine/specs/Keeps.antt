@@ -4,10 +4,10 @@ use Rattle.std.specs.List.{All}
 use Rattle.click_classes.specs.Fitting.{FitsPorts}
 use Rattle.click_classes.specs.Queues.{IsSound}
 use Rattle.click_classes.specs.Settings.{settings}
-use Rattle.click_engine.specs.declared.world.Element.{Element}
-use Rattle.click_engine.specs.declared.world.Port.{Port}
+use Rattle.click_engine.specs.declared.run_state.Element.{Element}
+use Rattle.click_engine.specs.declared.run_state.ConnectionEnd.{ConnectionEnd}
 use Rattle.click_engine.specs.Plant.{Plant}
-use Rattle.click_engine.specs.World.{Wiring, blank}
+use Rattle.click_engine.specs.RunState.{Wiring, blank}
 
 -- an element without what packets change of its state
 abbrev pub fixed : Element → Element
@@ -36,8 +36,8 @@ Among places at = IsTrue (places at)
 
 -- places that no connection leads out of, whichever way it is followed
 pub record IsClosed (net : Wiring) (P : ℕ → Type 0) : Type 0 where
-  pub target : (at output : ℕ) (far : Port) → P at → net.target at output ≡ Some far → P far.element
-  pub source : (at input : ℕ) (far : Port) → P at → net.source at input ≡ Some far → P far.element
+  pub target : (at output : ℕ) (far : ConnectionEnd) → P at → net.target at output ≡ Some far → P far.element
+  pub source : (at input : ℕ) (far : ConnectionEnd) → P at → net.source at input ≡ Some far → P far.element
 
 -- each element outside those places is as it was
 pub record KeepsOutside (P : ℕ → Type 0) (old new : Plant) : Type 0 where

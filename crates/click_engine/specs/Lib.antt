@@ -8,6 +8,6 @@ pub mod Rounds
 pub mod Run
 pub mod TakeOver
 pub mod Tasks
-pub mod Wires
-pub mod World
+pub mod Adjacency
+pub mod RunState
 pub mod kept

@@ -5,12 +5,12 @@ use Rattle.click_classes.specs.declared.ports.Side.TheVariants as side
 use Rattle.click_classes.specs.declared.state.State.{State}
 use Rattle.click_ports.specs.Net.{Net}
 use Rattle.click_ports.specs.Ports.{used}
-use Rattle.click_engine.specs.declared.world.Element.{Element}
+use Rattle.click_engine.specs.declared.run_state.Element.{Element}
 use Rattle.click_engine.specs.Devices.{Device, devices_from}
 use Rattle.click_engine.specs.Tasks.{AreTasks}
-use Rattle.click_engine.specs.declared.devices.Way.TheVariants as way
-use Rattle.click_engine.specs.Wires.{wiring_of}
-use Rattle.click_engine.specs.World.{Wiring, World}
+use Rattle.click_engine.specs.declared.devices.PacketDirection.TheVariants as direction
+use Rattle.click_engine.specs.Adjacency.{wiring_of}
+use Rattle.click_engine.specs.RunState.{Wiring, RunState}
 
 -- how many pushes and pulls over connections one run may make
 abbrev pub most_crossings : ℕ
@@ -43,17 +43,17 @@ elements_from net at (s ∷ ss) = element_of net at s ∷ elements_from net (at 
 pub record IsStarted (net : Net) (states : List State) (v : Plant) : Type 0 where
   pub net_is : v.net ≡ net
   pub tasks_are : AreTasks net 0 net.shapes v.tasks
-  pub sources_are : v.sources ≡ devices_from way.In 0 states
-  pub sinks_are : v.sinks ≡ devices_from way.Out 0 states
+  pub sources_are : v.sources ≡ devices_from direction.In 0 states
+  pub sinks_are : v.sinks ≡ devices_from direction.Out 0 states
   pub elements_are : v.elements ≡ elements_from net 0 states
   pub none_overrun : v.overruns ≡ 0
 
 abbrev pub wiring : Plant → Wiring
 wiring v = wiring_of v.net
 
--- the world of a run with n crossings, and the plant that a run leaves
-abbrev pub begin : ℕ → Plant → World
+-- the run state of a run with n crossings, and the plant that a run leaves
+abbrev pub begin : ℕ → Plant → RunState
 begin n v = record { elements = v.elements; left = n; overruns = v.overruns }
 
-abbrev pub end : Plant → World → Plant
+abbrev pub end : Plant → RunState → Plant
 end v w = record v { elements = w.elements; overruns = w.overruns }

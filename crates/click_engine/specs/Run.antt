@@ -6,43 +6,43 @@ use Rattle.std.specs.Prelude.{◌≡◌, ℕ, zero, suc, ◌+◌, Bool, Option, 
 use Rattle.click_packet.specs.Packet.{Packet}
 use Rattle.click_classes.specs.Acts.{after}
 use Rattle.click_classes.specs.Acts.{tries, stored}
-use Rattle.click_engine.specs.World.{Wiring, World, element_at, with_state, acted_at, given_at, spent, overrun}
+use Rattle.click_engine.specs.RunState.{Wiring, RunState, element_at, with_state, acted_at, given_at, spent, overrun}
 
 -- what a pull leaves and answers
 pub record Pulled : Type 0 where
-  pub world : World
+  pub run_state : RunState
   pub packet : Option Packet
 
-abbrev pub nothing : World → Pulled
-nothing w = record { world = w; packet = None }
+abbrev pub nothing : RunState → Pulled
+nothing w = record { run_state = w; packet = None }
 
--- `count` outputs from `first` on get the packet in order, each in the world that the one before left
-abbrev pub spread : (World → ℕ → World) → ℕ → ℕ → World → World
+-- `count` outputs from `first` on get the packet in order, each in the run state that the one before left
+abbrev pub spread : (RunState → ℕ → RunState) → ℕ → ℕ → RunState → RunState
 spread push_at zero first w = w
 spread push_at (suc count) first w = spread push_at count (first + 1) (push_at w first)
 
 -- a packet p was pulled through `input` of the element `at`: copies go out first, then it is the answer
-abbrev pub give : (World → ℕ → Packet → World) → World → ℕ → ℕ → Packet → Pulled
+abbrev pub give : (RunState → ℕ → Packet → RunState) → RunState → ℕ → ℕ → Packet → Pulled
 give push_at w at input p =
     let g = given_at w at input p in
     record {
-      world = spread (λ v output. push_at v output g.packet) g.copies.count g.copies.first (with_state w at g.state);
+      run_state = spread (λ v output. push_at v output g.packet) g.copies.count g.copies.first (with_state w at g.state);
       packet = if g.answers then Some g.packet else None;
     }
 
 -- `count` inputs from `input` on, round, are asked in order up to the first packet
-abbrev pub ask : (World → ℕ → Pulled) → (World → ℕ → Packet → Pulled) → ℕ → ℕ → ℕ → World → Pulled
+abbrev pub ask : (RunState → ℕ → Pulled) → (RunState → ℕ → Packet → Pulled) → ℕ → ℕ → ℕ → RunState → Pulled
 ask pull_at give_at inputs zero input w = nothing w
 ask pull_at give_at inputs (suc count) input w =
     let r = pull_at w input in
     elim r.packet [
-      | None ↦ ask pull_at give_at inputs count (after inputs input) r.world
-      | Some p ↦ give_at r.world input p
+      | None ↦ ask pull_at give_at inputs count (after inputs input) r.run_state
+      | Some p ↦ give_at r.run_state input p
     ]
 
 module _ (net : Wiring) where
   -- a packet is pushed over the connection at an output
-  unfoldable pub push : ℕ → World → ℕ → ℕ → Packet → World
+  unfoldable pub push : ℕ → RunState → ℕ → ℕ → Packet → RunState
   push zero w at output p = overrun w
   push (suc depth) w at output p =
       if w.left == 0 then overrun w
@@ -54,7 +54,7 @@ module _ (net : Wiring) where
       ]
 
   -- a packet is pulled over the connection at an input
-  unfoldable pub pull : ℕ → World → ℕ → ℕ → Pulled
+  unfoldable pub pull : ℕ → RunState → ℕ → ℕ → Pulled
   pull zero w at input = nothing (overrun w)
   pull (suc depth) w at input =
       if w.left == 0 then nothing (overrun w)
@@ -64,7 +64,7 @@ module _ (net : Wiring) where
             let e = element_at (spent w) far.element in
             let t = tries e.inputs e.state far.port in
             elim (stored e.state) [
-              | Some s ↦ record { world = with_state (spent w) far.element s.state; packet = Some s.packet }
+              | Some s ↦ record { run_state = with_state (spent w) far.element s.state; packet = Some s.packet }
               | None ↦
                   ask
                   (λ v i. pull depth v far.element i)
@@ -77,16 +77,16 @@ module _ (net : Wiring) where
       ]
 
   -- the parts of a step, by the depth that is left below it
-  abbrev pub sent : ℕ → ℕ → Packet → ℕ → ℕ → World → World
+  abbrev pub sent : ℕ → ℕ → Packet → ℕ → ℕ → RunState → RunState
   sent depth at p count first w = spread (λ v o. push depth v at o p) count first w
 
-  abbrev pub given : ℕ → ℕ → World → ℕ → Packet → Pulled
+  abbrev pub given : ℕ → ℕ → RunState → ℕ → Packet → Pulled
   given depth at w input p = give (λ u o q. push depth u at o q) w at input p
 
-  abbrev pub asked : ℕ → ℕ → ℕ → ℕ → ℕ → World → Pulled
+  abbrev pub asked : ℕ → ℕ → ℕ → ℕ → ℕ → RunState → Pulled
   asked depth at inputs count input w = ask (λ v i. pull depth v at i) (λ v i p. given depth at v i p) inputs count input w
 
 -- a pull left this world, and its yes or no is whether `packet` is the answer
-pub record Answers (r : Pulled) (w : World) (yes : Bool) (packet : Packet) : Type 0 where
-  pub world : w ≡ r.world
+pub record Answers (r : Pulled) (w : RunState) (yes : Bool) (packet : Packet) : Type 0 where
+  pub run_state : w ≡ r.run_state
   pub answer : r.packet ≡ (if yes then Some packet else None)

@@ -2,7 +2,7 @@
 use Rattle.std.specs.Prelude.{ℕ, List, [], ◌∷◌, position, slice_get, Option, Some, None, option_and_then}
 use Rattle.std.specs.Str.{bytes_eq}
 use Rattle.click_classes.specs.TakeOver.{taken_over}
-use Rattle.click_engine.specs.declared.world.Element.{Element}
+use Rattle.click_engine.specs.declared.run_state.Element.{Element}
 use Rattle.click_engine.specs.Plant.{Plant}
 
 -- the place of the element of a flat name, and the element
@@ -13,15 +13,15 @@ abbrev pub named : Plant → List ℕ → Option Element
 named v name = option_and_then (slice_get v.elements) (place_of v name)
 
 -- an element takes over from the one before, by its own number of outputs
-abbrev pub after_it : Element → Option Element → Element
-after_it e None = e
-after_it e (Some before) = record e { state = taken_over e.outputs e.state before.state }
+abbrev pub with_taken_over : Element → Option Element → Element
+with_taken_over e None = e
+with_taken_over e (Some before) = record e { state = taken_over e.outputs e.state before.state }
 
 -- each element takes over from the one that had its name
 abbrev pub each_taken : Plant → List (List ℕ) → List Element → List Element
 each_taken old [] es = es
 each_taken old (name ∷ names) [] = []
-each_taken old (name ∷ names) (e ∷ es) = after_it e (named old name) ∷ each_taken old names es
+each_taken old (name ∷ names) (e ∷ es) = with_taken_over e (named old name) ∷ each_taken old names es
 
 -- the new plant, with what it takes over from the old one; the overruns go on
 abbrev pub taken : Plant → Plant → Plant

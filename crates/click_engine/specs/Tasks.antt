@@ -1,7 +1,7 @@
 -- Which elements have something to do in each round (Click manual, "Tasks").
 use Rattle.std.specs.Prelude.{ℕ, ◌+◌, List, [], ◌∷◌}
-use Rattle.click_classes.specs.declared.class.Class.{Class}
-use Rattle.click_classes.specs.declared.class.Class.TheVariants as class
+use Rattle.click_base.specs.declared.class.Class.{Class}
+use Rattle.click_base.specs.declared.class.Class.TheVariants as class
 use Rattle.click_ports.specs.Kinds.{IsPull}
 use Rattle.click_ports.specs.Net.{Net}
 use Rattle.click_ports.specs.Ports.{Has, input}

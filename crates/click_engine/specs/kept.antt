@@ -1,6 +1,6 @@
 -- What the code keeps on its way; no public contract cites it.
 pub mod Asked
-pub mod Hops
+pub mod Transfers
 pub mod Slots
 pub mod Tables
 pub mod Taking

@@ -1,45 +1,60 @@
 //! Copies of a packet that several outputs are to get.
 ghost use Rattle.std.specs.Prelude.{◌≡◌, ◌+◌, ◌<◌, ◌≤◌, length, vec_len, vec_capacity};
-ghost use Rattle.click_engine.specs.Wires.{world_of, wiring_of};
-ghost use Rattle.click_engine.specs.kept.Hops.{Served};
+ghost use Rattle.click_engine.specs.Adjacency.{run_state_of, wiring_of};
+ghost use Rattle.click_engine.specs.kept.Transfers.{Served};
 ghost use Rattle.click_engine.specs.kept.Slots.{ServedAbove};
 
-use crate::hops::push_copy;
-use crate::machine::Sender;
-use crate::wires::Wires;
-use crate::world::Work;
+use crate::adjacency::Adjacency;
+use crate::run_state::RunMemory;
+use crate::transfer_stack::PushFrame;
+use crate::transfers::push_copy;
 
-/// Pushes copies of the packet of `sender` at its outputs but for the last, in order, up to a copy that several outputs are to get. `copy` is their slot.
+/// Pushes copies of the packet of `push_frame` at its outputs but for the last, in order, up to a copy that several outputs are to get. `copy` is their slot.
 #[inline(always)]
-fn push_copies(wires: &Wires, work: &mut Work, sender: &mut Sender, copy: &mut Sender)
-    ensures { Served (wiring_of wires.now) (world_of work.old) (world_of work.new) sender.old sender.new copy.new }
+fn push_copies(
+    adjacency: &Adjacency,
+    run_memory: &mut RunMemory,
+    push_frame: &mut PushFrame,
+    copy: &mut PushFrame,
+)
+    ensures { Served (wiring_of adjacency.now) (run_state_of run_memory.old) (run_state_of run_memory.new) push_frame.old push_frame.new copy.new }
 {
     copy.count = 0;
-    while copy.count == 0 && sender.count > 1 {
-        copy.packet.copy_from(&sender.packet);
-        let output = sender.first;
-        sender.first += 1;
-        sender.count -= 1;
-        push_copy(wires, work, sender.at, output, copy);
+    while copy.count == 0 && push_frame.count > 1 {
+        copy.packet.copy_from(&push_frame.packet);
+        let output = push_frame.first;
+        push_frame.first += 1;
+        push_frame.count -= 1;
+        push_copy(adjacency, run_memory, push_frame.at, output, copy);
     }
 }
 
 /// The same for the slot `top` and the one above it.
 #[inline(always)]
-fn serve_slots(wires: &Wires, work: &mut Work, slots: &mut [Sender], top: usize)
+fn serve_slots(
+    adjacency: &Adjacency,
+    run_memory: &mut RunMemory,
+    slots: &mut [PushFrame],
+    top: usize,
+)
     requires { top + 1 < length slots.old }
-    ensures { ServedAbove (wiring_of wires.now) (world_of work.old) (world_of work.new) slots.old slots.new top }
+    ensures { ServedAbove (wiring_of adjacency.now) (run_state_of run_memory.old) (run_state_of run_memory.new) slots.old slots.new top }
 {
     let (below, above) = slots.split_at_mut(top + 1);
-    push_copies(wires, work, &mut below[top], &mut above[0]);
+    push_copies(adjacency, run_memory, &mut below[top], &mut above[0]);
 }
 
 /// The same for the frames `top` and above it.
 #[inline(always)]
-pub(crate) fn serve_above(wires: &Wires, work: &mut Work, senders: &mut Vec<Sender>, top: usize)
-    requires { top + 1 < vec_len senders.old }
-    ensures served { ServedAbove (wiring_of wires.now) (world_of work.old) (world_of work.new) senders.old.items senders.new.items top }
-    ensures capacity { vec_capacity senders.old ≤ vec_capacity senders.new }
+pub(crate) fn serve_above(
+    adjacency: &Adjacency,
+    run_memory: &mut RunMemory,
+    push_frames: &mut Vec<PushFrame>,
+    top: usize,
+)
+    requires { top + 1 < vec_len push_frames.old }
+    ensures served { ServedAbove (wiring_of adjacency.now) (run_state_of run_memory.old) (run_state_of run_memory.new) push_frames.old.items push_frames.new.items top }
+    ensures capacity { vec_capacity push_frames.old ≤ vec_capacity push_frames.new }
 {
-    serve_slots(wires, work, senders.as_mut_slice(), top);
+    serve_slots(adjacency, run_memory, push_frames.as_mut_slice(), top);
 }

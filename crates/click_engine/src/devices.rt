@@ -9,7 +9,7 @@ use std::marker::Model;
 
 /// Which way packets pass at a device.
 #[derive(Clone, Copy, Debug, PartialEq, Eq)]
-pub enum Way {
+pub enum PacketDirection {
     /// They enter, at a FromDevice.
     In,
     /// They leave, at a ToDevice.
@@ -36,15 +36,15 @@ impl Model for Devices {
 }
 
 /// The device whose packets pass at the element that way.
-fn device_of(way: Way, state: &State) -> Option<&[u8]>
-    ensures { option_map (λ name. name.now) result ≡ device_of way state.now }
+fn device_of(direction: PacketDirection, state: &State) -> Option<&[u8]>
+    ensures { option_map (λ name. name.now) result ≡ device_of direction state.now }
 {
-    match way {
-        Way::In => match state {
+    match direction {
+        PacketDirection::In => match state {
             State::FromDevice { device } => Some(device.as_slice()),
             _ => None,
         },
-        Way::Out => match state {
+        PacketDirection::Out => match state {
             State::ToDevice { device } => Some(device.as_slice()),
             _ => None,
         },
@@ -56,13 +56,17 @@ impl Devices {
     ghost use Rattle.click_engine.specs.Devices.{devices_from, element_with};
 
     /// The devices of elements with these states, each with the first element in flat order that names it.
-    pub(crate) fn of(alloc: Global, way: Way, states: &[State]) -> Result<Devices, AllocError>
-        ensures { IfOk result (λ ds. ds ≡ devices_from way 0 states.now) }
+    pub(crate) fn of(
+        alloc: Global,
+        direction: PacketDirection,
+        states: &[State],
+    ) -> Result<Devices, AllocError>
+        ensures { IfOk result (λ ds. ds ≡ devices_from direction 0 states.now) }
     {
         let mut names = DeviceNames::new(alloc);
         let mut places = Vec::new(alloc);
         for at in 0..states.len() {
-            let Some(name) = device_of(way, &states[at]) else {
+            let Some(name) = device_of(direction, &states[at]) else {
                 continue;
             };
             if names.has(name) {

@@ -1,22 +1,22 @@
 //! The push and pull engine: packets go from element to element over a reserved stack (TOCS 2000, "Packet transfer").
 #![tactic(auto)]
 
-mod asking;
+mod adjacency;
 mod copies;
 mod device_names;
 mod devices;
 mod element_names;
-mod hops;
+mod input_scan;
 pub mod laws;
-mod machine;
 mod plant;
+mod run_state;
 mod runs;
 mod slots;
 mod tasks;
-mod wires;
-mod world;
+mod transfer_stack;
+mod transfers;
 
-pub use machine::Machine;
+pub use adjacency::Adjacency;
 pub use plant::Plant;
-pub use wires::Wires;
-pub use world::{Element, Port, Work};
+pub use run_state::{ConnectionEnd, Element, RunMemory};
+pub use transfer_stack::TransferStack;

@@ -2,14 +2,15 @@
 ghost use Rattle.std.specs.Prelude.{◌≡◌, ℕ, ◌<◌, ◌≤◌, ◌+◌, IfOk, vec_len, length};
 ghost use Rattle.click_engine.specs.Plant.{elements_from};
 
-use crate::devices::{Devices, Way};
+use crate::adjacency::Adjacency;
+use crate::devices::{Devices, PacketDirection};
 use crate::element_names::ElementNames;
-use crate::machine::Machine;
+use crate::run_state::{Element, RunMemory};
 use crate::runs::{pull_packet, pull_task, push_answer, push_packet};
 use crate::tasks::{Task, tasks_of};
-use crate::wires::Wires;
-use crate::world::{Element, Work};
-use click_classes::{Class, Side, State};
+use crate::transfer_stack::TransferStack;
+use click_base::Class;
+use click_classes::{Side, State};
 use click_packet::Packet;
 use click_ports::Net;
 use std::alloc::{AllocError, Global};
@@ -22,13 +23,13 @@ pub const CROSSINGS: usize = 1_024;
 /// The elements of a net with their connections.
 #[derive(Drop)]
 pub struct Plant {
-    wires: Wires,
+    adjacency: Adjacency,
     names: ElementNames,
     tasks: Vec<Task>,
     sources: Devices,
     sinks: Devices,
-    work: Work,
-    machine: Machine,
+    run_memory: RunMemory,
+    transfer_stack: TransferStack,
 }
 
 impl Model for Plant {
@@ -41,16 +42,16 @@ impl Model for Plant {
     ghost Value = { Seen };
 
     ghost view = { λ p. record {
-      net = p.wires;
+      net = p.adjacency;
       tasks = places_of p.tasks.items;
       sources = p.sources;
       sinks = p.sinks;
-      elements = p.work.elements.items;
-      overruns = p.work.overruns;
+      elements = p.run_memory.elements.items;
+      overruns = p.run_memory.overruns;
     } };
 
-    ghost invariant = { λ p. (p.machine.frames ≡ []) × (p.machine.room ≡ CROSSINGS + 1) × FindsFirst p.names p.wires.names
-        × All (IsTaskIn p.wires.shapes) p.tasks.items };
+    ghost invariant = { λ p. (p.transfer_stack.frames ≡ []) × (p.transfer_stack.room ≡ CROSSINGS + 1) × FindsFirst p.names p.adjacency.names
+        × All (IsTaskIn p.adjacency.shapes) p.tasks.items };
 }
 
 /// Elements of the net with these states.
@@ -76,38 +77,38 @@ impl Plant {
     ghost use Rattle.std.specs.Fn.{FnOnceReturnsAt};
     ghost use Rattle.click_classes.specs.Acts.{burst_of, emission};
     ghost use Rattle.click_engine.specs.Plant.{Plant as Seen, IsStarted};
-    ghost use Rattle.click_engine.specs.Rounds.{arrive, emitted, transmit, transmitted, source_of, sink_of, round, task as ran, bursts, sourced, state_at, unqueued, discarded, Worked};
-    ghost use Rattle.click_engine.specs.declared.world.Element.{Element};
+    ghost use Rattle.click_engine.specs.Rounds.{arrive, emitted, transmit, transmitted, source_of, sink_of, round, task as ran, bursts, sourced, state_at, unqueued, discarded, RoundResult};
+    ghost use Rattle.click_engine.specs.declared.run_state.Element.{Element};
     ghost use Rattle.click_engine.specs.TakeOver.{place_of, taken};
     ghost use Rattle.click_engine.specs.kept.Taking.{taken_at, IsKeptBefore};
     ghost use Rattle.click_engine.specs.kept.Tasks.{IsTaskIn};
-    ghost use Rattle.click_engine.specs.World.{blank};
+    ghost use Rattle.click_engine.specs.RunState.{blank};
 
     /// The plant of a net whose elements begin with these states, one for each, in flat order. It takes all the memory that a run will need.
     pub fn new(alloc: Global, net: Net, states: Vec<State>) -> Result<Plant, AllocError>
         requires { vec_len states ≡ length net.shapes }
         ensures { IfOk result (λ p. IsStarted net states.items p) }
     {
-        let machine = Machine::with_room(alloc, CROSSINGS + 1)?;
+        let transfer_stack = TransferStack::with_room(alloc, CROSSINGS + 1)?;
         let tasks = tasks_of(alloc, &net)?;
-        let sources = Devices::of(alloc, Way::In, states.as_slice())?;
-        let sinks = Devices::of(alloc, Way::Out, states.as_slice())?;
+        let sources = Devices::of(alloc, PacketDirection::In, states.as_slice())?;
+        let sinks = Devices::of(alloc, PacketDirection::Out, states.as_slice())?;
         let elements = elements_of(alloc, &net, states)?;
         let names = ElementNames::of(alloc, &net)?;
-        let wires = Wires::new(alloc, net)?;
-        let work = Work {
+        let adjacency = Adjacency::new(alloc, net)?;
+        let run_memory = RunMemory {
             elements,
             left: 0,
             overruns: 0,
         };
         Ok(Plant {
-            wires,
+            adjacency,
             names,
             tasks,
             sources,
             sinks,
-            work,
-            machine,
+            run_memory,
+            transfer_stack,
         })
     }
 
@@ -115,21 +116,21 @@ impl Plant {
     pub fn net(&self) -> &Net
         ensures { result.now ≡ self.now.net }
     {
-        self.wires.net()
+        self.adjacency.net()
     }
 
     /// The number of overruns.
     pub fn overruns(&self) -> u64
         ensures { result ≡ self.now.overruns }
     {
-        self.work.overruns
+        self.run_memory.overruns
     }
 
     /// How many elements there are.
     pub fn len(&self) -> usize
         ensures { result ≡ length self.now.elements }
     {
-        self.work.elements.len()
+        self.run_memory.elements.len()
     }
 
     /// The place of the element with that flat name.
@@ -144,7 +145,7 @@ impl Plant {
         requires { at < length self.now.elements }
         ensures { result.now ≡ slice_index_or self.now.elements at result.now }
     {
-        &self.work.elements[at]
+        &self.run_memory.elements[at]
     }
 
     /// Whether a FromDevice names the device.
@@ -192,8 +193,14 @@ impl Plant {
     fn enter_at(&mut self, at: usize, packet: &Packet)
         ensures { self.new ≡ emitted self.old at packet.now }
     {
-        self.work.left = CROSSINGS;
-        push_packet(&self.wires, &mut self.work, &mut self.machine, at, packet);
+        self.run_memory.left = CROSSINGS;
+        push_packet(
+            &self.adjacency,
+            &mut self.run_memory,
+            &mut self.transfer_stack,
+            at,
+            packet,
+        );
     }
 
     /// What a device takes.
@@ -202,9 +209,14 @@ impl Plant {
         ensures packet { result ≡ transmitted self.old device.now }
     {
         let at = self.sinks.element(device)?;
-        self.work.left = CROSSINGS;
-        let _answered = pull_packet(&self.wires, &mut self.work, &mut self.machine, at);
-        self.machine.answer()
+        self.run_memory.left = CROSSINGS;
+        let _answered = pull_packet(
+            &self.adjacency,
+            &mut self.run_memory,
+            &mut self.transfer_stack,
+            at,
+        );
+        self.transfer_stack.answer()
     }
 
     /// Hands what a device takes to `f`, where it lies, and tells what `f` answers; None where the device gets none. The packet is not copied.
@@ -214,9 +226,14 @@ impl Plant {
         ensures packet { MatchOption (transmitted self.old device.now) (result ≡ None) (λ p. (r : R) × (result ≡ Some r) × FnOnceReturnsAt F.FnOnce f p r) }
     {
         let at = self.sinks.element(device)?;
-        self.work.left = CROSSINGS;
-        let _answered = pull_packet(&self.wires, &mut self.work, &mut self.machine, at);
-        let packet = self.machine.lent_answer()?;
+        self.run_memory.left = CROSSINGS;
+        let _answered = pull_packet(
+            &self.adjacency,
+            &mut self.run_memory,
+            &mut self.transfer_stack,
+            at,
+        );
+        let packet = self.transfer_stack.lent_answer()?;
         Some(f(packet))
     }
 
@@ -241,7 +258,7 @@ impl Plant {
         ensures packets { result ≡ (ran self.old task.at).packets }
     {
         match task.class {
-            Class::InfiniteSource => self.give_burst(task.at),
+            Class::InfiniteSource => self.emit_burst(task.at),
             Class::Unqueue => self.unqueue(task.at),
             Class::Discard => self.discard(task.at),
             _ => 0,
@@ -249,7 +266,7 @@ impl Plant {
     }
 
     /// Up to a burst of a source's packets.
-    fn give_burst(&mut self, at: usize) -> u64
+    fn emit_burst(&mut self, at: usize) -> u64
         ensures plant { self.new ≡ (bursts (burst_of (state_at self.old at)) at self.old).plant }
         ensures packets { result ≡ (bursts (burst_of (state_at self.old at)) at self.old).packets }
     {
@@ -273,10 +290,17 @@ impl Plant {
         ensures { (let most = burst_of (state_at self.old at) in MatchOption (if nat_lt 0 most then emission (state_at self.old at) else None)
             ((result ≡ 0) × (self.new ≡ self.old)) (λ e. (result ≡ most) × (self.new ≡ sourced self.old at e))) }
     {
-        self.work.left = CROSSINGS;
-        let most = self.machine.take_first_emission(&mut self.work, at);
+        self.run_memory.left = CROSSINGS;
+        let most = self
+            .transfer_stack
+            .take_first_emission(&mut self.run_memory, at);
         if most > 0 {
-            push_answer(&self.wires, &mut self.work, &mut self.machine, at);
+            push_answer(
+                &self.adjacency,
+                &mut self.run_memory,
+                &mut self.transfer_stack,
+                at,
+            );
         }
         most
     }
@@ -286,11 +310,16 @@ impl Plant {
         ensures { MatchOption (emission (state_at self.old at)) ((result ≡ false) × (self.new ≡ self.old))
             (λ e. (result ≡ true) × (self.new ≡ sourced self.old at e)) }
     {
-        self.work.left = CROSSINGS;
-        if !self.machine.take_emission(&mut self.work, at) {
+        self.run_memory.left = CROSSINGS;
+        if !self.transfer_stack.take_emission(&mut self.run_memory, at) {
             return false;
         }
-        push_answer(&self.wires, &mut self.work, &mut self.machine, at);
+        push_answer(
+            &self.adjacency,
+            &mut self.run_memory,
+            &mut self.transfer_stack,
+            at,
+        );
         true
     }
 
@@ -300,11 +329,21 @@ impl Plant {
         ensures packets { result ≡ (unqueued self.old at).packets }
         ensures few { result ≤ 1 }
     {
-        self.work.left = CROSSINGS;
-        if !pull_task(&self.wires, &mut self.work, &mut self.machine, at) {
+        self.run_memory.left = CROSSINGS;
+        if !pull_task(
+            &self.adjacency,
+            &mut self.run_memory,
+            &mut self.transfer_stack,
+            at,
+        ) {
             return 0;
         }
-        push_answer(&self.wires, &mut self.work, &mut self.machine, at);
+        push_answer(
+            &self.adjacency,
+            &mut self.run_memory,
+            &mut self.transfer_stack,
+            at,
+        );
         1
     }
 
@@ -313,8 +352,13 @@ impl Plant {
         ensures packets { result ≡ (discarded self.old at).packets }
         ensures few { result ≤ 1 }
     {
-        self.work.left = CROSSINGS;
-        let answered = pull_task(&self.wires, &mut self.work, &mut self.machine, at);
+        self.run_memory.left = CROSSINGS;
+        let answered = pull_task(
+            &self.adjacency,
+            &mut self.run_memory,
+            &mut self.transfer_stack,
+            at,
+        );
         u64::from(answered)
     }
 
@@ -331,9 +375,9 @@ impl Plant {
             outputs: 0,
             state: State::Idle,
         };
-        let element = mem::replace(&mut self.work.elements[at], spare);
+        let element = mem::replace(&mut self.run_memory.elements[at], spare);
         let (element, answer) = f(element);
-        self.work.elements[at] = element;
+        self.run_memory.elements[at] = element;
         answer
     }
 
@@ -343,10 +387,10 @@ impl Plant {
     pub fn take_over(&mut self, old: &mut Plant)
         ensures { self.new ≡ taken self.old old.old }
     {
-        for at in (0..self.wires.net().shapes().len()).rev() {
+        for at in (0..self.adjacency.net().shapes().len()).rev() {
             self.take_over_at(at, old);
         }
-        self.work.overruns = old.work.overruns;
+        self.run_memory.overruns = old.run_memory.overruns;
     }
 
     /// The element at a place takes over from the one of its name. That one is needed again only where an element before this place has the name too.
@@ -355,14 +399,14 @@ impl Plant {
         ensures taken { self.new ≡ taken_at self.old old.old at }
         ensures kept { IsKeptBefore self.old.net.names at old.old old.new }
     {
-        let name = self.wires.net().name(at);
+        let name = self.adjacency.net().name(at);
         let Some(place) = old.place(name) else {
             return;
         };
         let keeps = self.place(name) != Some(at);
-        if at < self.work.elements.len() && place < old.work.elements.len() {
-            let element = &mut self.work.elements[at];
-            let before = &mut old.work.elements[place];
+        if at < self.run_memory.elements.len() && place < old.run_memory.elements.len() {
+            let element = &mut self.run_memory.elements[at];
+            let before = &mut old.run_memory.elements[place];
             element
                 .state
                 .take_over(element.outputs, &mut before.state, keeps);

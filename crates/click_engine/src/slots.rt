@@ -1,64 +1,64 @@
-//! The slots of a machine.
+//! The slots of a transfer stack.
 ghost use Rattle.std.specs.Prelude.{◌≡◌, ℕ, ◌+◌, ◌<◌, ◌≤◌, List, length, take, vec_len, vec_capacity};
 ghost use Rattle.click_engine.specs.kept.Slots.{CopiedUp};
-ghost use Rattle.click_engine.specs.declared.machine.Ask.TheVariants.{Tries};
+ghost use Rattle.click_engine.specs.declared.transfer_stack.PullFrame.TheVariants.{Tries};
 
-use crate::hops::Reply;
-use crate::machine::{Ask, Sender};
+use crate::transfer_stack::{PullFrame, PushFrame};
+use crate::transfers::PullResult;
 
 /// The inputs that a reply names are to be asked.
-pub(crate) fn tries(reply: Reply) -> Ask
-    ensures { result ≡ Tries reply.at reply.inputs reply.count reply.first 0 }
+pub(crate) fn tries(pull_result: PullResult) -> PullFrame
+    ensures { result ≡ Tries pull_result.at pull_result.inputs pull_result.count pull_result.first 0 }
 {
-    Ask::Tries {
-        at: reply.at,
-        inputs: reply.inputs,
-        count: reply.count,
-        input: reply.first,
+    PullFrame::Tries {
+        at: pull_result.at,
+        inputs: pull_result.inputs,
+        count: pull_result.count,
+        input: pull_result.first,
         back: 0,
     }
 }
 
 /// Makes the packet above `top` equal to the one at `top`.
 #[inline(always)]
-pub(crate) fn copy_up(senders: &mut Vec<Sender>, top: usize)
-    requires top { top < vec_len senders.old }
-    requires room { top + 1 < vec_capacity senders.old }
-    ensures copied { CopiedUp senders.old.items senders.new.items top }
-    ensures capacity { vec_capacity senders.old ≤ vec_capacity senders.new }
+pub(crate) fn copy_up(push_frames: &mut Vec<PushFrame>, top: usize)
+    requires top { top < vec_len push_frames.old }
+    requires room { top + 1 < vec_capacity push_frames.old }
+    ensures copied { CopiedUp push_frames.old.items push_frames.new.items top }
+    ensures capacity { vec_capacity push_frames.old ≤ vec_capacity push_frames.new }
 {
-    if top + 1 == senders.len() {
-        push_copy(senders, top);
+    if top + 1 == push_frames.len() {
+        push_copy(push_frames, top);
     } else {
-        copy_next(senders.as_mut_slice(), top);
+        copy_next(push_frames.as_mut_slice(), top);
     }
 }
 
 /// Makes a slot above `top`, the first time that one is needed there.
 #[inline(always)]
-pub(crate) fn make_above(senders: &mut Vec<Sender>, top: usize)
-    requires top { top < vec_len senders.old }
-    requires room { top + 1 < vec_capacity senders.old }
-    ensures below { take (top + 1) senders.new.items ≡ take (top + 1) senders.old.items }
-    ensures long { top + 1 < length senders.new.items }
-    ensures capacity { vec_capacity senders.old ≤ vec_capacity senders.new }
+pub(crate) fn make_above(push_frames: &mut Vec<PushFrame>, top: usize)
+    requires top { top < vec_len push_frames.old }
+    requires room { top + 1 < vec_capacity push_frames.old }
+    ensures below { take (top + 1) push_frames.new.items ≡ take (top + 1) push_frames.old.items }
+    ensures long { top + 1 < length push_frames.new.items }
+    ensures capacity { vec_capacity push_frames.old ≤ vec_capacity push_frames.new }
 {
-    if top + 1 == senders.len() {
-        push_copy(senders, top);
+    if top + 1 == push_frames.len() {
+        push_copy(push_frames, top);
     }
 }
 
 /// Makes a slot, the first time that one is needed there.
 #[cold]
 #[inline(never)]
-fn push_copy(senders: &mut Vec<Sender>, top: usize)
-    requires last { top + 1 ≡ vec_len senders.old }
-    requires room { top + 1 < vec_capacity senders.old }
-    ensures copied { CopiedUp senders.old.items senders.new.items top }
-    ensures capacity { vec_capacity senders.old ≤ vec_capacity senders.new }
+fn push_copy(push_frames: &mut Vec<PushFrame>, top: usize)
+    requires last { top + 1 ≡ vec_len push_frames.old }
+    requires room { top + 1 < vec_capacity push_frames.old }
+    ensures copied { CopiedUp push_frames.old.items push_frames.new.items top }
+    ensures capacity { vec_capacity push_frames.old ≤ vec_capacity push_frames.new }
 {
-    let packet = senders[top].packet.copy();
-    let _made = senders.push(Sender {
+    let packet = push_frames[top].packet.copy();
+    let _made = push_frames.push(PushFrame {
         at: 0,
         first: 0,
         count: 0,
@@ -67,7 +67,7 @@ fn push_copy(senders: &mut Vec<Sender>, top: usize)
 }
 
 #[inline(always)]
-fn copy_next(slots: &mut [Sender], top: usize)
+fn copy_next(slots: &mut [PushFrame], top: usize)
     requires { top + 1 < length slots.old }
     ensures { CopiedUp slots.old slots.new top }
 {

@@ -3,7 +3,8 @@ ghost use Rattle.std.specs.Prelude.{◌≡◌, ◌<◌, All, IfOk, IsTrue, ◌�
 ghost use Rattle.click_engine.specs.kept.Tasks.{places_of, IsTaskIn};
 ghost use Rattle.click_engine.specs.Tasks.{AreTasks, HasTask};
 
-use click_classes::{Class, Side};
+use click_base::Class;
+use click_classes::Side;
 use click_ports::Net;
 use std::alloc::{AllocError, Global};
 

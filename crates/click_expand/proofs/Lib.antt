@@ -1,7 +1,7 @@
-pub mod OfInstances
-pub mod OfTexts
-pub mod OfConnections
 pub mod OfAnswers
-pub mod Once
-pub mod ReadsBack
+pub mod OfConnections
+pub mod OfFlatText
+pub mod OfInstances
 pub mod OfLaws
+pub mod OfTexts
+pub mod OfUniqueness

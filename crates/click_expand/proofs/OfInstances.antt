@@ -1,11 +1,11 @@
--- The instances of scopes: the walk that makes them (`Homes`, `Adding`, `Frames`, `Entering`, `Leaving`, `Stepping`), the elements of a scope (`Distinct`), the
--- sizes of scopes (`Weighing`), and the flat names of elements (`FlatNaming`).
-pub mod Adding
-pub mod Distinct
-pub mod Entering
-pub mod FlatNaming
+-- The instances of scopes: the walk that makes them (`LexicalParents`, `InstanceParts`, `Frames`, `WalkEntry`, `WalkExit`, `WalkSteps`), the elements of a
+-- scope (`DistinctElements`), the sizes of scopes (`ScopeSizes`), and the flat names of elements (`OutwardNames`).
+pub mod DistinctElements
 pub mod Frames
-pub mod Homes
-pub mod Leaving
-pub mod Stepping
-pub mod Weighing
+pub mod LexicalParents
+pub mod InstanceParts
+pub mod OutwardNames
+pub mod ScopeSizes
+pub mod WalkEntry
+pub mod WalkExit
+pub mod WalkSteps

@@ -1,8 +1,8 @@
--- Texts with their parameters replaced: parameters in a text (`Formals`), what stands for them (`Valued`, `ReadHomes`), the writing of a text (`Parting`,
--- `Buffering`), and the elements that have the texts (`Elemented`).
-pub mod Buffering
-pub mod Elemented
-pub mod Formals
-pub mod Parting
-pub mod ReadHomes
-pub mod Valued
+-- Texts with their parameters replaced: parameters in a text (`ParameterItems`), what stands for them (`ParameterMeanings`, `ParameterParents`), the
+-- writing of a text (`TextParts`, `TextBuffer`), and the elements that have the texts (`ElementTexts`).
+pub mod ElementTexts
+pub mod ParameterItems
+pub mod ParameterMeanings
+pub mod ParameterParents
+pub mod TextBuffer
+pub mod TextParts

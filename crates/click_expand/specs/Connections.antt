@@ -5,7 +5,7 @@ use Rattle.click_text.specs.declared.syntax.Statement.{Statement}
 use Rattle.click_text.specs.declared.syntax.Config.{Config}
 use Rattle.click_scopes.specs.Scopes.{Scope}
 use Rattle.click_scopes.specs.Elements.{Role, pseudo, refers, makes}
-use Rattle.click_scopes.specs.Faults.{End, WrittenConnection, scope_joints}
+use Rattle.click_scopes.specs.Faults.{End, WrittenConnection, scope_connections}
 use Rattle.click_expand.specs.Instances.{LeadsTo}
 
 -- a port of the element at a path, or of the compound at it
@@ -27,7 +27,7 @@ end_node path e makes port = input_of (path ++ e.name ∷ []) port
 
 pub data Leads (c : Config) : Node → Node → Type 0 where
   -- one connection as written, in an instance of its scope
-  by_connection : (path : List (List ℕ)) (s : Scope) (visible : List Statement) (j : WrittenConnection) → LeadsTo c path s visible → Contains (scope_joints c s visible) j →
+  by_connection : (path : List (List ℕ)) (s : Scope) (visible : List Statement) (j : WrittenConnection) → LeadsTo c path s visible → Contains (scope_connections c s visible) j →
       Leads c (begin_node path j.from j.from.role j.out_port) (end_node path j.to j.to.role j.in_port)
   -- one after another
   further : (a b d : Node) → Leads c a b → Leads c b d → Leads c a d

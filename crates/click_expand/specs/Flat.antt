@@ -5,7 +5,7 @@ use Rattle.click_text.specs.declared.syntax.Span.{Span}
 use Rattle.click_text.specs.declared.syntax.Config.{Config}
 use Rattle.click_text.specs.Strings.{closes}
 use Rattle.click_scopes.specs.Faults.{IsFirstWrong, IsFaultless}
-use Rattle.click_expand.specs.Instances.{Leaf, LeavesOf}
+use Rattle.click_expand.specs.Instances.{PrimitiveElement, PrimitiveElementsOf}
 use Rattle.click_expand.specs.Connections.{output_of, input_of, Leads}
 use Rattle.click_expand.specs.declared.flat.FlatElement.{FlatElement}
 use Rattle.click_expand.specs.declared.flat.Connection.{Connection}
@@ -35,15 +35,15 @@ flat_name [] = []
 flat_name (n ∷ []) = n
 flat_name (n ∷ m ∷ ns) = n ++ 47 ∷ flat_name (m ∷ ns)
 
-abbrev pub flat_element : Leaf → FlatElement
+abbrev pub flat_element : PrimitiveElement → FlatElement
 flat_element l = record { name = flat_name l.path; class = l.class; text = l.text }
 
--- a connection between two leaves by their places
-pub record Joins (c : Config) (leaves : List Leaf) (k : Connection) : Type 0 where
-  pub from : Leaf
-  pub from_there : slice_get leaves k.from ≡ Some from
-  pub to : Leaf
-  pub to_there : slice_get leaves k.to ≡ Some to
+-- a connection between two primitive elements by their places
+pub record Joins (c : Config) (primitive_elements : List PrimitiveElement) (k : Connection) : Type 0 where
+  pub from : PrimitiveElement
+  pub from_there : slice_get primitive_elements k.from ≡ Some from
+  pub to : PrimitiveElement
+  pub to_there : slice_get primitive_elements k.to ≡ Some to
   pub leads : Leads c (output_of from.path k.out_port) (input_of to.path k.in_port)
 
 -- one connection stands before another: by from-element, from-port, to-element, to-port
@@ -56,28 +56,28 @@ abbrev pub AreOrdered : List Connection → Type 0
 AreOrdered [] = Unit {0}
 AreOrdered (c ∷ cs) = All (StandsBefore c) cs × AreOrdered cs
 
--- the connections of leaves: each joined pair once, in order
-pub record AreConnections (c : Config) (leaves : List Leaf) (ks : List Connection) : Type 0 where
-  pub sound : (k : Connection) → Contains ks k → Joins c leaves k
-  pub complete : (k : Connection) → Joins c leaves k → Contains ks k
+-- the connections of primitive elements: each joined pair once, in order
+pub record AreConnections (c : Config) (primitive_elements : List PrimitiveElement) (ks : List Connection) : Type 0 where
+  pub sound : (k : Connection) → Contains ks k → Joins c primitive_elements k
+  pub complete : (k : Connection) → Joins c primitive_elements k → Contains ks k
   pub in_order : AreOrdered ks
 
-abbrev pub text_size : List Leaf → ℕ
-text_size leaves = sum_by (λ (l : Leaf). length l.text) leaves
+abbrev pub text_size : List PrimitiveElement → ℕ
+text_size primitive_elements = sum_by (λ (l : PrimitiveElement). length l.text) primitive_elements
 
-pub record WithinLimits (leaves : List Leaf) (paths : ℕ) (ks : List Connection) : Type 0 where
-  pub elements : length leaves ≤ most_elements
+pub record WithinLimits (primitive_elements : List PrimitiveElement) (paths : ℕ) (ks : List Connection) : Type 0 where
+  pub elements : length primitive_elements ≤ most_elements
   pub all_paths : paths ≤ most_paths
   pub connections : length ks ≤ most_connections
-  pub text : text_size leaves ≤ most_text
+  pub text : text_size primitive_elements ≤ most_text
 
 -- a text that, set in parentheses, is one token
 abbrev pub is_whole : List ℕ → Bool
 is_whole text = closes mode.Plain 1 (text ++ 41 ∷ [])
 
--- the flat names of leaves
-abbrev pub flat_names : List Leaf → List (List ℕ)
-flat_names leaves = map (λ (l : Leaf). flat_name l.path) leaves
+-- the flat names of primitive elements
+abbrev pub flat_names : List PrimitiveElement → List (List ℕ)
+flat_names primitive_elements = map (λ (l : PrimitiveElement). flat_name l.path) primitive_elements
 
 -- no two of the names are equal
 abbrev pub AreDistinct : List (List ℕ) → Type 0
@@ -85,20 +85,20 @@ AreDistinct [] = Unit {0}
 AreDistinct (n ∷ ns) = (Contains ns n → ⊥) × AreDistinct ns
 
 -- what a sound configuration stands for: its elements by their paths, how many paths there are, and its connections
-pub record Meant (c : Config) (leaves : List Leaf) (paths : ℕ) (ks : List Connection) : Type 0 where
+pub record Meant (c : Config) (primitive_elements : List PrimitiveElement) (paths : ℕ) (ks : List Connection) : Type 0 where
   pub sound : IsFaultless c
-  pub elements : LeavesOf c leaves paths
-  pub connections : AreConnections c leaves ks
+  pub elements : PrimitiveElementsOf c primitive_elements paths
+  pub connections : AreConnections c primitive_elements ks
 
 -- the flat form of a configuration
 pub record IsFlat (c : Config) (f : Flat) : Type 0 where
-  pub leaves : List Leaf
+  pub primitive_elements : List PrimitiveElement
   pub paths : ℕ
-  pub meant : Meant c leaves paths f.connections
-  pub limits : WithinLimits leaves paths f.connections
-  pub distinct : AreDistinct (flat_names leaves)
-  pub texts : All (λ (l : Leaf). is_whole l.text ≡ true) leaves
-  pub elements : f.elements ≡ map flat_element leaves
+  pub meant : Meant c primitive_elements paths f.connections
+  pub limits : WithinLimits primitive_elements paths f.connections
+  pub distinct : AreDistinct (flat_names primitive_elements)
+  pub texts : All (λ (l : PrimitiveElement). is_whole l.text ≡ true) primitive_elements
+  pub elements : f.elements ≡ map flat_element primitive_elements
 
 -- the fault that a wrong use is
 abbrev pub kind_of : WrongUse → FaultKind
@@ -112,24 +112,24 @@ abbrev pub expand_fault : FaultKind → Option Span → List ℕ → ExpandFault
 expand_fault k s name = record { kind = k; span = s; name = name }
 
 -- A limit is passed: by the elements, the paths, the text, or as many different connections.
-pub data Exceeds (c : Config) (leaves : List Leaf) (paths : ℕ) : Type 0 where
-  many_elements : most_elements < length leaves → Exceeds c leaves paths
-  many_paths : most_paths < paths → Exceeds c leaves paths
-  much_text : most_text < text_size leaves → Exceeds c leaves paths
-  many_connections : (ks : List Connection) → AreOrdered ks → ((k : Connection) → Contains ks k → Joins c leaves k) → most_connections < length ks →
-      Exceeds c leaves paths
+pub data Exceeds (c : Config) (primitive_elements : List PrimitiveElement) (paths : ℕ) : Type 0 where
+  many_elements : most_elements < length primitive_elements → Exceeds c primitive_elements paths
+  many_paths : most_paths < paths → Exceeds c primitive_elements paths
+  much_text : most_text < text_size primitive_elements → Exceeds c primitive_elements paths
+  many_connections : (ks : List Connection) → AreOrdered ks → ((k : Connection) → Contains ks k → Joins c primitive_elements k) → most_connections < length ks →
+      Exceeds c primitive_elements paths
 
 -- The first fault: a wrong use of a name, class, parameter or port; else a limit that is passed; else the first element whose flat name an earlier
 -- one has; else the first text that is no longer one string.
 pub data IsFlatFault (c : Config) : ExpandFault → Type 0 where
   wrong : (k : WrongUse) (s : Span) → IsFirstWrong c k s → IsFlatFault c (expand_fault (kind_of k) (Some s) [])
-  too_many : (leaves : List Leaf) (paths : ℕ) → IsFaultless c → LeavesOf c leaves paths → Exceeds c leaves paths →
+  too_many : (primitive_elements : List PrimitiveElement) (paths : ℕ) → IsFaultless c → PrimitiveElementsOf c primitive_elements paths → Exceeds c primitive_elements paths →
       IsFlatFault c (expand_fault kind.TooMany None [])
-  repeated : (leaves front back : List Leaf) (l : Leaf) (paths : ℕ) (ks : List Connection) → Meant c leaves paths ks → WithinLimits leaves paths ks →
-      leaves ≡ front ++ l ∷ back → AreDistinct (flat_names front) → Contains (flat_names front) (flat_name l.path) →
+  repeated : (primitive_elements front back : List PrimitiveElement) (l : PrimitiveElement) (paths : ℕ) (ks : List Connection) → Meant c primitive_elements paths ks → WithinLimits primitive_elements paths ks →
+      primitive_elements ≡ front ++ l ∷ back → AreDistinct (flat_names front) → Contains (flat_names front) (flat_name l.path) →
       IsFlatFault c (expand_fault kind.DeclaredTwice (Some l.first) [])
-  broken : (leaves front back : List Leaf) (l : Leaf) (paths : ℕ) (ks : List Connection) → Meant c leaves paths ks → WithinLimits leaves paths ks →
-      AreDistinct (flat_names leaves) → leaves ≡ front ++ l ∷ back → All (λ (k : Leaf). is_whole k.text ≡ true) front → is_whole l.text ≡ false →
+  broken : (primitive_elements front back : List PrimitiveElement) (l : PrimitiveElement) (paths : ℕ) (ks : List Connection) → Meant c primitive_elements paths ks → WithinLimits primitive_elements paths ks →
+      AreDistinct (flat_names primitive_elements) → primitive_elements ≡ front ++ l ∷ back → All (λ (k : PrimitiveElement). is_whole k.text ≡ true) front → is_whole l.text ≡ false →
       IsFlatFault c (expand_fault kind.BrokenText None (flat_name l.path))
 
 -- out of memory

@@ -1,5 +1,6 @@
 -- A flat configuration as text: a line for each element, then one for each connection.
 use Rattle.std.specs.Prelude.{ℕ, List, [], ◌∷◌, ◌++◌, flat_map, slice_get, Option, Some, None, nat_eq, codes, decimal, if◌then◌else◌}
+use Rattle.click_base.specs.Classes.{name}
 use Rattle.click_expand.specs.declared.flat.FlatElement.{FlatElement}
 use Rattle.click_expand.specs.declared.flat.Connection.{Connection}
 use Rattle.click_expand.specs.declared.flat.Flat.{Flat}
@@ -10,7 +11,7 @@ string_of [] = []
 string_of (b ∷ text) = codes "(" ++ (b ∷ text) ++ codes ")"
 
 abbrev pub element_line : FlatElement → List ℕ
-element_line e = e.name ++ codes " :: " ++ e.class ++ string_of e.text ++ codes ";\n"
+element_line e = e.name ++ codes " :: " ++ name e.class ++ string_of e.text ++ codes ";\n"
 
 -- a port in brackets; 0 is left out
 abbrev pub out_port : ℕ → List ℕ

@@ -100,10 +100,10 @@ scope_value c bindings (inside b) name = argument_of c.text (formals_of c (insid
 -- the argument of the nearest of these bodies that has the parameter
 abbrev pub value_in : Config → Bindings → List Scope → List ℕ → Option (List ℕ)
 value_in c bindings [] name = None
-value_in c bindings (s ∷ around) name = first_value (scope_value c bindings s name) (value_in c bindings around name)
+value_in c bindings (s ∷ enclosing) name = first_value (scope_value c bindings s name) (value_in c bindings enclosing name)
 
 -- a text with the parameters of the bodies around it replaced
-pub record IsReplaced (c : Config) (bindings : Bindings) (around : List Scope) (text result : List ℕ) : Type 0 where
+pub record IsReplaced (c : Config) (bindings : Bindings) (enclosing : List Scope) (text result : List ℕ) : Type 0 where
   pub items : List Item
   pub read : AreItems text items
-  pub replaces : result ≡ replaced (value_in c bindings around) 0 items
+  pub replaces : result ≡ replaced (value_in c bindings enclosing) 0 items

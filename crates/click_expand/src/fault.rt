@@ -3,8 +3,8 @@
 ghost use Rattle.std.specs.Prelude.{◌≡◌};
 ghost use Rattle.click_expand.specs.Flat as spec;
 
+use click_base::sequence::Sequence;
 use click_scopes::WrongUse;
-use click_text::sequence::Sequence;
 use click_text::syntax::Span;
 use std::fmt;
 use thiserror::Error;

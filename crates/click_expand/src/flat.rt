@@ -1,13 +1,13 @@
 //! A configuration without scopes.
 
-use click_text::sequence::Sequence;
+use click_base::Class;
+use click_base::sequence::Sequence;
 
 /// An element under its flat name.
 #[derive(Drop)]
 pub struct FlatElement {
     pub name: Sequence<u8>,
-    /// The name of one of the router's classes.
-    pub class: Sequence<u8>,
+    pub class: Class,
     /// Its configuration string, without the parentheses.
     pub text: Sequence<u8>,
 }

@@ -28,7 +28,7 @@ fn push_element(text: &mut Vec<u8>, element: &FlatElement) -> Result<(), AllocEr
 {
     text.extend_from_slice(element.name.as_slice())?;
     text.extend_from_slice(b" :: ")?;
-    text.extend_from_slice(element.class.as_slice())?;
+    text.extend_from_slice(element.class.name())?;
     push_string(text, element.text.as_slice())?;
     text.extend_from_slice(b";\n")?;
     Ok(())

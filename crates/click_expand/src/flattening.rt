@@ -5,8 +5,8 @@ ghost use Rattle.click_text.specs.Spelling.{Spells};
 ghost use Rattle.click_expand.specs.declared.flat.Flat.{Flat as FlatForm};
 ghost use Rattle.click_scopes.specs.Faults.{IsFaultless};
 ghost use Rattle.click_expand.specs.Flat.{IsFlat, IsFlatFault, IsMemoryOr, IsGiven, flat_element};
-ghost use Rattle.click_expand.specs.Instances.{Leaf as Flattened};
-ghost use Rattle.click_scopes.specs.kept.ScopeElements.{AreAllLocals};
+ghost use Rattle.click_expand.specs.Instances.{PrimitiveElement as Flattened};
+ghost use Rattle.click_scopes.specs.kept.ScopeElements.{AreAllScopeElements};
 ghost use Rattle.click_scopes.specs.kept.Nesting.{IsNested};
 ghost use Rattle.click_scopes.specs.Analysis.{AreTables};
 ghost use Rattle.click_expand.specs.kept.Answered.{IsExpandedOr, IsRefused, IsRefusedOf, refusal_for, fault_for, head_in};
@@ -21,8 +21,8 @@ use crate::flat_writing::push_name;
 use crate::instances::sizes::{MOST_ELEMENTS, MOST_PATHS, size_of};
 use crate::instances::tree::{Instances, instances_of};
 use crate::texts::elements::elements_of;
-use click_scopes::{Local, ScopeFault, Tables, analyze, first_token};
-use click_text::sequence::Sequence;
+use click_base::sequence::Sequence;
+use click_scopes::{ScopeElement, ScopeFault, Tables, analyze, first_token};
 use click_text::syntax::{Config, Head, Span};
 use std::alloc::{AllocError, Global};
 
@@ -59,17 +59,24 @@ fn expanded(
     requires nested { IsNested config.now }
     requires sound { IsFaultless config.now }
     requires tables { AreTables config.now tables.now }
-    requires used { (leaves : List Flattened) × (known : List KnownInstance) × AreInstances config.now instances.now.instances.items instances.now.leaves.items known leaves }
-    ensures { IfOk result (λ r. (leaves : List Flattened) (known : List KnownInstance) (paths : ℕ) → AreInstances config.now instances.now.instances.items instances.now.leaves.items known leaves →
-        length leaves ≤ 4096 → paths ≤ 16384 → IsExpandedOr config.now leaves paths r) }
+    requires used { (primitive_elements : List Flattened) × (known : List KnownInstance) × AreInstances config.now instances.now.instances.items instances.now.primitive_elements.items known primitive_elements }
+    ensures { IfOk result (λ r. (primitive_elements : List Flattened) (known : List KnownInstance) (paths : ℕ) → AreInstances config.now instances.now.instances.items instances.now.primitive_elements.items known primitive_elements →
+        length primitive_elements ≤ 4096 → paths ≤ 16384 → IsExpandedOr config.now primitive_elements paths r) }
 {
-    let locals = tables.locals.as_slice();
+    let scope_elements = tables.scope_elements.as_slice();
     let arguments = tables.arguments.as_slice();
-    let Some(elements) = elements_of(alloc, config, locals, arguments, instances)? else {
+    let Some(elements) = elements_of(alloc, config, scope_elements, arguments, instances)? else {
         return Ok(None);
     };
-    let joints = tables.joints.as_slice();
-    let Some(connections) = connections_of(alloc, config, locals, joints, instances)? else {
+    let written_connections = tables.written_connections.as_slice();
+    let Some(connections) = connections_of(
+        alloc,
+        config,
+        scope_elements,
+        written_connections,
+        instances,
+    )?
+    else {
         return Ok(None);
     };
     Ok(Some(Flat {
@@ -79,24 +86,33 @@ fn expanded(
 }
 
 /// What the flat element at a place begins with.
-fn head_at(locals: &[Vec<Local>], instances: &Instances, place: usize) -> Option<Head>
-    ensures { result ≡ head_in locals.now instances.now.instances.items instances.now.leaves.items place }
+fn head_at(
+    scope_elements: &[Vec<ScopeElement>],
+    instances: &Instances,
+    place: usize,
+) -> Option<Head>
+    ensures { result ≡ head_in scope_elements.now instances.now.instances.items instances.now.primitive_elements.items place }
 {
-    let leaf = instances.leaves.get(place)?;
-    let one = instances.instances.get(leaf.within)?;
-    let scope = locals.get(one.scope)?;
-    let local = scope.get(leaf.element)?;
-    Some(local.head)
+    let primitive_element = instances.primitive_elements.get(place)?;
+    let one = instances.instances.get(primitive_element.within)?;
+    let scope = scope_elements.get(one.scope)?;
+    let scope_element = scope.get(primitive_element.element)?;
+    Some(scope_element.head)
 }
 
 /// The first token of the flat element at a place.
-fn token_of(config: &Config, locals: &[Vec<Local>], instances: &Instances, place: usize) -> Span
+fn token_of(
+    config: &Config,
+    scope_elements: &[Vec<ScopeElement>],
+    instances: &Instances,
+    place: usize,
+) -> Span
     requires short { AreShort config.now.bodies }
-    requires locals { AreAllLocals config.now locals.now }
-    ensures { (leaves : List Flattened) (known : List KnownInstance) (leaf : Flattened) → AreInstances config.now instances.now.instances.items instances.now.leaves.items known leaves →
-        slice_get leaves place ≡ Some leaf → result ≡ leaf.first }
+    requires scope_elements { AreAllScopeElements config.now scope_elements.now }
+    ensures { (primitive_elements : List Flattened) (known : List KnownInstance) (primitive_element : Flattened) → AreInstances config.now instances.now.instances.items instances.now.primitive_elements.items known primitive_elements →
+        slice_get primitive_elements place ≡ Some primitive_element → result ≡ primitive_element.first }
 {
-    match head_at(locals, instances, place) {
+    match head_at(scope_elements, instances, place) {
         Some(head) => first_token(config.bodies.as_slice(), head),
         None => Span { start: 0, end: 0 },
     }
@@ -106,17 +122,17 @@ fn token_of(config: &Config, locals: &[Vec<Local>], instances: &Instances, place
 fn refused_of(
     alloc: Global,
     config: &Config,
-    locals: &[Vec<Local>],
+    scope_elements: &[Vec<ScopeElement>],
     instances: &Instances,
     elements: &[FlatElement],
 ) -> Result<Option<Refusal>, AllocError>
     requires short { AreShort config.now.bodies }
-    requires locals { AreAllLocals config.now locals.now }
-    ensures { IfOk result (λ r. (leaves : List Flattened) (known : List KnownInstance) → AreInstances config.now instances.now.instances.items instances.now.leaves.items known leaves →
-        elements.now ≡ map flat_element leaves → IsRefusedOf leaves r) }
+    requires scope_elements { AreAllScopeElements config.now scope_elements.now }
+    ensures { IfOk result (λ r. (primitive_elements : List Flattened) (known : List KnownInstance) → AreInstances config.now instances.now.instances.items instances.now.primitive_elements.items known primitive_elements →
+        elements.now ≡ map flat_element primitive_elements → IsRefusedOf primitive_elements r) }
 {
     if let Some(place) = first_repeated(alloc, elements)? {
-        let token = token_of(config, locals, instances, place);
+        let token = token_of(config, scope_elements, instances, place);
         return Ok(Some(Refusal::At(FaultKind::DeclaredTwice, token)));
     }
     if let Some(place) = first_broken(alloc, elements)? {
@@ -135,16 +151,22 @@ fn sound_flat(alloc: Global, config: &Config, tables: &Tables) -> Result<Flat, R
     ensures flat { IfOk result (λ flat. IsFlat config.now flat) }
     ensures err { IfErr result (λ why. IsRefused config.now why) }
 {
-    let locals = tables.locals.as_slice();
-    let size = size_of(alloc, config, locals)?;
+    let scope_elements = tables.scope_elements.as_slice();
+    let size = size_of(alloc, config, scope_elements)?;
     if size.elements > MOST_ELEMENTS || size.paths > MOST_PATHS {
         return Err(Refusal::TooMany);
     }
-    let instances = instances_of(alloc, config, &tables.scopes, locals, size.paths)?;
+    let instances = instances_of(alloc, config, &tables.scopes, scope_elements, size.paths)?;
     let Some(flat) = expanded(alloc, config, tables, &instances)? else {
         return Err(Refusal::TooMany);
     };
-    match refused_of(alloc, config, locals, &instances, flat.elements.as_slice())? {
+    match refused_of(
+        alloc,
+        config,
+        scope_elements,
+        &instances,
+        flat.elements.as_slice(),
+    )? {
         Some(why) => Err(why),
         None => Ok(flat),
     }

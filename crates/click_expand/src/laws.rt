@@ -8,9 +8,9 @@ ghost use Rattle.click_expand.specs.declared.flat.Connection.{Connection};
 ghost use Rattle.click_expand.specs.declared.flat.Flat.{Flat};
 ghost use Rattle.click_expand.specs.declared.flat.FlatElement.{FlatElement};
 ghost use Rattle.click_scopes.specs.Scopes.{whole};
-ghost use Rattle.click_scopes.specs.Faults.{scope_locals};
+ghost use Rattle.click_scopes.specs.Faults.{elements_of_scope};
 ghost use Rattle.click_expand.specs.Flat.{StandsBefore, IsFlat, IsFlatFault};
-ghost use Rattle.click_expand.specs.OneScope.{HasNoCompounds, IsConnectionAsWritten, own_element};
+ghost use Rattle.click_expand.specs.OneScope.{HasNoCompounds, IsConnectionAsWritten, as_written, as_flat};
 ghost use Rattle.click_expand.specs.FlatText.{flat_text_of};
 
 /// The text of a configuration's flat form spells a configuration, whose flat form it is too. `parse` reads it where it isn't too large.
@@ -46,7 +46,7 @@ pub fn ends_are_elements()
 /// Without compounds the flat elements are those that the text declares, each with its own name, class and text, and the connections are just those
 /// that are written.
 pub fn flat_without_compounds()
-    ensures elements { (config : Config) (flat : Flat) → HasNoCompounds config → IsFlat config flat → flat.elements ≡ map own_element (scope_locals config whole []) }
+    ensures elements { (config : Config) (flat : Flat) → HasNoCompounds config → IsFlat config flat → map as_flat flat.elements ≡ map as_written (elements_of_scope config whole []) }
     ensures written { (config : Config) (flat : Flat) (k : Connection) → HasNoCompounds config → IsFlat config flat → Contains flat.connections k → IsConnectionAsWritten config k }
     ensures all { (config : Config) (flat : Flat) (k : Connection) → HasNoCompounds config → IsFlat config flat → IsConnectionAsWritten config k → Contains flat.connections k }
 {}

@@ -1,8 +1,7 @@
 pub mod ActivePorts
-pub mod Growing
-pub mod Listed
-pub mod Made
-pub mod Writing
-pub mod WritesKeep
-pub mod Trimming
-pub mod Dotted
+pub mod BoxedCalls
+pub mod DottedAddresses
+pub mod ReadsAfterWrites
+pub mod RowLists
+pub mod RowNames
+pub mod WriteInvariants

@@ -6,8 +6,8 @@ use Rattle.std.specs.Option.{ForSome, ForNone}
 use Rattle.std.specs.Borrow.{Bor}
 use Rattle.std.specs.declared.alloc.Global.{Global}
 use Rattle.click_classes.specs.State.{class}
-use Rattle.click_classes.specs.declared.class.Class.{Class}
-use Rattle.click_engine.specs.declared.world.Element.{Element}
+use Rattle.click_base.specs.declared.class.Class.{Class}
+use Rattle.click_engine.specs.declared.run_state.Element.{Element}
 use Rattle.click_handlers.specs.Reads.{read_value}
 use Rattle.click_handlers.specs.Writes.{write_value}
 use Rattle.click_handlers.specs.declared.fault.HandlerFault.{HandlerFault}

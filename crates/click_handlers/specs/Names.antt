@@ -2,9 +2,9 @@
 use Rattle.std.specs.Prelude.{ℕ, List, [], ◌∷◌, ◌++◌, map, codes, Bool, ◌&&◌, slice_get, position, unwrap_or}
 use Rattle.std.specs.List.{list_any}
 use Rattle.std.specs.Str.{bytes_eq}
-use Rattle.click_classes.specs.Classes.{name}
-use Rattle.click_classes.specs.declared.class.Class.{Class}
-use Rattle.click_classes.specs.declared.class.Class.TheVariants as class
+use Rattle.click_base.specs.Classes.{name}
+use Rattle.click_base.specs.declared.class.Class.{Class}
+use Rattle.click_base.specs.declared.class.Class.TheVariants as class
 
 -- a class, and the name of a handler that its elements have
 pub record HandlerName : Type 0 where

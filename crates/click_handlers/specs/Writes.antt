@@ -7,8 +7,8 @@ use Rattle.click_classes.specs.declared.state.State.{State}
 use Rattle.click_classes.specs.declared.state.State.TheVariants as state
 use Rattle.click_classes.specs.declared.fault.ArgFault.{ArgFault}
 use Rattle.click_classes.specs.declared.fault.ArgFault.TheVariants as arg
-use Rattle.click_engine.specs.declared.world.Element.{Element}
-use Rattle.click_handlers.specs.Blanks.{trimmed}
+use Rattle.click_engine.specs.declared.run_state.Element.{Element}
+use Rattle.click_base.specs.Blanks.{trimmed}
 use Rattle.click_handlers.specs.Names.{active_port}
 use Rattle.click_handlers.specs.declared.fault.HandlerFault.{HandlerFault}
 use Rattle.click_handlers.specs.declared.fault.HandlerFault.TheVariants as fault

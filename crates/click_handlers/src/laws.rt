@@ -7,9 +7,9 @@ ghost use Rattle.click_classes.specs.State.{class};
 ghost use Rattle.click_classes.specs.Values.{decimal_number, truth};
 ghost use Rattle.click_classes.specs.declared.state.State.TheVariants as state;
 ghost use Rattle.click_handlers.specs.Names.{active_name};
-ghost use Rattle.click_classes.specs.declared.class.Class.TheVariants as is;
-ghost use Rattle.click_engine.specs.declared.world.Element.{Element};
-ghost use Rattle.click_handlers.specs.Blanks.{trimmed};
+ghost use Rattle.click_base.specs.declared.class.Class.TheVariants as is;
+ghost use Rattle.click_engine.specs.declared.run_state.Element.{Element};
+ghost use Rattle.click_base.specs.Blanks.{trimmed};
 ghost use Rattle.click_handlers.specs.Reads.{read_value, port_text, truth_text};
 ghost use Rattle.click_handlers.specs.Writes.{write_value, resized, written_port};
 

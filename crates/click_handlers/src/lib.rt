@@ -2,7 +2,6 @@
 //! (Click manual, "Handlers").
 #![tactic(auto)]
 
-mod blanks;
 mod fault;
 pub mod laws;
 mod names;
@@ -14,7 +13,6 @@ pub mod text_laws;
 mod texts;
 mod written;
 
-pub use blanks::{is_blank, trimmed, without_front};
 pub use fault::{HandlerFault, TableFault};
 pub use names::{READS, WRITES, has_read, has_write, read_name, write_name};
 pub use rows::{ReadCall, ReadRow, WriteCall, WriteRow};

@@ -3,7 +3,7 @@
 ghost use Rattle.std.specs.Prelude.{◌≡◌, ◌<◌, slice_get, Some};
 ghost use Rattle.click_handlers.specs.Names.{active_name, of_class, is_named, has_read, has_write, read_names, write_names};
 
-use click_classes::Class;
+use click_base::Class;
 
 /// How many handlers can be read.
 pub const READS: usize = 31;

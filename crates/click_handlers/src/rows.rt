@@ -9,7 +9,7 @@ ghost use Rattle.click_handlers.specs.Writes.{write_value};
 
 use crate::fault::HandlerFault;
 use crate::written::Written;
-use click_classes::Class;
+use click_base::Class;
 use click_engine::Element;
 use std::alloc::{AllocError, Global};
 

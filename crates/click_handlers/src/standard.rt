@@ -2,7 +2,7 @@
 
 ghost use Rattle.std.specs.Prelude.{◌≡◌, ◌<◌, codes};
 ghost use Rattle.click_classes.specs.State.{class};
-ghost use Rattle.click_classes.specs.declared.class.Class.TheVariants as is;
+ghost use Rattle.click_base.specs.declared.class.Class.TheVariants as is;
 ghost use Rattle.click_handlers.specs.Answers.{IsReadAnswer, IsWriteAnswer};
 ghost use Rattle.click_handlers.specs.Names.{active_name};
 ghost use Rattle.click_handlers.specs.Reads.{read_value};
@@ -14,7 +14,7 @@ use crate::plain;
 use crate::rows::{ReadRow, WriteRow, add_read, add_write};
 use crate::table::Table;
 use crate::written::Written;
-use click_classes::Class;
+use click_base::Class;
 use click_engine::Element;
 use std::alloc::{AllocError, Global};
 use std::sync::atomic::{AtomicU64, Ordering};
@@ -37,7 +37,7 @@ pub trait TakesTable {
 pub trait TakesRows {
     ghost use Rattle.std.specs.Prelude.{◌≡◌, codes, map};
     ghost use Rattle.std.specs.Thread.{IsSync};
-    ghost use Rattle.click_classes.specs.declared.class.Class.TheVariants as is;
+    ghost use Rattle.click_base.specs.declared.class.Class.TheVariants as is;
     ghost use Rattle.click_handlers.specs.Names.{of_class, read_names, write_names};
 
     type Out;
@@ -58,11 +58,11 @@ pub trait TakesRows {
 
 /// Makes a table of the rows, and hands it to `then`.
 #[derive(Drop)]
-struct Tabled<U> {
+struct RowsToTable<U> {
     then: U,
 }
 
-impl<U: TakesTable + Drop> TakesRows for Tabled<U> {
+impl<U: TakesTable + Drop> TakesRows for RowsToTable<U> {
     type Out = U::Out;
 
     fn take_rows<R: Threads + Wait + Sync>(
@@ -92,7 +92,7 @@ pub fn with_counted_table<R: Threads + Wait + Sync, U: TakesTable + Drop>(
     asked: Option<Arc<AtomicU64>>,
     then: U,
 ) -> Result<U::Out, AllocError> {
-    with_rows(rt, alloc, asked, Tabled { then })
+    with_rows(rt, alloc, asked, RowsToTable { then })
 }
 
 /// Makes the rows of all handlers, and hands them to `then`; the number is as for a table.

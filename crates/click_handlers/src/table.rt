@@ -6,7 +6,7 @@ ghost use Rattle.click_handlers.specs.Names.{of_class, is_named, read_names, wri
 use crate::fault::TableFault;
 use crate::names::{READS, WRITES, read_name, write_name};
 use crate::rows::{ReadRow, WriteRow};
-use click_classes::Class;
+use click_base::Class;
 
 /// The rows of all handlers, in their order.
 #[derive(Drop)]

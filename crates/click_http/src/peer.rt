@@ -90,7 +90,7 @@ impl Peer {
 
     /// Whether a step would do something at once.
     pub(crate) fn is_ready(&self) -> bool {
-        if self.phase == Phase::Parting {
+        if self.phase == Phase::HalfClosed {
             self.readable
         } else if self.connection.wants_write() {
             self.writable
@@ -110,7 +110,7 @@ impl Peer {
     }
 
     /// After so many bytes came: none is the end.
-    fn hear(&mut self, count: usize, now: Instant) {
+    fn note_read(&mut self, count: usize, now: Instant) {
         if count == 0 {
             self.ended = true;
         } else if self.phase == Phase::Idle {
@@ -119,7 +119,7 @@ impl Peer {
     }
 
     /// After the service was called, where there was something to answer.
-    fn settle(&mut self, now: Instant) {
+    fn note_called(&mut self, now: Instant) {
         if self.has_answer() {
             self.enter(Phase::Sending, now);
         } else if self.phase == Phase::Sending {
@@ -135,7 +135,7 @@ impl Peer {
             Ok(0) => Step::Over,
             Ok(_) => {
                 self.connection.advance(service);
-                self.settle(now);
+                self.note_called(now);
                 Step::More
             }
             Err(fault) => {
@@ -152,9 +152,9 @@ impl Peer {
     {
         match self.connection.read_from(&mut self.stream) {
             Ok(count) => {
-                self.hear(count, now);
+                self.note_read(count, now);
                 self.connection.advance(service);
-                self.settle(now);
+                self.note_called(now);
                 Step::More
             }
             Err(fault) => {
@@ -166,11 +166,11 @@ impl Peer {
     }
 
     /// Ends the output, after which the peer may still send, so that it can read all that it was sent before the connection is closed.
-    fn part(&mut self, now: Instant) -> Step {
+    fn shut_output(&mut self, now: Instant) -> Step {
         if self.ended || self.stream.shutdown(Shutdown::Write).is_err() {
             Step::Over
         } else {
-            self.enter(Phase::Parting, now);
+            self.enter(Phase::HalfClosed, now);
             Step::More
         }
     }
@@ -194,14 +194,14 @@ impl Peer {
     {
         if !self.is_ready() {
             Step::Wait
-        } else if self.phase == Phase::Parting {
+        } else if self.phase == Phase::HalfClosed {
             self.drain()
         } else if self.connection.wants_write() {
             self.write(service, now)
         } else if self.connection.wants_read() {
             self.read(service, now)
         } else {
-            self.part(now)
+            self.shut_output(now)
         }
     }
 
@@ -228,7 +228,7 @@ impl Peer {
             return false;
         }
         let told = self.stream.write(OVERDUE);
-        told.is_ok() && self.part(now) != Step::Over
+        told.is_ok() && self.shut_output(now) != Step::Over
     }
 
     /// Writes once what is pending, before the connection is closed.

@@ -11,7 +11,7 @@ pub(crate) enum Phase {
     /// For the peer to take what is written.
     Sending,
     /// For the peer to close too: it was sent all that it gets, and what it still sends is dropped.
-    Parting,
+    HalfClosed,
 }
 
 impl Phase {
@@ -20,7 +20,7 @@ impl Phase {
         match self {
             Phase::Idle => Duration::from_secs(75),
             Phase::Begun | Phase::Sending => Duration::from_secs(10),
-            Phase::Parting => Duration::from_secs(2),
+            Phase::HalfClosed => Duration::from_secs(2),
         }
     }
 }

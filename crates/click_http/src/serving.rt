@@ -4,7 +4,7 @@ ghost use Rattle.std.specs.Prelude.{List};
 ghost use Rattle.http_server.specs.Exchange.{Call, Chain};
 ghost use Rattle.click_http.specs.Leading.{Leads};
 
-use crate::front::Front;
+use crate::page_listener::PageListener;
 use crate::peer::Peer;
 use http_server::Service;
 use std::alloc::Global;
@@ -55,14 +55,14 @@ fn serve_places<S: Service, C: Clock>(
 fn serve_round<S: Service, C: Clock>(
     clock: &C,
     alloc: Global,
-    front: &mut Front,
+    page_listener: &mut PageListener,
     service: &mut S,
 ) -> io::Result<()>
     ensures { Leads S.answers service.old service.new }
 {
-    front.wait()?;
-    serve_places(clock, &mut front.places, service)?;
-    front.take_in(alloc, Instant::now(clock)?);
+    page_listener.wait()?;
+    serve_places(clock, &mut page_listener.places, service)?;
+    page_listener.accept_connections(alloc, Instant::now(clock)?);
     Ok(())
 }
 
@@ -73,21 +73,21 @@ pub fn serve_until<S: Service, R: Wait, C: Clock>(
     rt: &R,
     clock: &C,
     alloc: Global,
-    front: Front,
+    page_listener: PageListener,
     service: &mut S,
     stop: &AtomicBool,
 ) -> Ended
     ensures led { (calls : List Call) × Chain S.answers service.old calls service.new }
     ensures leads { Leads S.answers service.old service.new }
 {
-    let mut front = front;
+    let mut page_listener = page_listener;
     for _ in rt.forever() {
         if stop.load(Ordering::SeqCst) {
-            close(front);
+            close(page_listener);
             return Ended::Stopped;
         }
-        if let Err(fault) = serve_round(clock, alloc, &mut front, service) {
-            close(front);
+        if let Err(fault) = serve_round(clock, alloc, &mut page_listener, service) {
+            close(page_listener);
             return Ended::Failed(fault.kind());
         }
     }
@@ -95,9 +95,9 @@ pub fn serve_until<S: Service, R: Wait, C: Clock>(
 }
 
 /// Writes once what is pending on each connection, and closes all.
-fn close(front: Front) {
-    let mut front = front;
-    for place in front.places.iter_mut() {
+fn close(page_listener: PageListener) {
+    let mut page_listener = page_listener;
+    for place in page_listener.places.iter_mut() {
         if let Some(peer) = place {
             peer.write_last();
         }

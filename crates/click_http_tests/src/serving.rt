@@ -1,7 +1,7 @@
 //! What peers get of a server that a service tells to stop.
 
 use bytes::{BufMut, Bytes};
-use click_http::{Ended, Front, PLACES, open_front, serve_until};
+use click_http::{Ended, PLACES, PageListener, open_page_listener, serve_until};
 use http::Request;
 use http_server::{Response, Service};
 use std::alloc::{AllocError, Global};
@@ -38,13 +38,18 @@ impl<'a> Service for Greeter<'a> {
 }
 
 /// Serves until so many requests were answered. Says why it ended, and how many were not.
-fn serve<R: Wait + Clock>(rt: &R, alloc: Global, front: Front, answers: u32) -> (Ended, u32) {
+fn serve<R: Wait + Clock>(
+    rt: &R,
+    alloc: Global,
+    page_listener: PageListener,
+    answers: u32,
+) -> (Ended, u32) {
     let stop = AtomicBool::new(false);
     let mut greeter = Greeter {
         left: answers,
         stop: &stop,
     };
-    let ended = serve_until(rt, rt, alloc, front, &mut greeter, &stop);
+    let ended = serve_until(rt, rt, alloc, page_listener, &mut greeter, &stop);
     (ended, greeter.left)
 }
 
@@ -54,8 +59,8 @@ fn movable<T: Send>(value: T) -> T {
 }
 
 /// A peer that has sent this.
-fn peer(rt: &HostRuntime, front: &Front, sent: &[u8]) -> io::Result<TcpStream> {
-    let mut stream = TcpStream::connect(rt, front.local_addr()?)?;
+fn peer(rt: &HostRuntime, page_listener: &PageListener, sent: &[u8]) -> io::Result<TcpStream> {
+    let mut stream = TcpStream::connect(rt, page_listener.local_addr()?)?;
     stream.write_all(sent)?;
     Ok(stream)
 }
@@ -69,12 +74,12 @@ fn received(rt: &HostRuntime, mut peer: TcpStream) -> io::Result<Vec<u8>> {
 
 #[test]
 fn answers_what_was_sent_at_once(rt: HostRuntime) -> Result<(), Fail> {
-    let front = open_front(&rt, rt.alloc(), 0)?;
-    assert_eq!(rt; front.port(), 0);
-    let mut two = peer(&rt, &front, ASKS)?;
+    let page_listener = open_page_listener(&rt, rt.alloc(), 0)?;
+    assert_eq!(rt; page_listener.port(), 0);
+    let mut two = peer(&rt, &page_listener, ASKS)?;
     two.write_all(ASKS)?;
-    let head = peer(&rt, &front, b"HEAD / HTTP/1.1\r\nHost: h\r\n\r\n")?;
-    let (ended, left) = serve(&rt, rt.alloc(), front, 3);
+    let head = peer(&rt, &page_listener, b"HEAD / HTTP/1.1\r\nHost: h\r\n\r\n")?;
+    let (ended, left) = serve(&rt, rt.alloc(), page_listener, 3);
     assert_eq!(rt; ended, Ended::Stopped);
     assert_eq!(rt; left, 0);
     let answers = received(&rt, two)?;
@@ -90,10 +95,10 @@ fn answers_what_was_sent_at_once(rt: HostRuntime) -> Result<(), Fail> {
 
 #[test]
 fn refuses_what_is_no_request(rt: HostRuntime) -> Result<(), Fail> {
-    let front = open_front(&rt, rt.alloc(), 0)?;
-    let wrong = peer(&rt, &front, b"nothing that HTTP knows\r\n\r\n")?;
-    let good = peer(&rt, &front, ASKS)?;
-    let (ended, _) = serve(&rt, rt.alloc(), movable(front), 1);
+    let page_listener = open_page_listener(&rt, rt.alloc(), 0)?;
+    let wrong = peer(&rt, &page_listener, b"nothing that HTTP knows\r\n\r\n")?;
+    let good = peer(&rt, &page_listener, ASKS)?;
+    let (ended, _) = serve(&rt, rt.alloc(), movable(page_listener), 1);
     assert_eq!(rt; ended, Ended::Stopped);
     let answer = received(&rt, good)?;
     assert_eq!(rt; answer.as_slice(), ANSWER);
@@ -104,14 +109,14 @@ fn refuses_what_is_no_request(rt: HostRuntime) -> Result<(), Fail> {
 
 #[test]
 fn refuses_what_has_no_place(rt: HostRuntime) -> Result<(), Fail> {
-    let front = open_front(&rt, rt.alloc(), 0)?;
-    let first = peer(&rt, &front, ASKS)?;
+    let page_listener = open_page_listener(&rt, rt.alloc(), 0)?;
+    let first = peer(&rt, &page_listener, ASKS)?;
     let mut others = Vec::new(rt.alloc());
     for _ in 1..PLACES {
-        others.push(peer(&rt, &front, b"")?)?;
+        others.push(peer(&rt, &page_listener, b"")?)?;
     }
-    let last = peer(&rt, &front, b"")?;
-    let (ended, _) = serve(&rt, rt.alloc(), front, 1);
+    let last = peer(&rt, &page_listener, b"")?;
+    let (ended, _) = serve(&rt, rt.alloc(), page_listener, 1);
     assert_eq!(rt; ended, Ended::Stopped);
     let answer = received(&rt, first)?;
     assert_eq!(rt; answer.as_slice(), ANSWER);

@@ -8,8 +8,8 @@ use Rattle.click_router.specs.declared.call.Call.TheVariants as call
 use Rattle.click_lines.specs.Spelling.{joined, word, words}
 use Rattle.click_lines.specs.Lines.{AreBytes, IsCallOfBytes, IsLineOfBytes, call_line, call_words, line_text, packet_word, packets_word}
 use Rattle.click_lines.specs.declared.line.Line.{Line}
-use Rattle.click_lines.proofs.Cutting.{AllLack, joined_once, lacks, lacks-joined}
-use Rattle.click_lines.proofs.Words.{lacks-decimal, lacks-spelled, spelled_once}
+use Rattle.click_lines.proofs.CutTexts.{AllLack, joined_once, lacks, lacks-joined}
+use Rattle.click_lines.proofs.Words.{lacks-decimal, lacks-escaped, spelled_once}
 use Rattle.click_lines.proofs.PacketWords.{lacks-packet, lacks-packets, packet_once, packets_once}
 
 -- ---- which call a word is
@@ -138,10 +138,10 @@ apart_9 : (d : ℕ) → d < 10 → 48 + d ≡ 9 → ⊥
 apart_9 d l e = omega (arith, l, e)
 
 no_blank : (bytes : List ℕ) → AreBytes bytes → lacks 32 (word bytes) ≡ true
-no_blank bytes h = lacks-spelled 32 33 bytes h (omega arith) refl refl
+no_blank bytes h = lacks-escaped 32 33 bytes h (omega arith) refl refl
 
 no_tab : (bytes : List ℕ) → AreBytes bytes → lacks 9 (word bytes) ≡ true
-no_tab bytes h = lacks-spelled 9 33 bytes h (omega arith) refl refl
+no_tab bytes h = lacks-escaped 9 33 bytes h (omega arith) refl refl
 
 pub no_blanks : (c : Call) → IsCallOfBytes c → AllLack 32 (call_words c)
 no_blanks (call.Read name text) h = (refl, (no_blank name h.0, (no_blank text h.1, tt)))
@@ -191,7 +191,7 @@ call_line_once c d h k e =
 pub columns : (l : Line) → IsLineOfBytes l → AllLack 9 (decimal l.seat ∷ call_line l.call ∷ words l.reply ∷ [])
 columns l h = (
   lacks-decimal 9 l.seat apart_9 h.0,
-  (lacks-joined 9 32 (call_words l.call) refl (no_tabs l.call h.1), (lacks-spelled 9 32 l.reply h.2 (omega arith) refl refl, tt)),
+  (lacks-joined 9 32 (call_words l.call) refl (no_tabs l.call h.1), (lacks-escaped 9 32 l.reply h.2 (omega arith) refl refl, tt)),
 )
 
 equal : (a b : Line) → a.seat ≡ b.seat → a.call ≡ b.call → a.reply ≡ b.reply → a ≡ b

@@ -11,12 +11,12 @@ use Rattle.hex.specs.Hex.{IsBytes, decode_of, encode_with, lower_digits}
 use Rattle.click_packet.specs.Packet.{Packet}
 use Rattle.click_classes.specs.Values.{address}
 use Rattle.click_handlers.specs.Reads.{dotted}
-use Rattle.click_handlers.proofs.Dotted.{dotted-read}
+use Rattle.click_handlers.proofs.DottedAddresses.{dotted-read}
 use Rattle.click_lines.specs.Digits.{IsHex, hex_text}
 use Rattle.click_lines.specs.Spelling.{behind}
-use Rattle.click_lines.specs.Lines.{AreBytes, IsPacketOfBytes, is_unmarked, marks, packet_word, packets_word}
-use Rattle.click_lines.proofs.Cutting.{AllLack, Begins, cut_once, joined_once, lacks, lacks-append, lacks-joined}
-use Rattle.click_lines.proofs.ReadingBack.{reads_back}
+use Rattle.click_lines.specs.Lines.{AreBytes, IsPacketOfBytes, has_no_annotations, annotations, packet_word, packets_word}
+use Rattle.click_lines.proofs.CutTexts.{AllLack, Begins, cut_once, joined_once, lacks, lacks-append, lacks-joined}
+use Rattle.click_lines.proofs.DigitReadback.{reads_back}
 use Rattle.click_lines.proofs.Words.{lacks-decimal, lacks_at}
 
 pub bytes_at : (bytes : List ℕ) → AreBytes bytes → IsBytes bytes
@@ -102,8 +102,8 @@ by_test false x y = inr (refl, refl)
 abbrev pub marked : Packet → List ℕ
 marked p = 58 ∷ decimal p.paint ++ 58 ∷ dotted p.destination
 
-begins-marks : (p : Packet) → Begins 58 (marks p)
-begins-marks p = elim (by_test (is_unmarked p) [] (marked p)) [
+begins-annotations : (p : Packet) → Begins 58 (annotations p)
+begins-annotations p = elim (by_test (has_no_annotations p) [] (marked p)) [
   | inl e ↦ rw e.1 tt
   | inr e ↦ rw e.1 refl
 ]
@@ -111,7 +111,7 @@ begins-marks p = elim (by_test (is_unmarked p) [] (marked p)) [
 pub apart_58 : (d : ℕ) → d < 10 → 48 + d ≡ 58 → ⊥
 apart_58 d l e = omega (arith, l, e)
 
-pub zeros : (p : Packet) → is_unmarked p ≡ true → (p.paint ≡ 0) × (p.destination ≡ 0 ∷ 0 ∷ 0 ∷ 0 ∷ [])
+pub zeros : (p : Packet) → has_no_annotations p ≡ true → (p.paint ≡ 0) × (p.destination ≡ 0 ∷ 0 ∷ 0 ∷ 0 ∷ [])
 zeros p e =
     let parts = and_parts (p.paint == 0) (bytes_eq p.destination (0 ∷ 0 ∷ 0 ∷ 0 ∷ [])) e in
     (eqb-true p.paint 0 parts.0, (bytes_eq-Decides p.destination (0 ∷ 0 ∷ 0 ∷ 0 ∷ [])).0 parts.1)
@@ -130,16 +130,16 @@ marked_once p q h k e =
       dotted_once p.destination q.destination h.2 k.2 h.3 k.3 texts,
     )
 
-marks_once : (p q : Packet) → IsPacketOfBytes p → IsPacketOfBytes q → marks p ≡ marks q → (p.paint ≡ q.paint) × (p.destination ≡ q.destination)
-marks_once p q h k e = elim (by_test (is_unmarked p) [] (marked p)) [
-  | inl x ↦ elim (by_test (is_unmarked q) [] (marked q)) [
+marks_once : (p q : Packet) → IsPacketOfBytes p → IsPacketOfBytes q → annotations p ≡ annotations q → (p.paint ≡ q.paint) × (p.destination ≡ q.destination)
+marks_once p q h k e = elim (by_test (has_no_annotations p) [] (marked p)) [
+  | inl x ↦ elim (by_test (has_no_annotations q) [] (marked q)) [
     | inl y ↦
         let zp = zeros p x.0 in
         let zq = zeros q y.0 in
         (zp.0 ∙ sym zq.0, zp.1 ∙ sym zq.1)
     | inr y ↦ let bad : [] ≡ marked q = sym x.1 ∙ e ∙ y.1 in absurd cc
   ]
-  | inr x ↦ elim (by_test (is_unmarked q) [] (marked q)) [
+  | inr x ↦ elim (by_test (has_no_annotations q) [] (marked q)) [
     | inl y ↦ let bad : marked p ≡ [] = sym x.1 ∙ e ∙ y.1 in absurd cc
     | inr y ↦ marked_once p q h k (sym x.1 ∙ e ∙ y.1)
   ]
@@ -154,8 +154,8 @@ equal p q bytes paint destination =
 
 pub packet_once : (p q : Packet) → IsPacketOfBytes p → IsPacketOfBytes q → packet_word p ≡ packet_word q → p ≡ q
 packet_once p q h k e =
-    let one = cut_once 58 (hex_text p.bytes) (hex_text q.bytes) (marks p) (marks q) (lacks-hex 58 p.bytes h.0 refl refl) (lacks-hex 58 q.bytes k.0 refl refl)
-    (begins-marks p) (begins-marks q) e in
+    let one = cut_once 58 (hex_text p.bytes) (hex_text q.bytes) (annotations p) (annotations q) (lacks-hex 58 p.bytes h.0 refl refl) (lacks-hex 58 q.bytes k.0 refl refl)
+    (begins-annotations p) (begins-annotations q) e in
     let same = marks_once p q h k one.1 in
     let bytes : p.bytes ≡ q.bytes = hex_once p.bytes q.bytes h.0 k.0 one.0 in
     let paint : p.paint ≡ q.paint = same.0 in
@@ -174,7 +174,7 @@ lacks-packet c p h digits others apart =
     let behind_paint = and_from (not (58 == c)) (lacks c (dotted p.destination)) colon after in
     let texts = lacks-append c (decimal p.paint) (58 ∷ dotted p.destination) number behind_paint in
     let all : lacks c (marked p) ≡ true = and_from (not (58 == c)) (lacks c (decimal p.paint ++ 58 ∷ dotted p.destination)) colon texts in
-    lacks-append c (hex_text p.bytes) (marks p) (lacks-hex c p.bytes h.0 digits (and_from (not (45 == c)) true hyphen refl)) (elim (by_test (is_unmarked p) [] (marked p)) [
+    lacks-append c (hex_text p.bytes) (annotations p) (lacks-hex c p.bytes h.0 digits (and_from (not (45 == c)) true hyphen refl)) (elim (by_test (has_no_annotations p) [] (marked p)) [
       | inl x ↦ rw x.1 refl
       | inr x ↦ rw x.1 all
     ])
@@ -201,7 +201,7 @@ front_nil [] y e = refl
 front_nil (b ∷ x) y e = absurd (let bad : b ∷ (x ++ y) ≡ [] = e in cc)
 
 pub word_some : (p : Packet) (rest : List ℕ) → IsPacketOfBytes p → packet_word p ++ rest ≡ [] → ⊥
-word_some p rest h e = hex_some p.bytes h.0 (front_nil (hex_text p.bytes) (marks p) (front_nil (packet_word p) rest e))
+word_some p rest h e = hex_some p.bytes h.0 (front_nil (hex_text p.bytes) (annotations p) (front_nil (packet_word p) rest e))
 
 pub apart_44 : (d : ℕ) → d < 10 → 48 + d ≡ 44 → ⊥
 apart_44 d l e = omega (arith, l, e)

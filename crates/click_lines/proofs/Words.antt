@@ -5,9 +5,9 @@ use Rattle.std.proofs.lemmas.Bool.{and_parts, and_from, leb-true}
 use Rattle.std.proofs.lemmas.Fmt.{decimal_by_steps}
 use Rattle.hex.specs.Hex.{encode_with, encode_lower, hex_digit_value, lower_digits}
 use Rattle.hex.proofs.HexLemmas.{IsDigits-lower_digits}
-use Rattle.click_lines.specs.Spelling.{is_plain, spelled}
+use Rattle.click_lines.specs.Spelling.{is_plain, escaped}
 use Rattle.click_lines.specs.Lines.{AreBytes}
-use Rattle.click_lines.proofs.Cutting.{lacks, lacks-append, other, unlike}
+use Rattle.click_lines.proofs.CutTexts.{lacks, lacks-append, other, unlike}
 
 -- ---- digits
 
@@ -33,11 +33,11 @@ by_test true x y = inl (refl, refl)
 by_test false x y = inr refl
 
 -- the first byte stands for itself, or as a backslash and two digits
-pub shape : (least b : ℕ) (bs : List ℕ) → ((is_plain least b ≡ true) × (spelled least (b ∷ bs) ≡ b ∷ spelled least bs)) ⊎ (spelled least (b ∷ bs) ≡ 92 ∷ high b ∷ low b ∷ spelled least bs)
+pub shape : (least b : ℕ) (bs : List ℕ) → ((is_plain least b ≡ true) × (escaped least (b ∷ bs) ≡ b ∷ escaped least bs)) ⊎ (escaped least (b ∷ bs) ≡ 92 ∷ high b ∷ low b ∷ escaped least bs)
 unfolding encode_with
 shape least b bs = elim (by_test (is_plain least b) (b ∷ []) (92 ∷ encode_lower (b ∷ []))) [
-  | inl plain ↦ inl (plain.0, ap (λ (x : List ℕ). x ++ spelled least bs) plain.1)
-  | inr coded ↦ inr (ap (λ (x : List ℕ). x ++ spelled least bs) coded)
+  | inl plain ↦ inl (plain.0, ap (λ (x : List ℕ). x ++ escaped least bs) plain.1)
+  | inr coded ↦ inr (ap (λ (x : List ℕ). x ++ escaped least bs) coded)
 ]
 
 pub no_backslash : (least b : ℕ) → is_plain least b ≡ true → b ≡ 92 → ⊥
@@ -47,39 +47,39 @@ at_least : (least b : ℕ) → is_plain least b ≡ true → least ≤ b
 at_least least b plain =
     leb-true least b (and_parts (nat_le least b) (nat_le b 126) (and_parts (nat_le least b && nat_le b 126) (not (b == 92)) plain).0).0
 
-pub spelled_once : (least : ℕ) (a b : List ℕ) → AreBytes a → AreBytes b → spelled least a ≡ spelled least b → a ≡ b
+pub spelled_once : (least : ℕ) (a b : List ℕ) → AreBytes a → AreBytes b → escaped least a ≡ escaped least b → a ≡ b
 spelled_once least [] [] h k e = refl
 spelled_once least [] (y ∷ b) h k e = absurd (elim (shape least y b) [
-  | inl q ↦ let bad : [] ≡ y ∷ spelled least b = e ∙ q.1 in cc
-  | inr q ↦ let bad : [] ≡ 92 ∷ high y ∷ low y ∷ spelled least b = e ∙ q in cc
+  | inl q ↦ let bad : [] ≡ y ∷ escaped least b = e ∙ q.1 in cc
+  | inr q ↦ let bad : [] ≡ 92 ∷ high y ∷ low y ∷ escaped least b = e ∙ q in cc
 ])
 spelled_once least (x ∷ a) [] h k e = absurd (elim (shape least x a) [
-  | inl p ↦ let bad : x ∷ spelled least a ≡ [] = sym p.1 ∙ e in cc
-  | inr p ↦ let bad : 92 ∷ high x ∷ low x ∷ spelled least a ≡ [] = sym p ∙ e in cc
+  | inl p ↦ let bad : x ∷ escaped least a ≡ [] = sym p.1 ∙ e in cc
+  | inr p ↦ let bad : 92 ∷ high x ∷ low x ∷ escaped least a ≡ [] = sym p ∙ e in cc
 ])
 spelled_once least (x ∷ a) (y ∷ b) h k e = elim (shape least x a) [
   | inl p ↦ elim (shape least y b) [
     | inl q ↦
-        let whole : x ∷ spelled least a ≡ y ∷ spelled least b = sym p.1 ∙ e ∙ q.1 in
+        let whole : x ∷ escaped least a ≡ y ∷ escaped least b = sym p.1 ∙ e ∙ q.1 in
         let first : x ≡ y = cc in
-        let rest : spelled least a ≡ spelled least b = cc in
+        let rest : escaped least a ≡ escaped least b = cc in
         let more : a ≡ b = spelled_once least a b h.1 k.1 rest in
         cc
     | inr q ↦
-        let whole : x ∷ spelled least a ≡ 92 ∷ high y ∷ low y ∷ spelled least b = sym p.1 ∙ e ∙ q in
+        let whole : x ∷ escaped least a ≡ 92 ∷ high y ∷ low y ∷ escaped least b = sym p.1 ∙ e ∙ q in
         let first : x ≡ 92 = cc in
         absurd (no_backslash least x p.0 first)
   ]
   | inr p ↦ elim (shape least y b) [
     | inl q ↦
-        let whole : 92 ∷ high x ∷ low x ∷ spelled least a ≡ y ∷ spelled least b = sym p ∙ e ∙ q.1 in
+        let whole : 92 ∷ high x ∷ low x ∷ escaped least a ≡ y ∷ escaped least b = sym p ∙ e ∙ q.1 in
         let first : y ≡ 92 = cc in
         absurd (no_backslash least y q.0 first)
     | inr q ↦
-        let whole : 92 ∷ high x ∷ low x ∷ spelled least a ≡ 92 ∷ high y ∷ low y ∷ spelled least b = sym p ∙ e ∙ q in
+        let whole : 92 ∷ high x ∷ low x ∷ escaped least a ≡ 92 ∷ high y ∷ low y ∷ escaped least b = sym p ∙ e ∙ q in
         let highs : high x ≡ high y = cc in
         let lows : low x ≡ low y = cc in
-        let rest : spelled least a ≡ spelled least b = cc in
+        let rest : escaped least a ≡ escaped least b = cc in
         let hx : x < 256 = h.0 in
         let hy : y < 256 = k.0 in
         let front : x / 16 ≡ y / 16 = digit_once (x / 16) (y / 16) (omega (arith, hx)) (omega (arith, hy)) highs in
@@ -91,21 +91,21 @@ spelled_once least (x ∷ a) (y ∷ b) h k e = elim (shape least x a) [
 ]
 
 -- a byte below the least, which is no digit, does not stand in a spelled text
-pub lacks-spelled : (c least : ℕ) (bs : List ℕ) → AreBytes bs → c < least → not (92 == c) ≡ true → lacks c lower_digits ≡ true → lacks c (spelled least bs) ≡ true
-lacks-spelled c least [] h small apart digits = refl
-lacks-spelled c least (b ∷ bs) h small apart digits =
-    let more = lacks-spelled c least bs h.1 small apart digits in
+pub lacks-escaped : (c least : ℕ) (bs : List ℕ) → AreBytes bs → c < least → not (92 == c) ≡ true → lacks c lower_digits ≡ true → lacks c (escaped least bs) ≡ true
+lacks-escaped c least [] h small apart digits = refl
+lacks-escaped c least (b ∷ bs) h small apart digits =
+    let more = lacks-escaped c least bs h.1 small apart digits in
     elim (shape least b bs) [
       | inl p ↦
           let l : least ≤ b = at_least least b p.0 in
-          rw p.1 (and_from (not (b == c)) (lacks c (spelled least bs)) (other b c (λ e. omega (arith, l, small, e))) more)
+          rw p.1 (and_from (not (b == c)) (lacks c (escaped least bs)) (other b c (λ e. omega (arith, l, small, e))) more)
       | inr p ↦
           let small_b : b < 256 = h.0 in
           let first : not (high b == c) ≡ true = lacks_at c lower_digits (b / 16) digits (let q : b / 16 < 16 = omega (arith, small_b) in q) in
           let second : not (low b == c) ≡ true = lacks_at c lower_digits (b % 16) digits (let q : b % 16 < 16 = omega arith in q) in
-          let behind_high = and_from (not (low b == c)) (lacks c (spelled least bs)) second more in
-          let behind_slash = and_from (not (high b == c)) (not (low b == c) && lacks c (spelled least bs)) first behind_high in
-          rw p (and_from (not (92 == c)) (not (high b == c) && (not (low b == c) && lacks c (spelled least bs))) apart behind_slash)
+          let behind_high = and_from (not (low b == c)) (lacks c (escaped least bs)) second more in
+          let behind_slash = and_from (not (high b == c)) (not (low b == c) && lacks c (escaped least bs)) first behind_high in
+          rw p (and_from (not (92 == c)) (not (high b == c) && (not (low b == c) && lacks c (escaped least bs))) apart behind_slash)
     ]
 
 -- ---- numbers

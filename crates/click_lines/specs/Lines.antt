@@ -13,15 +13,15 @@ use Rattle.click_lines.specs.Spelling.{word, words, joined}
 use Rattle.click_lines.specs.declared.line.Line.{Line}
 
 -- the packet has paint 0 and destination 0.0.0.0, as a packet has that enters
-abbrev pub is_unmarked : Packet → Bool
-is_unmarked p = p.paint == 0 && bytes_eq p.destination (0 ∷ 0 ∷ 0 ∷ 0 ∷ [])
+abbrev pub has_no_annotations : Packet → Bool
+has_no_annotations p = p.paint == 0 && bytes_eq p.destination (0 ∷ 0 ∷ 0 ∷ 0 ∷ [])
 
 -- behind colons the paint and the destination, where the packet has others than those with which one enters
-abbrev pub marks : Packet → List ℕ
-marks p = if is_unmarked p then [] else 58 ∷ decimal p.paint ++ 58 ∷ dotted p.destination
+abbrev pub annotations : Packet → List ℕ
+annotations p = if has_no_annotations p then [] else 58 ∷ decimal p.paint ++ 58 ∷ dotted p.destination
 
 abbrev pub packet_word : Packet → List ℕ
-packet_word p = hex_text p.bytes ++ marks p
+packet_word p = hex_text p.bytes ++ annotations p
 
 -- with commas between them
 abbrev pub packets_word : List Packet → List ℕ

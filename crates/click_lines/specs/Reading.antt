@@ -7,7 +7,7 @@ use Rattle.click_lines.specs.Lines.{AreBytes, IsCallOfBytes, IsLineOfBytes, IsPa
 use Rattle.click_router.specs.declared.call.Call.{Call}
 use Rattle.click_router.specs.declared.call.Call.TheVariants as call
 use Rattle.click_lines.specs.declared.line.Line.{Line}
-use Rattle.click_lines.specs.Spelling.{spelled, word}
+use Rattle.click_lines.specs.Spelling.{escaped, word}
 use Rattle.click_lines.specs.declared.kind.Kind.{Kind}
 use Rattle.click_lines.specs.declared.kind.Kind.TheVariants as kind
 
@@ -23,14 +23,14 @@ after c (b ∷ bs) = if b == c then bs else after c bs
 
 -- Of each: what is read of a text that is written so.
 abbrev pub ReadsBytes : List ℕ → Option (List ℕ) → Type 0
-ReadsBytes text read = (least : ℕ) (bytes : List ℕ) → AreBytes bytes → spelled least bytes ≡ text → read ≡ Some bytes
+ReadsBytes text read = (least : ℕ) (bytes : List ℕ) → AreBytes bytes → escaped least bytes ≡ text → read ≡ Some bytes
 
 abbrev pub ReadsNumber : List ℕ → Option ℕ → Type 0
 ReadsNumber text read = (n : ℕ) → n < 2 ^ 64 → decimal n ≡ text → read ≡ Some n
 
 -- the packet gets the paint and the destination of a text that is written so
-abbrev pub ReadsMarks : List ℕ → Packet → Packet → Option (Unit {0}) → Type 0
-ReadsMarks text p q read =
+abbrev pub ReadsAnnotations : List ℕ → Packet → Packet → Option (Unit {0}) → Type 0
+ReadsAnnotations text p q read =
     (paint : ℕ) (destination : List ℕ) → paint < 256 → length destination ≡ 4 → AreBytes destination → decimal paint ++ 58 ∷ dotted destination ≡ text
     → (read ≡ Some tt) × (q ≡ record p { paint = paint; destination = destination })
 

@@ -8,19 +8,19 @@ abbrev pub is_plain : ℕ → ℕ → Bool
 is_plain least b = nat_le least b && nat_le b 126 && not (b == 92)
 
 -- any other byte is a backslash and its two hex digits in lower case
-abbrev pub spelled_byte : ℕ → ℕ → List ℕ
-spelled_byte least b = if is_plain least b then b ∷ [] else 92 ∷ encode_lower (b ∷ [])
+abbrev pub escaped_byte : ℕ → ℕ → List ℕ
+escaped_byte least b = if is_plain least b then b ∷ [] else 92 ∷ encode_lower (b ∷ [])
 
-abbrev pub spelled : ℕ → List ℕ → List ℕ
-spelled least bytes = flat_map (spelled_byte least) bytes
+abbrev pub escaped : ℕ → List ℕ → List ℕ
+escaped least bytes = flat_map (escaped_byte least) bytes
 
 -- as one word, which has no blank
 abbrev pub word : List ℕ → List ℕ
-word bytes = spelled 33 bytes
+word bytes = escaped 33 bytes
 
 -- as words, whose blanks stay
 abbrev pub words : List ℕ → List ℕ
-words bytes = spelled 32 bytes
+words bytes = escaped 32 bytes
 
 -- each part but the first behind a byte
 abbrev pub behind : ℕ → List (List ℕ) → List ℕ

@@ -3,6 +3,7 @@
 
 mod call;
 mod digits;
+mod escaping;
 mod kind;
 pub mod laws;
 mod line;
@@ -10,11 +11,10 @@ mod packet;
 mod parts;
 mod reading;
 mod reply;
-mod spelling;
 
 pub use call::call_line;
 pub use digits::{HexFault, hex_text, packet_of};
+pub use escaping::push_words;
 pub use line::{Line, entry_line};
 pub use reading::read_line;
 pub use reply::{push_number, reply_line, reply_text};
-pub use spelling::push_words;

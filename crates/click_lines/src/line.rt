@@ -4,10 +4,10 @@ ghost use Rattle.std.specs.Prelude.{◌≡◌, IfOk};
 ghost use Rattle.click_lines.specs.Lines.{entry_line, line_text};
 
 use crate::call::call_line;
+use crate::escaping::push_words;
 use crate::reply::{push_number, reply_text};
-use crate::spelling::push_words;
+use click_base::sequence::Sequence;
 use click_router::{Call, Reply};
-use click_text::sequence::Sequence;
 use std::alloc::{AllocError, Global};
 
 /// What a line says: a seat, the call that it made, and the text of the reply.

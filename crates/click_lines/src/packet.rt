@@ -2,21 +2,21 @@
 
 ghost use Rattle.std.specs.Prelude.{◌≡◌, ◌++◌, IfOk, MatchOption, OnOk};
 ghost use Rattle.click_lines.specs.Digits.{IsPacketOf, SpellsNone};
-ghost use Rattle.click_lines.specs.Lines.{is_unmarked, packet_word, packets_word};
-ghost use Rattle.click_lines.specs.Reading.{ReadsMarks, ReadsPacket, ReadsPackets};
+ghost use Rattle.click_lines.specs.Lines.{has_no_annotations, packet_word, packets_word};
+ghost use Rattle.click_lines.specs.Reading.{ReadsAnnotations, ReadsPacket, ReadsPackets};
 
 use crate::digits::{HexFault, hex_text, packet_of};
 use crate::parts::cut;
 use crate::reply::push_number;
+use click_base::sequence::Sequence;
 use click_classes::{address, decimal_number};
 use click_handlers::push_dotted;
 use click_packet::{Packet, StoredPacket};
-use click_text::sequence::Sequence;
 use std::alloc::{AllocError, Global};
 
 /// Whether a packet has the paint and the destination with which one enters.
-fn is_unmarked(packet: &StoredPacket) -> bool
-    ensures { result ≡ is_unmarked packet.now }
+fn has_no_annotations(packet: &StoredPacket) -> bool
+    ensures { result ≡ has_no_annotations packet.now }
 {
     packet.paint() == 0 && packet.destination() == [0; 4]
 }
@@ -26,7 +26,7 @@ pub fn packet_word(alloc: Global, packet: &StoredPacket) -> Result<Vec<u8>, Allo
     ensures { IfOk result (λ text. text.items ≡ packet_word packet.now) }
 {
     let mut text = hex_text(alloc, packet.bytes())?;
-    if !is_unmarked(packet) {
+    if !has_no_annotations(packet) {
         text.push(b':')?;
         push_number(&mut text, u64::from(packet.paint()))?;
         text.push(b':')?;
@@ -54,12 +54,12 @@ pub fn packets_word(alloc: Global, packets: &[StoredPacket]) -> Result<Vec<u8>, 
 pub fn packet_in(alloc: Global, word: &[u8]) -> Result<Option<StoredPacket>, AllocError>
     ensures { IfOk result (ReadsPacket word.now) }
 {
-    let (digits, marks) = cut(word, b':');
-    let Some(mut packet) = unmarked(alloc, digits)? else {
+    let (digits, annotations) = cut(word, b':');
+    let Some(mut packet) = unannotated_packet(alloc, digits)? else {
         return Ok(None);
     };
-    if !marks.is_empty() {
-        let Some(()) = mark(&mut packet, marks) else {
+    if !annotations.is_empty() {
+        let Some(()) = read_annotations(&mut packet, annotations) else {
             return Ok(None);
         };
     }
@@ -67,7 +67,7 @@ pub fn packet_in(alloc: Global, word: &[u8]) -> Result<Option<StoredPacket>, All
 }
 
 /// The packet of these digits, if they are one.
-fn unmarked(alloc: Global, digits: &[u8]) -> Result<Option<Packet>, AllocError>
+fn unannotated_packet(alloc: Global, digits: &[u8]) -> Result<Option<Packet>, AllocError>
     ensures { IfOk result (λ read. MatchOption read (SpellsNone digits.now) (IsPacketOf digits.now)) }
 {
     match packet_of(alloc, digits) {
@@ -78,8 +78,8 @@ fn unmarked(alloc: Global, digits: &[u8]) -> Result<Option<Packet>, AllocError>
 }
 
 /// Gives a packet the paint and the destination that stand in a text with a colon between them, if two such stand there.
-fn mark(packet: &mut Packet, text: &[u8]) -> Option<()>
-    ensures { ReadsMarks text.now packet.old packet.new result }
+fn read_annotations(packet: &mut Packet, text: &[u8]) -> Option<()>
+    ensures { ReadsAnnotations text.now packet.old packet.new result }
 {
     let (paint, destination) = cut(text, b':');
     let paint = decimal_number(paint, 0, 255).ok()?;

@@ -5,14 +5,14 @@ ghost use Rattle.click_lines.specs.Lines.{line_text};
 ghost use Rattle.click_lines.specs.Reading.{IsLaidOut, ReadsCall, ReadsLine, ReadsNumber};
 ghost use Rattle.click_router.specs.declared.call.Call.{Call};
 
+use crate::escaping::unescaped;
 use crate::kind::{Kind, kind_of};
 use crate::line::Line;
 use crate::packet::{packet_in, packets_in};
 use crate::parts::cut;
-use crate::spelling::unspelled;
+use click_base::sequence::Sequence;
 use click_classes::decimal_number;
 use click_router::Call;
-use click_text::sequence::Sequence;
 use std::alloc::{AllocError, Global};
 
 /// What a line says, which has no line end. A line is read where it is written just so, and then as that of which it is written.
@@ -44,7 +44,7 @@ fn parsed(alloc: Global, line: &[u8]) -> Result<Option<Line>, AllocError>
     let Some(call) = call_in(alloc, call)? else {
         return Ok(None);
     };
-    let Some(reply) = unspelled(alloc, reply)? else {
+    let Some(reply) = unescaped(alloc, reply)? else {
         return Ok(None);
     };
     Ok(Some(Line { seat, call, reply }))
@@ -69,7 +69,7 @@ fn call_in(alloc: Global, words: &[u8]) -> Result<Option<Call>, AllocError>
     let Some(kind) = kind_of(word) else {
         return Ok(None);
     };
-    let Some(first) = unspelled(alloc, first)? else {
+    let Some(first) = unescaped(alloc, first)? else {
         return Ok(None);
     };
     call_of(alloc, kind, first, last)
@@ -85,11 +85,11 @@ fn call_of(
     ensures { IfOk result (λ read. (c : Call) → IsLaidOut kind first last.now c → read ≡ Some c) }
 {
     match kind {
-        Kind::Read => match unspelled(alloc, last)? {
+        Kind::Read => match unescaped(alloc, last)? {
             Some(text) => Ok(Some(Call::Read { name: first, text })),
             None => Ok(None),
         },
-        Kind::Write => match unspelled(alloc, last)? {
+        Kind::Write => match unescaped(alloc, last)? {
             Some(text) => Ok(Some(Call::Write { name: first, text })),
             None => Ok(None),
         },

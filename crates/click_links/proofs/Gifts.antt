@@ -14,12 +14,12 @@ use Rattle.click_router.specs.declared.call.Reply.TheVariants as reply
 use Rattle.click_desk.specs.Polls.{MayTake}
 use Rattle.click_links.specs.declared.turns.Tally.{Tally}
 use Rattle.click_links.specs.Ends.{Attempt}
-use Rattle.click_links.specs.Turns.{gave, told, AreOf, GivesNone, Sends, SendsUntil, Ends, Breaks}
-use Rattle.click_links.specs.Forwarding.{packets_in, given, gifts, sendings, IsForwarding, Forwards, sent_by, given_by, gifts_by}
+use Rattle.click_links.specs.Turns.{gave, transmit_call, AreOf, GivesNone, Sends, SendsUntil, Ends, Breaks}
+use Rattle.click_links.specs.Forwarding.{packets_in, given, packets_given, sendings, IsForwarding, Forwards, sent_by, given_by, gifts_by}
 
-gifts_append : (ms ns : List (Call × Reply)) → gifts (ms ++ ns) ≡ gifts ms ++ gifts ns
+gifts_append : (ms ns : List (Call × Reply)) → packets_given (ms ++ ns) ≡ packets_given ms ++ packets_given ns
 gifts_append [] ns = refl
-gifts_append (m ∷ ms) ns = ap (λ l. given m.0 m.1 ++ l) (gifts_append ms ns) ∙ sym (append_assoc (given m.0 m.1) (gifts ms) (gifts ns))
+gifts_append (m ∷ ms) ns = ap (λ l. given m.0 m.1 ++ l) (gifts_append ms ns) ∙ sym (append_assoc (given m.0 m.1) (packets_given ms) (packets_given ns))
 
 sendings_append : (ts us : List Attempt) → sendings (ts ++ us) ≡ sendings ts ++ sendings us
 sendings_append ts us = map-append (λ (t : Attempt). (t.device, t.packet)) ts us
@@ -47,7 +47,7 @@ module _ (devices : List (List ℕ)) where
     grown = g.grown ∙ (ap (λ l. l ++ g.made) f.grown ∙ append_assoc calls f.made g.made);
     sent = g.sent ∙ (ap (λ l. l ++ g.tries) f.sent ∙ append_assoc a f.tries g.tries);
     own = All-append OfThese f.made g.made f.own g.own;
-    each = gifts_append f.made g.made ∙ (ap (λ l. l ++ gifts g.made) f.each ∙ (ap (λ l. sendings f.tries ++ l) g.each ∙ sym (sendings_append f.tries g.tries)));
+    each = gifts_append f.made g.made ∙ (ap (λ l. l ++ packets_given g.made) f.each ∙ (ap (λ l. sendings f.tries ++ l) g.each ∙ sym (sendings_append f.tries g.tries)));
   }
 
   -- nothing more was done
@@ -73,7 +73,7 @@ module _ (devices : List (List ℕ)) where
       (subst (λ d. Contains devices d) (sym (All-head (λ (u : Attempt). u.device ≡ device) t ts own)) has)
       (own_gave device has ts (All-tail (λ (u : Attempt). u.device ≡ device) t ts own))
 
-  gifts_gave : (ts : List Attempt) → gifts (map gave ts) ≡ sendings ts
+  gifts_gave : (ts : List Attempt) → packets_given (map gave ts) ≡ sendings ts
   gifts_gave [] = refl
   gifts_gave (t ∷ ts) = ap (λ l. (t.device, t.packet) ∷ l) (gifts_gave ts)
 
@@ -99,12 +99,12 @@ none_in (reply.Sent (Some p)) h = absurd cc
 none_in reply.NoDevice h = refl
 
 -- the last Transmit gave none, or there was none such
-last_done : (device : List ℕ) (more : Bool) (n : ℕ) (last : List Reply) (calls calls2 : List (Call × Reply)) (a : List Attempt) → calls2 ≡ calls ++ map (told device) last → Ends GivesNone 256 more n last
+last_done : (device : List ℕ) (more : Bool) (n : ℕ) (last : List Reply) (calls calls2 : List (Call × Reply)) (a : List Attempt) → calls2 ≡ calls ++ map (transmit_call device) last → Ends GivesNone 256 more n last
     → Forwards (device ∷ []) calls calls2 a a
 last_done device true n last calls calls2 a made ends =
-    forwards_same (device ∷ []) calls calls calls2 a a a (forwards_none (device ∷ []) calls a) (made ∙ (ap (λ l. calls ++ map (told device) l) ends.1 ∙ append-nil calls)) refl
+    forwards_same (device ∷ []) calls calls calls2 a a a (forwards_none (device ∷ []) calls a) (made ∙ (ap (λ l. calls ++ map (transmit_call device) l) ends.1 ∙ append-nil calls)) refl
 last_done device false n last calls calls2 a made ends =
-    forwards_call (device ∷ []) calls calls2 a (told device ends.1) (made ∙ ap (λ l. calls ++ map (told device) l) ends.2) (0, omega arith, refl)
+    forwards_call (device ∷ []) calls calls2 a (transmit_call device ends.1) (made ∙ ap (λ l. calls ++ map (transmit_call device) l) ends.2) (0, omega arith, refl)
     (ap (λ (l : List Packet). map (λ p. (device, p)) l) (none_in ends.1 ends.3))
 
 -- packets of the device were sent until it gave none, or as many as may be
@@ -198,11 +198,11 @@ of_none : (device : List ℕ) → of_device device [] ≡ []
 unfolding of_device
 of_none device = refl
 
-of_gifts : (device : List ℕ) (ms : List (Call × Reply)) → of_device device (gifts ms) ≡ gifts_by device ms
+of_gifts : (device : List ℕ) (ms : List (Call × Reply)) → of_device device (packets_given ms) ≡ gifts_by device ms
 of_gifts device [] = of_none device
 of_gifts device (m ∷ ms) =
-    of_append device (given m.0 m.1) (gifts ms)
-    ∙ (ap (λ l. l ++ of_device device (gifts ms)) (of_given device m.0 m.1) ∙ ap (λ l. given_by device m.0 m.1 ++ l) (of_gifts device ms))
+    of_append device (given m.0 m.1) (packets_given ms)
+    ∙ (ap (λ l. l ++ of_device device (packets_given ms)) (of_given device m.0 m.1) ∙ ap (λ l. given_by device m.0 m.1 ++ l) (of_gifts device ms))
 
 sent_append : (device : List ℕ) (ts us : List Attempt) → sent_by device (ts ++ us) ≡ sent_by device ts ++ sent_by device us
 sent_append device [] us = refl

@@ -1,7 +1,7 @@
-pub mod EachTurns
-pub mod Fated
+pub mod DatagramFates
+pub mod ForwarderEquations
 pub mod Gifts
-pub mod Known
-mod Going
-pub mod Turning
+mod PacketAttempts
+pub mod PacketTallies
+pub mod TurnSequences
 pub mod Zips

@@ -2,17 +2,17 @@
 use Rattle.std.specs.Prelude.{◌≡◌, ◌↔◌, ℕ, ◌<◌, ◌≤◌, ◌+◌, ◌⊎◌, true, false, List, [], ◌∷◌, ◌++◌, length, map}
 use Rattle.click_packet.specs.Packet.{Packet, longest_packet}
 use Rattle.click_links.specs.declared.datagram.Datagram.{Datagram}
-use Rattle.click_links.specs.declared.datagram.Fate.{Fate}
-use Rattle.click_links.specs.declared.datagram.Fate.TheVariants.{Put, Stranger, TooLong, NoRoom, NoMemory}
+use Rattle.click_links.specs.declared.datagram.DatagramFate.{DatagramFate}
+use Rattle.click_links.specs.declared.datagram.DatagramFate.TheVariants.{Put, Stranger, TooLong, NoRoom, NoMemory}
 use Rattle.click_links.specs.declared.dropped.Dropped.{Dropped}
 use Rattle.click_links.specs.Ends.{Offer, offer, Offering}
 
 -- a datagram that came, and what became of it
 pub record Heard : Type 0 where
   pub datagram : Datagram
-  pub fate : Fate
+  pub fate : DatagramFate
 
-abbrev pub heard : Datagram → Fate → Heard
+abbrev pub heard : Datagram → DatagramFate → Heard
 heard datagram fate = record { datagram = datagram; fate = fate }
 
 -- the packet of these bytes
@@ -20,7 +20,7 @@ abbrev pub packet_of : List ℕ → Packet
 packet_of bytes = record { bytes = bytes; paint = 0; destination = 0 ∷ 0 ∷ 0 ∷ 0 ∷ [] }
 
 -- what is put of a datagram with this fate
-abbrev pub put_of : Fate → List ℕ → List Packet
+abbrev pub put_of : DatagramFate → List ℕ → List Packet
 put_of Put bytes = packet_of bytes ∷ []
 put_of Stranger bytes = []
 put_of TooLong bytes = []
@@ -33,7 +33,7 @@ puts [] = []
 puts (h ∷ hs) = put_of h.fate h.datagram.bytes ++ puts hs
 
 -- what the feed was offered of a datagram with this fate
-abbrev pub asked_of : Fate → List ℕ → List Offer
+abbrev pub asked_of : DatagramFate → List ℕ → List Offer
 asked_of Put bytes = offer (packet_of bytes) true ∷ []
 asked_of Stranger bytes = []
 asked_of TooLong bytes = []
@@ -46,32 +46,32 @@ asks [] = []
 asks (h ∷ hs) = asked_of h.fate h.datagram.bytes ++ asks hs
 
 -- how many are due to a fate, added up
-abbrev pub counted : (Fate → ℕ) → List Heard → ℕ
+abbrev pub counted : (DatagramFate → ℕ) → List Heard → ℕ
 counted f [] = 0
 counted f (h ∷ hs) = f h.fate + counted f hs
 
-abbrev pub of_stranger : Fate → ℕ
+abbrev pub of_stranger : DatagramFate → ℕ
 of_stranger Put = 0
 of_stranger Stranger = 1
 of_stranger TooLong = 0
 of_stranger NoRoom = 0
 of_stranger NoMemory = 0
 
-abbrev pub of_long : Fate → ℕ
+abbrev pub of_long : DatagramFate → ℕ
 of_long Put = 0
 of_long Stranger = 0
 of_long TooLong = 1
 of_long NoRoom = 0
 of_long NoMemory = 0
 
-abbrev pub of_full : Fate → ℕ
+abbrev pub of_full : DatagramFate → ℕ
 of_full Put = 0
 of_full Stranger = 0
 of_full TooLong = 0
 of_full NoRoom = 1
 of_full NoMemory = 0
 
-abbrev pub of_memory : Fate → ℕ
+abbrev pub of_memory : DatagramFate → ℕ
 of_memory Put = 0
 of_memory Stranger = 0
 of_memory TooLong = 0
@@ -80,7 +80,7 @@ of_memory NoMemory = 1
 
 -- The fate is the one that is due to the datagram, where so many packets were put before in a feed of so many places. What is from elsewhere than the peer is a stranger; what
 -- else has more bytes than a packet is too long; of the rest, none finds no room before as many were put as there are places. For want of memory only one of the rest is dropped.
-pub record IsDue (places before : ℕ) (datagram : Datagram) (fate : Fate) : Type 0 where
+pub record IsDue (places before : ℕ) (datagram : Datagram) (fate : DatagramFate) : Type 0 where
   pub stranger : (fate ≡ Stranger) ↔ (datagram.known ≡ false)
   pub long : (fate ≡ TooLong) ↔ ((datagram.known ≡ true) × (longest_packet < length datagram.bytes))
   pub room : fate ≡ NoRoom → places ≤ before
@@ -116,10 +116,10 @@ abbrev pub AllBelow : Dropped → ℕ → Type 0
 AllBelow d n = (d.strangers < n) × (d.too_long < n) × (d.no_room < n) × (d.no_memory < n)
 
 -- the counts with this one more
-abbrev pub added : Dropped → Fate → Dropped
+abbrev pub added : Dropped → DatagramFate → Dropped
 added d f = record { strangers = d.strangers + of_stranger f; too_long = d.too_long + of_long f; no_room = d.no_room + of_full f; no_memory = d.no_memory + of_memory f }
 
 -- no more came, or one more that is counted
 abbrev pub Steps : List Datagram → List Datagram → Offering → Offering → Dropped → Dropped → Type 0
 Steps came came2 from to d d2 =
-    ((came2 ≡ came) × (to ≡ from) × (d2 ≡ d)) ⊎ ((datagram : Datagram) × (fate : Fate) × Hears came came2 from to (heard datagram fate ∷ []) × (d2 ≡ added d fate))
+    ((came2 ≡ came) × (to ≡ from) × (d2 ≡ d)) ⊎ ((datagram : Datagram) × (fate : DatagramFate) × Hears came came2 from to (heard datagram fate ∷ []) × (d2 ≡ added d fate))

@@ -33,9 +33,9 @@ given call.Round r = []
 given (call.Transmit from) r = map (λ p. (from, p)) (packets_in r)
 
 -- the packets that the Transmits among these calls gave, in order, each with its device
-abbrev pub gifts : List (Call × Reply) → List (List ℕ × Packet)
-gifts [] = []
-gifts (m ∷ ms) = given m.0 m.1 ++ gifts ms
+abbrev pub packets_given : List (Call × Reply) → List (List ℕ × Packet)
+packets_given [] = []
+packets_given (m ∷ ms) = given m.0 m.1 ++ packets_given ms
 
 -- what was sent, in order, with its device
 abbrev pub sendings : List Attempt → List (List ℕ × Packet)
@@ -60,7 +60,7 @@ pub record Forwards (devices : List (List ℕ)) (calls calls2 : List (Call × Re
   pub grown : calls2 ≡ calls ++ made
   pub sent : after ≡ before ++ tries
   pub own : All (λ m. IsForwarding devices m.0) made
-  pub each : gifts made ≡ sendings tries
+  pub each : packets_given made ≡ sendings tries
 
 -- the packets that were sent by the link of a device, in order
 abbrev pub sent_by : List ℕ → List Attempt → List Packet

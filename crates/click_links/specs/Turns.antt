@@ -9,14 +9,14 @@ use Rattle.click_router.specs.declared.call.Call.{Call}
 use Rattle.click_router.specs.declared.call.Reply.{Reply}
 use Rattle.click_router.specs.declared.call.Reply.TheVariants as reply
 use Rattle.click_desk.specs.Polls.{MayTake}
-use Rattle.click_desk.specs.Sittings.{Sitting}
+use Rattle.click_desk.specs.SeatStates.{SeatState}
 use Rattle.click_links.specs.declared.device.Device.{Device}
 use Rattle.click_links.specs.declared.turns.Tally.{Tally}
 use Rattle.click_links.specs.declared.turns.Turn.{Turn}
 use Rattle.click_links.specs.Ends.{Attempt}
 
 -- the seat is the one of that number at that desk with those feeds, as before
-abbrev pub SameSeat : Sitting → Sitting → Type 0
+abbrev pub SameSeat : SeatState → SeatState → Type 0
 SameSeat old new = (new.desk ≡ old.desk) × (new.number ≡ old.number) × (new.feeds ≡ old.feeds)
 
 -- the names of these devices
@@ -38,8 +38,8 @@ abbrev pub gave : Attempt → Call × Reply
 gave t = (transmit t.device, reply.Sent (Some t.packet))
 
 -- a Transmit, with its reply
-abbrev pub told : List ℕ → Reply → Call × Reply
-told device r = (transmit device, r)
+abbrev pub transmit_call : List ℕ → Reply → Call × Reply
+transmit_call device r = (transmit device, r)
 
 -- each is of this device
 abbrev pub AreOf : List ℕ → List Attempt → Type 0
@@ -90,7 +90,7 @@ GivesNone r = sends_packet r ≡ false
 pub record SendsUntil (device : List ℕ) (calls calls2 : List (Call × Reply)) (before after : List Attempt) (tally : Tally) (more : Bool) : Type 0 where
   pub tries : List Attempt
   pub last : List Reply
-  pub made : calls2 ≡ (calls ++ map gave tries) ++ map (told device) last
+  pub made : calls2 ≡ (calls ++ map gave tries) ++ map (transmit_call device) last
   pub sent : after ≡ before ++ tries
   pub own : AreOf device tries
   pub ends : Ends GivesNone 256 more (length tries) last

@@ -1,6 +1,6 @@
 //! What an operator reads of a link while it runs.
 
-use crate::datagram::Fate;
+use crate::datagram::DatagramFate;
 use std::sync::atomic::{AtomicU64, Ordering};
 
 /// Counts of a link, which its receiver and the forwarder add to as they go, and anybody may read. No clause speaks of their values.
@@ -18,7 +18,7 @@ pub struct Counts {
 
 /// The counts of a link as they were read, one after another.
 #[derive(Clone, Copy, Debug, PartialEq, Eq)]
-pub struct Counted {
+pub struct CountSnapshot {
     /// Datagrams that came.
     pub received: u64,
     /// Of these, the ones from elsewhere than the peer.
@@ -61,8 +61,8 @@ impl Counts {
     }
 
     /// What was counted so far.
-    pub fn read(&self) -> Counted {
-        Counted {
+    pub fn read(&self) -> CountSnapshot {
+        CountSnapshot {
             received: read(&self.received),
             strangers: read(&self.strangers),
             too_long: read(&self.too_long),
@@ -75,14 +75,14 @@ impl Counts {
     }
 
     /// A datagram came, with this fate.
-    pub(crate) fn came(&self, fate: Fate) {
+    pub(crate) fn came(&self, fate: DatagramFate) {
         one_more(&self.received);
         match fate {
-            Fate::Put => {}
-            Fate::Stranger => one_more(&self.strangers),
-            Fate::TooLong => one_more(&self.too_long),
-            Fate::NoRoom => one_more(&self.no_room),
-            Fate::NoMemory => one_more(&self.no_memory),
+            DatagramFate::Put => {}
+            DatagramFate::Stranger => one_more(&self.strangers),
+            DatagramFate::TooLong => one_more(&self.too_long),
+            DatagramFate::NoRoom => one_more(&self.no_room),
+            DatagramFate::NoMemory => one_more(&self.no_memory),
         }
     }
 

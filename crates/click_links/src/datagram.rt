@@ -1,6 +1,6 @@
 //! Datagrams, and what becomes of them.
 
-use click_text::sequence::Sequence;
+use click_base::sequence::Sequence;
 
 /// A datagram that came.
 #[derive(Drop)]
@@ -12,7 +12,7 @@ pub struct Datagram {
 
 /// What became of a datagram that came.
 #[derive(Clone, Copy, Debug, PartialEq, Eq)]
-pub enum Fate {
+pub enum DatagramFate {
     /// It is a packet of the feed.
     Put,
     /// It is not from the peer.

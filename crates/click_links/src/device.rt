@@ -3,7 +3,7 @@
 ghost use Rattle.std.specs.Prelude.{◌≡◌};
 
 use crate::counts::Counts;
-use click_text::sequence::Sequence;
+use click_base::sequence::Sequence;
 
 /// A device of the configuration that a link serves, by its name there, with the link's counts.
 #[derive(Drop)]

@@ -3,7 +3,7 @@
 ghost use Rattle.std.specs.Prelude.{◌≡◌, ◌-◌, ◌^◌};
 ghost use Rattle.click_links.specs.Fates.{added, AllBelow, nothing_dropped};
 
-use crate::datagram::Fate;
+use crate::datagram::DatagramFate;
 
 /// How many datagrams were dropped, by why.
 #[derive(Clone, Copy, Debug, PartialEq, Eq)]
@@ -32,16 +32,16 @@ impl Dropped {
     }
 
     /// With one more of this fate.
-    pub(crate) fn add(&mut self, fate: Fate)
+    pub(crate) fn add(&mut self, fate: DatagramFate)
         requires { AllBelow self.old (2 ^ 64 - 1) }
         ensures { self.new ≡ added self.old fate }
     {
         match fate {
-            Fate::Put => {}
-            Fate::Stranger => self.strangers += 1,
-            Fate::TooLong => self.too_long += 1,
-            Fate::NoRoom => self.no_room += 1,
-            Fate::NoMemory => self.no_memory += 1,
+            DatagramFate::Put => {}
+            DatagramFate::Stranger => self.strangers += 1,
+            DatagramFate::TooLong => self.too_long += 1,
+            DatagramFate::NoRoom => self.no_room += 1,
+            DatagramFate::NoMemory => self.no_memory += 1,
         }
     }
 }

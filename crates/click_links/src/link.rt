@@ -3,8 +3,8 @@
 ghost use Rattle.std.specs.Prelude.{◌≡◌, ◌++◌, ◌∷◌, [], IfOk, OnErr, if◌then◌else◌};
 ghost use Rattle.click_links.specs.Ends.{attempt};
 
+use click_base::sequence::Sequence;
 use click_packet::StoredPacket;
-use click_text::sequence::Sequence;
 
 /// The end of a link at which datagrams come failed for good.
 #[derive(Clone, Copy, Debug, PartialEq, Eq)]

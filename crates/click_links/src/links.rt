@@ -8,9 +8,9 @@ ghost use Rattle.click_links.specs.Turns.{names_of};
 use crate::device::Device;
 use crate::intake::Intake;
 use crate::run::Receiving;
+use click_base::sequence::Sequence;
 use click_rings::opening::{FeedFault, feed};
 use click_rings::{Feed, Inlet};
-use click_text::sequence::Sequence;
 use std::alloc::{AllocError, Global};
 
 /// How many packets may wait in the feed of a link.
@@ -23,12 +23,6 @@ pub struct Links<L> {
     pub inlets: Vec<Inlet>,
     ghost fed: { inlets.items ≡ map (λ r. record { device = r.device; ring = r.intake.feed.ring }) receivers.items },
     ghost fresh: { All (λ r. IsNewFeed r.intake) receivers.items },
-}
-
-fn copy(alloc: Global, name: &[u8]) -> Result<Sequence<u8>, AllocError>
-    ensures { IfOk result (λ copy. copy ≡ name.now) }
-{
-    Ok(Sequence::of(Vec::from_slice(alloc, name)?))
 }
 
 /// A feed of the device, with its inlet.
@@ -64,7 +58,7 @@ impl<L: Drop> Links<L> {
             mut inlets,
         } = self;
         let (feed, inlet) = feed_of(alloc, name)?;
-        let receiver = Receiving::new(copy(alloc, name)?, Intake::of(feed), link);
+        let receiver = Receiving::new(Sequence::copy_of(alloc, name)?, Intake::of(feed), link);
         receivers.push(receiver)?;
         inlets.push(inlet)?;
         Ok(Links { receivers, inlets })
@@ -76,7 +70,7 @@ impl<L: Drop> Links<L> {
     {
         let mut devices = Vec::new(alloc);
         for receiver in &self.receivers {
-            devices.push(Device::new(copy(alloc, receiver.device.as_slice())?))?;
+            devices.push(Device::new(Sequence::copy_of(alloc, receiver.device.as_slice())?))?;
         }
         Ok(devices)
     }

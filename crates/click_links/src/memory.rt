@@ -5,20 +5,20 @@ ghost use Rattle.click_links.specs.Ends.{nothing};
 
 use crate::datagram::Datagram;
 use crate::link::{Inbound, LinkFailed, Outbound};
-use crate::trials::Trials;
+use crate::send_attempts::SendAttempts;
+use click_base::sequence::Sequence;
 use click_packet::StoredPacket;
-use click_text::sequence::Sequence;
 use std::alloc::{AllocError, Global};
 use std::marker::Model;
 
 /// Datagrams that come in their order. After the last the link fails.
 #[derive(Drop)]
-pub struct Listed {
+pub struct MemoryIn {
     all: Vec<Datagram>,
     next: usize,
 }
 
-impl Model for Listed {
+impl Model for MemoryIn {
     ghost use Rattle.std.specs.Prelude.{◌≤◌, vec_len};
     ghost use Rattle.click_links.specs.Ends.{Reading};
 
@@ -29,16 +29,16 @@ impl Model for Listed {
     ghost invariant = { λ l. l.next ≤ vec_len l.all };
 }
 
-impl Listed {
+impl MemoryIn {
     /// These datagrams, of which none has come.
-    pub fn new(all: Vec<Datagram>) -> Listed
+    pub fn new(all: Vec<Datagram>) -> MemoryIn
         ensures { result ≡ record { all = all.items; next = 0 } }
     {
-        Listed { all, next: 0 }
+        MemoryIn { all, next: 0 }
     }
 }
 
-impl Inbound for Listed {
+impl Inbound for MemoryIn {
     ghost came = { λ l. take l.next l.all };
 
     ghost current = { λ l. slice_index_or l.all (l.next - 1) nothing };
@@ -72,15 +72,15 @@ impl Inbound for Listed {
 
 /// Keeps the packets that went out over the links of these devices, up to so many in all. One more, one of another device, or one for which there is no memory, is lost.
 #[derive(Drop)]
-pub struct Kept {
+pub struct MemoryOut {
     alloc: Global,
     devices: Vec<Sequence<u8>>,
     most: usize,
     all: Vec<(Sequence<u8>, StoredPacket)>,
-    tried: Trials,
+    tried: SendAttempts,
 }
 
-impl Model for Kept {
+impl Model for MemoryOut {
     ghost use Rattle.std.specs.Prelude.{◌≡◌, List};
     ghost use Rattle.click_links.specs.Ends.{Attempt, gone};
 
@@ -91,19 +91,19 @@ impl Model for Kept {
     ghost invariant = { λ k. k.all.items ≡ gone k.tried };
 }
 
-impl Kept {
+impl MemoryOut {
     ghost use Rattle.click_links.specs.Ends.{gone};
 
     /// Room for so many packets of these devices, of which none was sent.
-    pub fn new(alloc: Global, devices: Vec<Sequence<u8>>, most: usize) -> Kept
+    pub fn new(alloc: Global, devices: Vec<Sequence<u8>>, most: usize) -> MemoryOut
         ensures { result ≡ [] }
     {
-        Kept {
+        MemoryOut {
             alloc,
             devices,
             most,
             all: Vec::new(alloc),
-            tried: Trials::new(),
+            tried: SendAttempts::new(),
         }
     }
 
@@ -115,7 +115,7 @@ impl Kept {
     }
 }
 
-impl Outbound for Kept {
+impl Outbound for MemoryOut {
     ghost tried = { λ k. k };
 
     fn send(&mut self, device: &Sequence<u8>, packet: &StoredPacket) -> bool {
@@ -158,6 +158,6 @@ fn copies(
 ) -> Result<(Sequence<u8>, StoredPacket), AllocError>
     ensures { IfOk result (λ r. (r.0 ≡ device.now) × (r.1 ≡ packet.now)) }
 {
-    let device = Sequence::of(Vec::from_slice(alloc, device.as_slice())?);
+    let device = Sequence::copy_of(alloc, device.as_slice())?;
     Ok((device, packet.copy(alloc)?))
 }

@@ -5,7 +5,7 @@ ghost use Rattle.click_links.specs.Fates.{put_of, asked_of, AllBelow, IsDue, Hea
 ghost use Rattle.click_links.specs.declared.datagram.Datagram.{Datagram as ADatagram};
 
 use crate::counts::Counts;
-use crate::datagram::Fate;
+use crate::datagram::DatagramFate;
 use crate::dropped::Dropped;
 use crate::intake::Intake;
 use crate::link::{Inbound, LinkFailed};
@@ -31,27 +31,27 @@ pub struct Received {
 }
 
 /// Offers the packet of the datagram that came last to the feed, where it is from the peer and short enough, and where there is memory for it.
-fn offer_one<L: Inbound>(alloc: Global, intake: &mut Intake, link: &L) -> Fate
+fn offer_one<L: Inbound>(alloc: Global, intake: &mut Intake, link: &L) -> DatagramFate
     ensures ring { (intake.new.feed.ring ≡ intake.old.feed.ring) × (intake.new.feed.places ≡ intake.old.feed.places) }
     ensures asked { intake.new.asked ≡ intake.old.asked ++ asked_of result (L.current link.now).bytes }
     ensures put { intake.new.feed.put ≡ intake.old.feed.put ++ put_of result (L.current link.now).bytes }
     ensures due { IsDue intake.old.feed.places (length intake.old.feed.put) (L.current link.now) result }
 {
     if !link.is_known() {
-        return Fate::Stranger;
+        return DatagramFate::Stranger;
     }
     let Ok(packet) = Packet::of(link.bytes()) else {
-        return Fate::TooLong;
+        return DatagramFate::TooLong;
     };
     match PacketRoom::new(alloc) {
         Ok(room) => {
             if intake.offer(room, &packet) {
-                Fate::Put
+                DatagramFate::Put
             } else {
-                Fate::NoRoom
+                DatagramFate::NoRoom
             }
         }
-        Err(_) => Fate::NoMemory,
+        Err(_) => DatagramFate::NoMemory,
     }
 }
 
@@ -60,7 +60,7 @@ fn receive_one<L: Inbound>(
     alloc: Global,
     intake: &mut Intake,
     link: &mut L,
-) -> Result<Option<Fate>, LinkFailed>
+) -> Result<Option<DatagramFate>, LinkFailed>
     ensures ok { IfOk result (λ one. MatchOption one
         ((L.came link.new ≡ L.came link.old) × (intake.new ≡ intake.old))
         (λ fate. (datagram : ADatagram) × Hears (L.came link.old) (L.came link.new) intake.old intake.new (heard datagram fate ∷ []))) }
@@ -90,7 +90,7 @@ pub(crate) fn receive_next<L: Inbound>(
         Ok(Some(fate)) => {
             dropped.add(fate);
             counts.came(fate);
-            Ok(fate == Fate::Put)
+            Ok(fate == DatagramFate::Put)
         }
         Err(failed) => Err(failed),
     }

@@ -10,15 +10,15 @@ ghost use Rattle.click_links.specs.Forwarding.{Forwards};
 use crate::counts::Counts;
 use crate::device::Device;
 use crate::dropped::Dropped;
+use crate::forwarder::{Forwarder, RunStart};
 use crate::intake::Intake;
 use crate::link::{Inbound, LinkFailed, Outbound};
-use crate::outfit::{Began, Outfit};
 use crate::pause::Pause;
 use crate::receiving::{Ended, Received, receive_next};
-use crate::sharing::{Helper, Made, Shared, Sweeper};
+use crate::sharing::{Helper, Shared, SharedSweep, Sweeper};
+use click_base::sequence::Sequence;
 use click_desk::{Desk, DeskFault, Seat};
 use click_router::Handlers;
-use click_text::sequence::Sequence;
 use std::alloc::Global;
 use std::marker::Brand;
 use std::sync::Wait;
@@ -68,7 +68,7 @@ pub struct Linked<T, L, S> {
 }
 
 /// Puts what comes in the feed, as `receive` does, and helps with the sweeps.
-fn receive_helping<T: Handlers, L: Inbound, S: Outbound, R: Wait, B: Began>(
+fn receive_helping<T: Handlers, L: Inbound, S: Outbound, R: Wait, B: RunStart>(
     helper: &mut Helper<'_, '_, '_, T, S, R, B>,
     alloc: Global,
     intake: &mut Intake,
@@ -100,7 +100,7 @@ fn receive_helping<T: Handlers, L: Inbound, S: Outbound, R: Wait, B: Began>(
 }
 
 /// Receives until told to stop, or the link fails.
-fn hear<T: Handlers, L: Inbound, S: Outbound, R: Wait, B: Began>(
+fn run_receiver<T: Handlers, L: Inbound, S: Outbound, R: Wait, B: RunStart>(
     sweeper: &Sweeper<'_, '_, T, S, R, B>,
     receiving: Receiving<L>,
     stop: &AtomicBool,
@@ -137,7 +137,7 @@ fn hear_all<
     L: Inbound + Send + Drop,
     S: Outbound + Send + Drop,
     R: Threads + Wait + Sync,
-    B: Began + Send + Sync,
+    B: RunStart + Send + Sync,
 >(
     sweeper: &Sweeper<'_, '_, T, S, R, B>,
     mut links: Vec<Receiving<L>>,
@@ -155,7 +155,7 @@ fn hear_all<
         sweeper.rt,
         move || -> Receiving<L>
             ensures { (result.device ≡ last.device) × Receives (L.came last.link) (L.came result.link) last.intake result.intake result.received.dropped }
-        { hear(sweeper, last, stop, counts) },
+        { run_receiver(sweeper, last, stop, counts) },
         move || -> Vec<Receiving<L>>
             requires { IsSync R.row × IsSend T.row × IsSend L.row × IsSend S.row × IsSend B.row × (vec_len links ≤ length sweeper.now.devices.now) }
             ensures { AllZip (λ old new. (new.device ≡ old.device) × Receives (L.came old.link) (L.came new.link) old.intake new.intake new.received.dropped) links.items result.items
@@ -167,22 +167,22 @@ fn hear_all<
 }
 
 /// What a forwarder does after a sweep.
-enum Next {
+enum AfterSweep {
     Sweep,
     Sleep,
     End,
 }
 
-impl Next {
+impl AfterSweep {
     /// `made`: the sweep, or none where a receiver makes one. `last`: the run is over but for what is left to send. `spent`: as many sweeps were made since as there may be.
-    fn after(made: &Option<Made>, last: bool, spent: bool) -> Next {
+    fn after(made: &Option<SharedSweep>, last: bool, spent: bool) -> AfterSweep {
         match made {
-            None => Next::Sleep,
+            None => AfterSweep::Sleep,
             Some(made) => match &made.swept {
-                Err(DeskFault::HistoryFull) => Next::End,
-                Ok(_) if !made.is_all() && !spent => Next::Sweep,
-                _ if last => Next::End,
-                _ => Next::Sleep,
+                Err(DeskFault::HistoryFull) => AfterSweep::End,
+                Ok(_) if !made.is_all() && !spent => AfterSweep::Sweep,
+                _ if last => AfterSweep::End,
+                _ => AfterSweep::Sleep,
             },
         }
     }
@@ -190,7 +190,7 @@ impl Next {
 
 /// Sweeps until the run is over and nothing is left to do, or as much was done since as may be, or the history is full, which ends the receivers too. After a sweep that did nothing, or that was
 /// refused for want of memory, or while a receiver sweeps, it sleeps until it is woken, or its time is over.
-fn speak<T: Handlers, S: Outbound, R: Wait, B: Began>(
+fn run_forwarder<T: Handlers, S: Outbound, R: Wait, B: RunStart>(
     sweeper: &Sweeper<'_, '_, T, S, R, B>,
     stop: &AtomicBool,
 ) -> Option<DeskFault> {
@@ -201,10 +201,10 @@ fn speak<T: Handlers, S: Outbound, R: Wait, B: Began>(
         let last = sweeper.shared.are_over(stop);
         left = left.saturating_sub(u32::from(last));
         let made = sweeper.sweep();
-        match Next::after(&made, last, left == 0) {
-            Next::Sweep => pause.begin_anew(),
-            Next::Sleep => sweeper.sleep(&mut pause),
-            Next::End => {
+        match AfterSweep::after(&made, last, left == 0) {
+            AfterSweep::Sweep => pause.begin_anew(),
+            AfterSweep::Sleep => sweeper.sleep(&mut pause),
+            AfterSweep::End => {
                 stop.store(true, Ordering::SeqCst);
                 return made?.swept.err();
             }
@@ -219,7 +219,7 @@ fn run_beside<
     L: Inbound + Send + Drop,
     S: Outbound + Send + Drop,
     R: Threads + Wait + Sync,
-    B: Began + Send + Sync,
+    B: RunStart + Send + Sync,
 >(
     sweeper: &Sweeper<'_, '_, T, S, R, B>,
     links: Vec<Receiving<L>>,
@@ -238,7 +238,7 @@ fn run_beside<
             sweeper.shared.end();
             links
         },
-        move || -> Option<DeskFault> { speak(sweeper, stop) },
+        move || -> Option<DeskFault> { run_forwarder(sweeper, stop) },
     )
 }
 
@@ -248,7 +248,7 @@ fn run_as<
     L: Inbound + Send + Drop,
     S: Outbound + Send + Drop,
     R: Threads + Wait + Sync,
-    B: Began + Send + Sync,
+    B: RunStart + Send + Sync,
 >(
     rt: &R,
     alloc: Global,
@@ -267,7 +267,7 @@ fn run_as<
     ensures same { (result.seat.desk ≡ desk.now) × (result.seat.number ≡ B.number) × (result.seat.feeds ≡ B.feeds) }
     ensures forwards { Forwards B.names B.calls result.seat.calls B.tried (S.tried result.sender) }
 {
-    let shared: Shared<T, S, B> = Shared::new(Outfit::new(seat, sender));
+    let shared: Shared<T, S, B> = Shared::new(Forwarder::new(seat, sender));
     let sweeper = Sweeper {
         rt,
         alloc,

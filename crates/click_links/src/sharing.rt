@@ -4,10 +4,10 @@ ghost use Rattle.std.specs.Prelude.{◌≡◌, Some};
 ghost use Rattle.click_links.specs.Turns.{names_of};
 
 use crate::device::Device;
+use crate::forwarder::{Forwarder, RunStart};
 use crate::link::{Inbound, Outbound};
-use crate::outfit::{Began, Outfit};
 use crate::pause::Pause;
-use crate::sweeping::{Swept, sweep};
+use crate::sweeping::{SweepResult, sweep};
 use click_desk::{Desk, DeskFault};
 use click_router::Handlers;
 use std::alloc::Global;
@@ -23,8 +23,8 @@ const CALM: u32 = 8;
 
 /// What the threads of a run share.
 #[derive(Drop)]
-pub(crate) struct Shared<T, S: Outbound, B: Began> {
-    outfit: Mutex<Outfit<T, S, B>>,
+pub(crate) struct Shared<T, S: Outbound, B: RunStart> {
+    forwarder: Mutex<Forwarder<T, S, B>>,
     /// Somebody found the outfit taken, since who has it took it.
     missed: AtomicBool,
     /// The forwarder sleeps, or is about to, and nobody has woken it.
@@ -34,10 +34,10 @@ pub(crate) struct Shared<T, S: Outbound, B: Began> {
     wake: Parker,
 }
 
-impl<T, S: Outbound, B: Began> Shared<T, S, B> {
-    pub(crate) fn new(outfit: Outfit<T, S, B>) -> Shared<T, S, B> {
+impl<T, S: Outbound, B: RunStart> Shared<T, S, B> {
+    pub(crate) fn new(forwarder: Forwarder<T, S, B>) -> Shared<T, S, B> {
         Shared {
-            outfit: Mutex::new(outfit),
+            forwarder: Mutex::new(forwarder),
             missed: AtomicBool::new(false),
             asleep: AtomicBool::new(false),
             ended: AtomicBool::new(false),
@@ -46,15 +46,15 @@ impl<T, S: Outbound, B: Began> Shared<T, S, B> {
     }
 
     /// The outfit, when all threads have ended.
-    pub(crate) fn into_outfit(self) -> Outfit<T, S, B> {
+    pub(crate) fn into_outfit(self) -> Forwarder<T, S, B> {
         let Shared {
-            outfit,
+            forwarder,
             missed: _,
             asleep: _,
             ended: _,
             wake: _,
         } = self;
-        outfit.into_inner()
+        forwarder.into_inner()
     }
 
     /// Whether all receivers have ended, and the run was told to stop.
@@ -75,7 +75,7 @@ impl<T, S: Outbound, B: Began> Shared<T, S, B> {
     }
 
     /// The outfit. Where another has it, that one is told, and looks whether it was once it has given the outfit back.
-    fn take(&self) -> Option<MutexGuard<'_, Outfit<T, S, B>>> {
+    fn take(&self) -> Option<MutexGuard<'_, Forwarder<T, S, B>>> {
         if let Some(taken) = self.try_take() {
             return Some(taken);
         }
@@ -83,8 +83,8 @@ impl<T, S: Outbound, B: Began> Shared<T, S, B> {
         self.try_take()
     }
 
-    fn try_take(&self) -> Option<MutexGuard<'_, Outfit<T, S, B>>> {
-        let taken = self.outfit.try_lock()?;
+    fn try_take(&self) -> Option<MutexGuard<'_, Forwarder<T, S, B>>> {
+        let taken = self.forwarder.try_lock()?;
         self.missed.store(false, Ordering::SeqCst);
         Some(taken)
     }
@@ -92,12 +92,12 @@ impl<T, S: Outbound, B: Began> Shared<T, S, B> {
 
 /// A sweep that was made, and whether somebody found the outfit taken meanwhile.
 #[derive(Drop)]
-pub(crate) struct Made {
-    pub(crate) swept: Result<Swept, DeskFault>,
+pub(crate) struct SharedSweep {
+    pub(crate) swept: Result<SweepResult, DeskFault>,
     pub(crate) missed: bool,
 }
 
-impl Made {
+impl SharedSweep {
     /// Nothing is left to do.
     pub(crate) fn is_all(&self) -> bool {
         match &self.swept {
@@ -109,7 +109,7 @@ impl Made {
 
 /// Makes the sweeps of a run, from any of its threads.
 #[derive(Drop)]
-pub(crate) struct Sweeper<'a, 'r, T, S: Outbound, R: Wait, B: Began> {
+pub(crate) struct Sweeper<'a, 'r, T, S: Outbound, R: Wait, B: RunStart> {
     pub(crate) rt: &'a R,
     pub(crate) alloc: Global,
     pub(crate) desk: &'a Desk<T, &'r R>,
@@ -119,32 +119,32 @@ pub(crate) struct Sweeper<'a, 'r, T, S: Outbound, R: Wait, B: Began> {
     pub(crate) ghost of: { names_of devices.now ≡ B.names },
 }
 
-impl<'a, 'r, T: Handlers, S: Outbound, R: Wait, B: Began> Sweeper<'a, 'r, T, S, R, B> {
+impl<'a, 'r, T: Handlers, S: Outbound, R: Wait, B: RunStart> Sweeper<'a, 'r, T, S, R, B> {
     /// One sweep. `None` where another has the outfit, which then knows of it.
-    pub(crate) fn sweep(&self) -> Option<Made> {
+    pub(crate) fn sweep(&self) -> Option<SharedSweep> {
         let swept = self.sweep_alone()?;
         Some(self.made(swept))
     }
 
     /// Once the outfit was given back.
-    fn made(&self, swept: Result<Swept, DeskFault>) -> Made {
+    fn made(&self, swept: Result<SweepResult, DeskFault>) -> SharedSweep {
         let missed = self.shared.missed.load(Ordering::SeqCst);
-        Made { swept, missed }
+        SharedSweep { swept, missed }
     }
 
-    fn sweep_alone(&self) -> Option<Result<Swept, DeskFault>> {
-        let mut outfit = self.shared.take()?;
-        Some(self.sweep_with(&mut *outfit))
+    fn sweep_alone(&self) -> Option<Result<SweepResult, DeskFault>> {
+        let mut forwarder = self.shared.take()?;
+        Some(self.sweep_with(&mut *forwarder))
     }
 
-    fn sweep_with(&self, outfit: &mut Outfit<T, S, B>) -> Result<Swept, DeskFault> {
+    fn sweep_with(&self, forwarder: &mut Forwarder<T, S, B>) -> Result<SweepResult, DeskFault> {
         sweep(
             self.rt,
             self.alloc,
             self.desk,
-            &mut outfit.seat,
+            &mut forwarder.seat,
             self.devices,
-            &mut outfit.sender,
+            &mut forwarder.sender,
         )
     }
 
@@ -158,13 +158,13 @@ impl<'a, 'r, T: Handlers, S: Outbound, R: Wait, B: Began> Sweeper<'a, 'r, T, S, 
 
 /// A receiver, as one that sweeps.
 #[derive(Drop)]
-pub(crate) struct Helper<'s, 'a, 'r, T, S: Outbound, R: Wait, B: Began> {
+pub(crate) struct Helper<'s, 'a, 'r, T, S: Outbound, R: Wait, B: RunStart> {
     sweeper: &'s Sweeper<'a, 'r, T, S, R, B>,
     /// How many packets came alone, one after another.
     alone: u32,
 }
 
-impl<'s, 'a, 'r, T: Handlers, S: Outbound, R: Wait, B: Began> Helper<'s, 'a, 'r, T, S, R, B> {
+impl<'s, 'a, 'r, T: Handlers, S: Outbound, R: Wait, B: RunStart> Helper<'s, 'a, 'r, T, S, R, B> {
     pub(crate) fn new(sweeper: &'s Sweeper<'a, 'r, T, S, R, B>) -> Helper<'s, 'a, 'r, T, S, R, B> {
         Helper { sweeper, alone: 0 }
     }

@@ -20,7 +20,7 @@ const MOST_ROUNDS: u64 = 16;
 
 /// What a sweep did.
 #[derive(Drop)]
-pub struct Swept {
+pub struct SweepResult {
     /// The turn of each device, in the devices' order.
     pub turns: Vec<Turn>,
     /// How many Rounds had work.
@@ -29,7 +29,7 @@ pub struct Swept {
     pub more: bool,
 }
 
-impl Swept {
+impl SweepResult {
     /// No packet entered and none was sent, and no Round had work.
     pub fn is_idle(&self) -> bool
         ensures { IsTrue result ↔ (All IsIdleTurn self.now.turns.items × (self.now.rounds ≡ 0)) }
@@ -106,7 +106,7 @@ pub fn sweep<T: Handlers, S: Outbound, R: Wait>(
     seat: &mut Seat<T>,
     devices: &[Device],
     sender: &mut S,
-) -> Result<Swept, DeskFault>
+) -> Result<SweepResult, DeskFault>
     requires { seat.old.desk ≡ desk.now }
     ensures same { SameSeat seat.old seat.new }
     ensures ok { IfOk result (λ s. IsSweep (names_of devices.now) seat.old.feeds seat.old.calls seat.new.calls (S.tried sender.old) (S.tried sender.new) s.turns.items s.rounds s.more) }
@@ -114,7 +114,7 @@ pub fn sweep<T: Handlers, S: Outbound, R: Wait>(
 {
     let turns = forward_each(rt, alloc, desk, seat, devices, sender)?;
     let (rounds, more) = round_on(rt, desk, seat)?;
-    Ok(Swept {
+    Ok(SweepResult {
         turns,
         rounds,
         more,

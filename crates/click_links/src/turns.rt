@@ -11,9 +11,9 @@ ghost use Rattle.click_links.specs.Forwarding.{Forwards};
 
 use crate::device::Device;
 use crate::link::Outbound;
+use click_base::sequence::Sequence;
 use click_desk::{Desk, DeskFault, Seat};
-use click_router::{Call, Handlers, Kept, Recorded, Reply};
-use click_text::sequence::Sequence;
+use click_router::{Call, CompactReply, Handlers, Reply, StoredReply};
 use std::alloc::Global;
 use std::sync::Wait;
 
@@ -74,7 +74,7 @@ fn entered_of(reply: &Reply) -> u64
 }
 
 /// Takes packets from the feed of the device. Says how many entered.
-fn take_in<T: Handlers, R: Wait>(
+fn poll_feed<T: Handlers, R: Wait>(
     rt: &R,
     desk: &Desk<T, &R>,
     seat: &mut Seat<T>,
@@ -99,7 +99,7 @@ fn transmit<T: Handlers, R: Wait>(
     desk: &Desk<T, &R>,
     seat: &mut Seat<T>,
     device: &Sequence<u8>,
-) -> Result<Recorded, DeskFault>
+) -> Result<StoredReply, DeskFault>
     requires { seat.old.desk ≡ desk.now }
     ensures same { SameSeat seat.old seat.new }
     ensures ok { IfOk result (λ reply. seat.new.calls ≡ seat.old.calls ++ (transmits device.now, reply) ∷ []) }
@@ -129,8 +129,8 @@ fn send_one<T: Handlers, S: Outbound, R: Wait>(
     ensures err { OnErr result ((seat.new.calls ≡ seat.old.calls) × (S.tried sender.new ≡ S.tried sender.old)) }
 {
     let reply = transmit(rt, alloc, desk, seat, &device.name)?;
-    match reply.kept() {
-        Kept::Sent(packet) => {
+    match reply.compact() {
+        CompactReply::Sent(packet) => {
             let went = sender.send(&device.name, packet);
             device.counts.tried(went);
             Ok(Some(went))
@@ -180,7 +180,7 @@ pub fn forward<T: Handlers, S: Outbound, R: Wait>(
     ensures err { OnErr result (IsBroken device.now.name seat.old.feeds seat.old.calls seat.new.calls (S.tried sender.old) (S.tried sender.new)) }
     ensures forwards { Forwards (device.now.name ∷ []) seat.old.calls seat.new.calls (S.tried sender.old) (S.tried sender.new) }
 {
-    let entered = take_in(rt, desk, seat, device)?;
+    let entered = poll_feed(rt, desk, seat, device)?;
     let (tally, more) = send_all(rt, alloc, desk, seat, device, sender)?;
     Ok(Turn {
         entered,

@@ -4,9 +4,9 @@ ghost use Rattle.std.specs.Prelude.{◌≡◌, ◌≤◌, ◌↔◌, vec_len, �
 ghost use Rattle.click_links.specs.Ends.{attempt, line_of as line_for};
 
 use crate::link::{Inbound, LinkFailed, Outbound};
-use crate::trials::Trials;
+use crate::send_attempts::SendAttempts;
+use click_base::sequence::Sequence;
 use click_packet::StoredPacket;
-use click_text::sequence::Sequence;
 use http_server::Log;
 use libc::net::{POLLIN, poll};
 use libc::types::pollfd;
@@ -27,7 +27,7 @@ const PASSING: [i32; 6] = [12, 71, 90, 92, 105, 112];
 
 /// A socket, where it was asked for, its peer, and the datagram that was read last.
 #[derive(Drop)]
-struct Ear {
+struct DatagramSocket {
     socket: UdpSocket,
     here: SocketAddr,
     peer: SocketAddr,
@@ -40,13 +40,15 @@ struct Ear {
 }
 
 /// Waits for a datagram.
-fn listen(ear: &mut Ear) -> io::Result<()>
-    ensures { (ear.new.here ≡ ear.old.here) × (ear.new.peer ≡ ear.old.peer) }
+fn receive_datagram(datagram_socket: &mut DatagramSocket) -> io::Result<()>
+    ensures { (datagram_socket.new.here ≡ datagram_socket.old.here) × (datagram_socket.new.peer ≡ datagram_socket.old.peer) }
 {
-    let (len, from) = ear.socket.recv_from(ear.buffer.as_mut_slice())?;
-    ear.len = len;
-    ear.from = from;
-    ear.known = from == ear.peer;
+    let (len, from) = datagram_socket
+        .socket
+        .recv_from(datagram_socket.buffer.as_mut_slice())?;
+    datagram_socket.len = len;
+    datagram_socket.from = from;
+    datagram_socket.known = from == datagram_socket.peer;
     Ok(())
 }
 
@@ -60,17 +62,17 @@ fn is_ready(socket: &UdpSocket) -> bool {
     poll(&mut asked, 0) != 0
 }
 
-fn heard(ear: &Ear) -> &[u8]
-    ensures { result.now ≡ take ear.now.len ear.now.buffer.items }
+fn heard(datagram_socket: &DatagramSocket) -> &[u8]
+    ensures { result.now ≡ take datagram_socket.now.len datagram_socket.now.buffer.items }
 {
-    &ear.buffer.as_slice()[..ear.len]
+    &datagram_socket.buffer.as_slice()[..datagram_socket.len]
 }
 
 /// The end at which datagrams come to a socket.
 #[derive(Drop)]
 pub struct UdpIn {
-    ear: Ear,
-    came: Log<Ear, ()>,
+    datagram_socket: DatagramSocket,
+    came: Log<DatagramSocket, ()>,
 }
 
 impl Model for UdpIn {
@@ -79,7 +81,7 @@ impl Model for UdpIn {
 
     ghost Value = { Hearing };
 
-    ghost view = { λ u. record { here = u.ear.here; there = u.ear.peer; came = map (λ p. record { bytes = take p.0.len p.0.buffer.items; known = p.0.known }) u.came.items; current = record { bytes = take u.ear.len u.ear.buffer.items; known = u.ear.known } } };
+    ghost view = { λ u. record { here = u.datagram_socket.here; there = u.datagram_socket.peer; came = map (λ p. record { bytes = take p.0.len p.0.buffer.items; known = p.0.known }) u.came.items; current = record { bytes = take u.datagram_socket.len u.datagram_socket.buffer.items; known = u.datagram_socket.known } } };
 }
 
 impl Inbound for UdpIn {
@@ -92,9 +94,9 @@ impl Inbound for UdpIn {
         ensures err { OnErr result (self.new.came ≡ self.old.came) }
         ensures places { (self.new.here ≡ self.old.here) × (self.new.there ≡ self.old.there) }
     {
-        match listen(&mut self.ear) {
+        match receive_datagram(&mut self.datagram_socket) {
             Ok(()) => {
-                self.came = self.came.and(&self.ear, &());
+                self.came = self.came.and(&self.datagram_socket, &());
                 Ok(true)
             }
             Err(fault) => {
@@ -108,15 +110,15 @@ impl Inbound for UdpIn {
     }
 
     fn bytes(&self) -> &[u8] {
-        heard(&self.ear)
+        heard(&self.datagram_socket)
     }
 
     fn is_known(&self) -> bool {
-        self.ear.known
+        self.datagram_socket.known
     }
 
     fn has_more(&self) -> bool {
-        is_ready(&self.ear.socket)
+        is_ready(&self.datagram_socket.socket)
     }
 }
 
@@ -164,7 +166,7 @@ fn line_of<'a>(lines: &'a [UdpLine], device: &[u8]) -> Option<&'a UdpLine>
 #[derive(Drop)]
 pub struct UdpOut {
     lines: Vec<UdpLine>,
-    tried: Trials,
+    tried: SendAttempts,
 }
 
 impl Model for UdpOut {
@@ -182,7 +184,7 @@ impl UdpOut {
     {
         UdpOut {
             lines,
-            tried: Trials::new(),
+            tried: SendAttempts::new(),
         }
     }
 }
@@ -247,7 +249,7 @@ pub fn open_udp<R: Net>(
         here: address,
         peer,
     };
-    let ear = Ear {
+    let datagram_socket = DatagramSocket {
         socket,
         here: address,
         peer,
@@ -257,5 +259,11 @@ pub fn open_udp<R: Net>(
         known: true,
     };
     let came = Log::new();
-    Ok((UdpIn { ear, came }, line))
+    Ok((
+        UdpIn {
+            datagram_socket,
+            came,
+        },
+        line,
+    ))
 }

@@ -1,10 +1,10 @@
-pub mod Added
-mod Asks
+mod CommandCalls
+pub mod FieldSequences
+pub mod HandlerNames
 mod Hosts
-mod Lawful
-pub mod Named
-mod Pairs
-pub mod Pictured
-mod Serves
+pub mod OpenedNet
+mod QueryPairs
+mod RequestAnswers
+mod RequestLaws
 pub mod Texts
-pub mod Whole
+pub mod WholeNumbers

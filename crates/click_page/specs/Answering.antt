@@ -8,7 +8,7 @@ use Rattle.click_router.specs.declared.call.Reply.{Reply}
 use Rattle.click_control.specs.Serving.{Asked}
 use Rattle.click_control.specs.declared.command.Answer.{Answer}
 use Rattle.click_control.specs.declared.port.AskFault.{AskFault}
-use Rattle.click_page.specs.Asking.{wish_of, commands_of}
+use Rattle.click_page.specs.Asking.{parse_request, commands_of}
 use Rattle.click_page.specs.Saying.{SaysFor, SaysNoMemory}
 
 -- a page: where its calls go, whether it may only read, and the port of 127.0.0.1 that it is at
@@ -21,5 +21,5 @@ pub record Paged (P : Type 0) : Type 0 where
 pub record AnswersSo {P : Type 0} (asks : P → Call → Result Reply AskFault → P → Type 0) (old : Paged P) (request : Request (List ℕ)) (response : Response) (new : Paged P) : Type 0 where
   pub same : (new.readonly ≡ old.readonly) × (new.at ≡ old.at)
   pub answers : List Answer
-  pub asked : Asked asks old.readonly old.port (commands_of (wish_of old.at (head_of request) (body_of request))) answers new.port
-  pub says : SaysFor (wish_of old.at (head_of request) (body_of request)) answers response ⊎ SaysNoMemory response
+  pub asked : Asked asks old.readonly old.port (commands_of (parse_request old.at (head_of request) (body_of request))) answers new.port
+  pub says : SaysFor (parse_request old.at (head_of request) (body_of request)) answers response ⊎ SaysNoMemory response

@@ -4,8 +4,8 @@ use Rattle.std.specs.Str.{bytes_eq}
 use Rattle.serde_json.specs.Data.{Data, no_members, member, string, boolean, number, array, object, unsigned}
 use Rattle.serde_json.specs.View.{items_of}
 use Rattle.serde_json.specs.Written.{compact_text}
-use Rattle.click_classes.specs.Classes.{name}
-use Rattle.click_classes.specs.declared.class.Class.{Class}
+use Rattle.click_base.specs.Classes.{name}
+use Rattle.click_base.specs.declared.class.Class.{Class}
 use Rattle.click_handlers.specs.Names.{HandlerName, read_names, write_names}
 use Rattle.click_draw.specs.declared.drawing.Figure.{Figure}
 use Rattle.click_draw.specs.declared.drawing.Mark.{Mark}

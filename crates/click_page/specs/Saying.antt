@@ -18,13 +18,13 @@ use Rattle.click_control.specs.declared.command.Answer.TheVariants as answer
 use Rattle.click_page.specs.Asking.{reading}
 use Rattle.click_page.specs.Drawn.{IsPicture}
 use Rattle.click_page.specs.Form.{IsFlatText, bytes_data, list_data}
-use Rattle.click_page.specs.declared.looks.Kind.{Kind}
-use Rattle.click_page.specs.declared.looks.Kind.TheVariants as kind
+use Rattle.click_page.specs.declared.content_kind.ContentKind.{ContentKind}
+use Rattle.click_page.specs.declared.content_kind.ContentKind.TheVariants as kind
 use Rattle.click_page.specs.declared.page_text.TheConstants.{PAGE, POLICY}
-use Rattle.click_page.specs.declared.wish.Wish.{Wish}
-use Rattle.click_page.specs.declared.wish.Wish.TheVariants as wish
-use Rattle.click_page.specs.declared.wish.Refusal.{Refusal}
-use Rattle.click_page.specs.declared.wish.Refusal.TheVariants as why
+use Rattle.click_page.specs.declared.page_request.PageRequest.{PageRequest}
+use Rattle.click_page.specs.declared.page_request.PageRequest.TheVariants as page_request
+use Rattle.click_page.specs.declared.page_request.RequestRefusal.{RequestRefusal}
+use Rattle.click_page.specs.declared.page_request.RequestRefusal.TheVariants as why
 
 abbrev pub value_data : List ℕ → Data
 value_data bytes = object (member (codes "value") (bytes_data bytes) no_members)
@@ -61,27 +61,27 @@ guards =
     (codes "cache-control", codes "no-store") ∷ (codes "content-security-policy", POLICY.now) ∷ (codes "x-content-type-options", codes "nosniff")
     ∷ (codes "x-frame-options", codes "DENY") ∷ (codes "cross-origin-resource-policy", codes "same-origin") ∷ (codes "referrer-policy", codes "no-referrer") ∷ []
 
-abbrev pub type_name : Kind → List ℕ
+abbrev pub type_name : ContentKind → List ℕ
 type_name kind.Html = codes "text/html; charset=utf-8"
 type_name kind.Svg = codes "image/svg+xml"
 type_name kind.Json = codes "application/json"
 type_name kind.Text = codes "text/plain; charset=utf-8"
 
-abbrev pub fields_for : Kind → List Header
+abbrev pub fields_for : ContentKind → List Header
 fields_for k = (codes "content-type", type_name k) ∷ guards
 
 -- the response says this
-abbrev pub Says : ℕ → Kind → List ℕ → Response → Type 0
+abbrev pub Says : ℕ → ContentKind → List ℕ → Response → Type 0
 Says status k body r = IsResponse status (fields_for k) body r
 
-abbrev pub status_of : Refusal → ℕ
+abbrev pub status_of : RequestRefusal → ℕ
 status_of why.Stranger = 403
 status_of why.NoPlace = 404
 status_of why.WrongMethod = 405
 status_of why.NoMark = 403
 status_of why.WrongQuery = 400
 
-abbrev pub refusal_line : Refusal → List ℕ
+abbrev pub refusal_line : RequestRefusal → List ℕ
 refusal_line why.Stranger = codes "this page is at 127.0.0.1 alone\n"
 refusal_line why.NoPlace = codes "there is nothing of that name\n"
 refusal_line why.WrongMethod = codes "another method is wanted here\n"
@@ -89,27 +89,27 @@ refusal_line why.NoMark = codes "a write needs the header x-click-page\n"
 refusal_line why.WrongQuery = codes "the query names no handlers, or too many\n"
 
 -- What is made of a text that was read: this, or why the text opens nothing any more. Anything else is told as the answer to a read is.
-abbrev pub SaysMade : Kind → (List ℕ → List ℕ → Type 0) → Answer → Response → Type 0
+abbrev pub SaysMade : ContentKind → (List ℕ → List ℕ → Type 0) → Answer → Response → Type 0
 SaysMade k Makes (answer.Replied (reply.Value text)) r =
     ((made : List ℕ) × Makes text made × Says 200 k made r)
     ⊎ ((fault : ConfigFault) × IsFirstFault text fault × Says 200 kind.Json (compact_text (fault_data 520 (fault_text fault))) r)
 SaysMade k Makes a r = Says 200 kind.Json (compact_text (entry_of (reading (codes "config")) a)) r
 
 -- the same of the one answer that there is
-abbrev pub SaysOne : Kind → (List ℕ → List ℕ → Type 0) → List Answer → Response → Type 0
+abbrev pub SaysOne : ContentKind → (List ℕ → List ℕ → Type 0) → List Answer → Response → Type 0
 SaysOne k Makes [] r = ⊥
 SaysOne k Makes (a ∷ []) r = SaysMade k Makes a r
 SaysOne k Makes (a ∷ b ∷ answers) r = ⊥
 
 -- What a wish whose commands were answered so is answered.
-abbrev pub SaysFor : Wish → List Answer → Response → Type 0
-SaysFor wish.Page answers r = Says 200 kind.Html PAGE.now r
-SaysFor wish.Picture answers r = SaysOne kind.Svg IsPicture answers r
-SaysFor wish.Flat answers r = SaysOne kind.Json IsFlatText answers r
-SaysFor (wish.Read handlers) answers r = Says 200 kind.Json (compact_text (list_data (entries_of (map reading handlers) answers))) r
-SaysFor (wish.Write handler text) [] r = ⊥
-SaysFor (wish.Write handler text) (a ∷ answers) r = Says 200 kind.Json (compact_text (entry_of (command.Write handler text) a)) r
-SaysFor (wish.Refused why) answers r = Says (status_of why) kind.Text (refusal_line why) r
+abbrev pub SaysFor : PageRequest → List Answer → Response → Type 0
+SaysFor page_request.Page answers r = Says 200 kind.Html PAGE.now r
+SaysFor page_request.Picture answers r = SaysOne kind.Svg IsPicture answers r
+SaysFor page_request.Flat answers r = SaysOne kind.Json IsFlatText answers r
+SaysFor (page_request.Read handlers) answers r = Says 200 kind.Json (compact_text (list_data (entries_of (map reading handlers) answers))) r
+SaysFor (page_request.Write handler text) [] r = ⊥
+SaysFor (page_request.Write handler text) (a ∷ answers) r = Says 200 kind.Json (compact_text (entry_of (command.Write handler text) a)) r
+SaysFor (page_request.Refused why) answers r = Says (status_of why) kind.Text (refusal_line why) r
 
 -- memory ran out: a bare 503
 abbrev pub SaysNoMemory : Response → Type 0

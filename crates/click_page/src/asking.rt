@@ -7,29 +7,28 @@ ghost use Rattle.click_control.specs.declared.command.Command.{Command};
 ghost use Rattle.click_page.specs.Asking.{commands_of, reading};
 ghost use Rattle.click_page.specs.kept.Calls.{AreNoPolls, read_call, write_call};
 
-use crate::copies::copy;
-use crate::wish::Wish;
+use crate::page_request::PageRequest;
+use click_base::sequence::Sequence;
 use click_control::{Answer, Port};
 use click_router::Call;
-use click_text::sequence::Sequence;
 use std::alloc::{AllocError, Global};
 
 /// The calls of a wish's commands, in order. All their memory is taken here. A read-only page has none that would write.
 pub(crate) fn calls_of(
     alloc: Global,
-    wish: &Wish,
+    page_request: &PageRequest,
     readonly: bool,
 ) -> Result<Vec<Option<Call>>, AllocError>
-    ensures calls { IfOk result (λ calls. calls.items ≡ map (call_of readonly) (commands_of wish.now)) }
+    ensures calls { IfOk result (λ calls. calls.items ≡ map (call_of readonly) (commands_of page_request.now)) }
     ensures no_polls { IfOk result (λ calls. AreNoPolls calls.items) }
 {
-    match wish {
-        Wish::Page | Wish::Refused(_) => Ok(Vec::new(alloc)),
-        Wish::Picture | Wish::Flat => {
+    match page_request {
+        PageRequest::Page | PageRequest::Refused(_) => Ok(Vec::new(alloc)),
+        PageRequest::Picture | PageRequest::Flat => {
             Ok(Vec::from_array(alloc, [read_call(alloc, b"config")?])?)
         }
-        Wish::Read { handlers } => read_calls(alloc, handlers.as_slice()),
-        Wish::Write { handler, text } => {
+        PageRequest::Read { handlers } => read_calls(alloc, handlers.as_slice()),
+        PageRequest::Write { handler, text } => {
             let call = write_call(alloc, handler.as_slice(), text.as_slice(), readonly)?;
             Ok(Vec::from_array(alloc, [call])?)
         }
@@ -51,7 +50,7 @@ fn read_calls(alloc: Global, handlers: &[Sequence<u8>]) -> Result<Vec<Option<Cal
 fn read_call(alloc: Global, handler: &[u8]) -> Result<Option<Call>, AllocError>
     ensures { IfOk result (λ call. call ≡ read_call handler.now) }
 {
-    let name = copy(alloc, handler)?;
+    let name = Sequence::copy_of(alloc, handler)?;
     let text = Sequence::new(alloc);
     Ok(Some(Call::Read { name, text }))
 }
@@ -68,8 +67,8 @@ fn write_call(
     if readonly {
         return Ok(None);
     }
-    let name = copy(alloc, handler)?;
-    let text = copy(alloc, text)?;
+    let name = Sequence::copy_of(alloc, handler)?;
+    let text = Sequence::copy_of(alloc, text)?;
     Ok(Some(Call::Write { name, text }))
 }
 

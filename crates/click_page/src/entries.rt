@@ -8,9 +8,9 @@ ghost use Rattle.click_page.specs.Form.{list_data};
 ghost use Rattle.click_page.specs.Saying.{done_data, entries_of, entry_of, fault_data, fault_number, value_data};
 
 use crate::values::{push, text_value};
+use click_base::sequence::Sequence;
 use click_control::{Answer, Command, reply_text};
 use click_router::{Refusal, Reply};
-use click_text::sequence::Sequence;
 use serde_json::{Value, json};
 use std::alloc::{AllocError, Global};
 
@@ -60,7 +60,7 @@ fn read_command(alloc: Global, handler: &[u8]) -> Result<Command, AllocError>
     ensures { IfOk result (λ command. command ≡ reading handler.now) }
 {
     Ok(Command::Read {
-        handler: Sequence::of(Vec::from_slice(alloc, handler)?),
+        handler: Sequence::copy_of(alloc, handler)?,
         text: Sequence::new(alloc),
     })
 }
@@ -70,7 +70,7 @@ fn write_command(alloc: Global, handler: &[u8]) -> Result<Command, AllocError>
     ensures { IfOk result (λ command. command ≡ Command.Write handler.now []) }
 {
     Ok(Command::Write {
-        handler: Sequence::of(Vec::from_slice(alloc, handler)?),
+        handler: Sequence::copy_of(alloc, handler)?,
         text: Sequence::new(alloc),
     })
 }

@@ -3,7 +3,7 @@
 ghost use Rattle.std.specs.Prelude.{◌≡◌, ◌≤◌, ◌∷◌, [], ◌++◌, map, length, IfOk, IfErr, OnOk};
 ghost use Rattle.std.specs.Str.{bytes_eq};
 ghost use Rattle.serde_json.specs.View.{view};
-ghost use Rattle.click_classes.specs.Classes.{name};
+ghost use Rattle.click_base.specs.Classes.{name};
 ghost use Rattle.click_handlers.specs.Names.{of_class, read_names, write_names};
 ghost use Rattle.click_router.specs.Opened.{IsFirstFault, IsMemoryOr};
 ghost use Rattle.click_page.specs.Drawn.{IsFormNet};
@@ -11,7 +11,7 @@ ghost use Rattle.click_page.specs.Form.{IsFlatText, IsFormText, bytes_data, conn
 
 use crate::picture::resolved;
 use crate::values::{json_text, push, text_value};
-use click_classes::Class;
+use click_base::Class;
 use click_draw::{Drawing, Figure, Mark, layout};
 use click_expand::{Connection, Flat, FlatElement};
 use click_handlers::{READS, WRITES, read_name, write_name};

@@ -7,7 +7,7 @@ ghost use Rattle.http_server.specs.Response.{IsBlank, fields_of};
 ghost use Rattle.click_page.specs.Saying.{Says, fields_for, guards, type_name};
 ghost use Rattle.click_page.specs.declared.page_text.TheConstants.{POLICY};
 
-use crate::looks::Kind;
+use crate::content_kind::ContentKind;
 use crate::page_text::POLICY;
 use bytes::Bytes;
 use http::StatusCode;
@@ -16,14 +16,14 @@ use http_server::Response;
 use std::alloc::AllocError;
 
 /// What a head says that a text of that kind is.
-fn type_name(kind: Kind) -> HeaderValue
+fn type_name(kind: ContentKind) -> HeaderValue
     ensures { result.bytes ≡ type_name kind }
 {
     match kind {
-        Kind::Html => HeaderValue::from_static("text/html; charset=utf-8"),
-        Kind::Svg => HeaderValue::from_static("image/svg+xml"),
-        Kind::Json => HeaderValue::from_static("application/json"),
-        Kind::Text => HeaderValue::from_static("text/plain; charset=utf-8"),
+        ContentKind::Html => HeaderValue::from_static("text/html; charset=utf-8"),
+        ContentKind::Svg => HeaderValue::from_static("image/svg+xml"),
+        ContentKind::Json => HeaderValue::from_static("application/json"),
+        ContentKind::Text => HeaderValue::from_static("text/plain; charset=utf-8"),
     }
 }
 
@@ -70,7 +70,7 @@ fn add_guards(response: &mut Response) -> Result<(), AllocError>
 /// Gives a response the status, the head for that kind of text, and the text as its body.
 pub(crate) fn say_bytes(
     status: StatusCode,
-    kind: Kind,
+    kind: ContentKind,
     body: Bytes,
     response: &mut Response,
 ) -> Result<(), AllocError>
@@ -84,7 +84,11 @@ pub(crate) fn say_bytes(
 }
 
 /// The same with a text that was made for it.
-pub(crate) fn say_text(kind: Kind, text: Vec<u8>, response: &mut Response) -> Result<(), AllocError>
+pub(crate) fn say_text(
+    kind: ContentKind,
+    text: Vec<u8>,
+    response: &mut Response,
+) -> Result<(), AllocError>
     requires blank { IsBlank response.old }
     ensures { OnOk result (Says 200 kind text.items response.new) }
 {

@@ -2,27 +2,27 @@
 
 ghost use Rattle.std.specs.Prelude.{◌≡◌, ◌≤◌, ◌&&◌, ℕ, List, [], Bool, true, false, length, codes, bytes_eq};
 ghost use Rattle.http.specs.declared.request.Parts.{Parts as Head};
-ghost use Rattle.click_page.specs.Asking.{commands_of, is_marked, is_own, wish_of};
+ghost use Rattle.click_page.specs.Asking.{commands_of, has_page_header, is_for_own_host, parse_request};
 ghost use Rattle.click_page.specs.Reads.{AreReads, MakeReads};
-ghost use Rattle.click_page.specs.declared.wish.Wish.{Wish as AWish};
+ghost use Rattle.click_page.specs.declared.page_request.PageRequest.{PageRequest as AWish};
 
 /// A request that is not the page's own makes no command.
 pub fn a_foreign_request_makes_no_command()
-    ensures { (port : ℕ) (head : Head) (body : List ℕ) → is_own port head ≡ false → commands_of (wish_of port head body) ≡ [] }
+    ensures { (port : ℕ) (head : Head) (body : List ℕ) → is_for_own_host port head ≡ false → commands_of (parse_request port head body) ≡ [] }
 {}
 
 /// A request makes no command but reads of handlers, where it lacks the header that no page of another place may send, or its method is not POST.
 pub fn only_a_marked_post_writes()
-    ensures { (port : ℕ) (head : Head) (body : List ℕ) → (is_marked head && bytes_eq head.method (codes "POST")) ≡ false
-        → AreReads (commands_of (wish_of port head body)) }
+    ensures { (port : ℕ) (head : Head) (body : List ℕ) → (has_page_header head && bytes_eq head.method (codes "POST")) ≡ false
+        → AreReads (commands_of (parse_request port head body)) }
 {}
 
 /// A request makes 256 commands at most.
 pub fn a_request_makes_256_commands_at_most()
-    ensures { (port : ℕ) (head : Head) (body : List ℕ) → length (commands_of (wish_of port head body)) ≤ 256 }
+    ensures { (port : ℕ) (head : Head) (body : List ℕ) → length (commands_of (parse_request port head body)) ≤ 256 }
 {}
 
 /// A page that may only read makes no call but reads of handlers.
 pub fn a_page_that_may_only_read_only_reads()
-    ensures { (wish : AWish) → MakeReads true (commands_of wish) }
+    ensures { (page_request : AWish) → MakeReads true (commands_of page_request) }
 {}

@@ -2,27 +2,26 @@
 #![tactic(auto)]
 
 mod asking;
-mod copies;
+mod content_kind;
 mod entries;
 mod form;
 mod heads;
 pub mod laws;
-mod looks;
-mod own;
+mod own_host;
+mod page_request;
 mod page_text;
 mod picture;
-mod place;
 mod queries;
 mod requests;
+mod route;
 mod saying;
 mod service;
 mod values;
-mod wish;
 
+pub use content_kind::ContentKind;
 pub use form::flat_text;
-pub use looks::Kind;
+pub use page_request::{PageRequest, RequestRefusal};
 pub use page_text::{PAGE, POLICY};
 pub use picture::picture_of;
-pub use requests::wish_of;
+pub use requests::parse_request;
 pub use service::Page;
-pub use wish::{Refusal, Wish};

@@ -5,7 +5,7 @@ ghost use Rattle.click_classes.specs.declared.state.State.{State};
 ghost use Rattle.click_router.specs.Opened.{AreFresh, IsBegun, IsFirstFault, IsMemoryOr};
 ghost use Rattle.click_page.specs.Drawn.{IsFormNet, IsLawfulForm, IsNetOf, IsPicture, IsPictureOf};
 
-use click_classes::{ArgFault, State, class_of, make};
+use click_classes::{ArgFault, State, make};
 use click_draw::{layout, svg};
 use click_expand::{Flat, FlatElement};
 use click_ports::{FaultKind as PortKind, Net, resolve};
@@ -71,10 +71,7 @@ fn state_of(alloc: Global, element: &FlatElement) -> Result<State, AllocError>
     requires { (state : State) × IsBegun element.now (Ok state) }
     ensures { IfOk result (λ state. IsBegun element.now (Ok state)) }
 {
-    let Some(class) = class_of(element.class.as_slice()) else {
-        unreachable!()
-    };
-    match make(alloc, class, element.text.as_slice()) {
+    match make(alloc, element.class, element.text.as_slice()) {
         Ok(state) => Ok(state),
         Err(fault) if fault == ArgFault::NoMemory => Err(AllocError),
         // Its arguments are good: that was found then, too.

@@ -5,9 +5,8 @@ ghost use Rattle.form_urlencoded.specs.Form.{decode, raw_pairs};
 ghost use Rattle.std.specs.Str.Lossy.{utf8_lossy};
 ghost use Rattle.click_page.specs.Asking.{are_handlers, handlers_in, read_of, write_of};
 
-use crate::copies::copy;
-use crate::wish::{Refusal, Wish};
-use click_text::sequence::Sequence;
+use crate::page_request::{PageRequest, RequestRefusal};
+use click_base::sequence::Sequence;
 use form_urlencoded::{decode, raw_pairs};
 use std::alloc::{AllocError, Global};
 
@@ -15,28 +14,28 @@ use std::alloc::{AllocError, Global};
 const MOST_READ: usize = 256;
 
 /// What a query asks to read.
-pub(crate) fn read_of(alloc: Global, query: &[u8]) -> Result<Wish, AllocError>
+pub(crate) fn read_of(alloc: Global, query: &[u8]) -> Result<PageRequest, AllocError>
     ensures { IfOk result (λ w. w ≡ read_of (raw_pairs query.now)) }
 {
     match handler_count(query) {
-        Some(1..=MOST_READ) => Ok(Wish::Read {
+        Some(1..=MOST_READ) => Ok(PageRequest::Read {
             handlers: Sequence::of(handlers_in(alloc, query)?),
         }),
-        _ => Ok(Wish::Refused(Refusal::WrongQuery)),
+        _ => Ok(PageRequest::Refused(RequestRefusal::WrongQuery)),
     }
 }
 
 /// What a query asks to write, with this text.
-pub(crate) fn write_of(alloc: Global, query: &[u8], text: &[u8]) -> Result<Wish, AllocError>
+pub(crate) fn write_of(alloc: Global, query: &[u8], text: &[u8]) -> Result<PageRequest, AllocError>
     ensures { IfOk result (λ w. w ≡ write_of (raw_pairs query.now) text.now) }
 {
     let Some(1) = handler_count(query) else {
-        return Ok(Wish::Refused(Refusal::WrongQuery));
+        return Ok(PageRequest::Refused(RequestRefusal::WrongQuery));
     };
     match handlers_in(alloc, query)?.pop() {
-        Some(handler) => Ok(Wish::Write {
+        Some(handler) => Ok(PageRequest::Write {
             handler,
-            text: copy(alloc, text)?,
+            text: Sequence::copy_of(alloc, text)?,
         }),
         None => unreachable!(),
     }

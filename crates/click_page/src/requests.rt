@@ -3,65 +3,73 @@
 ghost use Rattle.std.specs.Prelude.{◌≡◌, [], unwrap_or, IfOk};
 ghost use Rattle.http.specs.Request.{head_of, body_of};
 ghost use Rattle.http_uri.specs.Uri.{uri_path, uri_query};
-ghost use Rattle.click_page.specs.Asking.{asked_at, asked_of, place_of, wish_of};
+ghost use Rattle.click_page.specs.Asking.{request_at, request_on_route, route_of, parse_request};
 
-use crate::copies::copy;
-use crate::own::{is_marked, is_own};
-use crate::place::{Place, place_of};
+use crate::own_host::{has_page_header, is_for_own_host};
+use crate::page_request::{PageRequest, RequestRefusal};
 use crate::queries::{read_of, write_of};
-use crate::wish::{Refusal, Wish};
+use crate::route::{Route, route_of};
 use bytes::Bytes;
+use click_base::sequence::Sequence;
 use http::Request;
 use std::alloc::{AllocError, Global};
 
 /// What a request asks of the page at this port of 127.0.0.1. The only error is want of memory.
-#[tactic(auto, unfolding(crate::specs::Asking::wish_of))]
-pub fn wish_of(alloc: Global, port: u16, request: &Request<Bytes>) -> Result<Wish, AllocError>
-    ensures { IfOk result (λ w. w ≡ wish_of port (head_of request.now) (body_of request.now)) }
+#[tactic(auto, unfolding(crate::specs::Asking::parse_request))]
+pub fn parse_request(
+    alloc: Global,
+    port: u16,
+    request: &Request<Bytes>,
+) -> Result<PageRequest, AllocError>
+    ensures { IfOk result (λ w. w ≡ parse_request port (head_of request.now) (body_of request.now)) }
 {
-    if is_own(port, request) {
-        asked_at(alloc, place_of(request.uri().path()), request)
+    if is_for_own_host(port, request) {
+        request_at(alloc, route_of(request.uri().path()), request)
     } else {
-        Ok(Wish::Refused(Refusal::Stranger))
+        Ok(PageRequest::Refused(RequestRefusal::Stranger))
     }
 }
 
 /// What is asked of this page, at a place or at none.
-#[tactic(auto, unfolding(crate::specs::Asking::asked_at))]
-fn asked_at(
+#[tactic(auto, unfolding(crate::specs::Asking::request_at))]
+fn request_at(
     alloc: Global,
-    place: Option<Place>,
+    route: Option<Route>,
     request: &Request<Bytes>,
-) -> Result<Wish, AllocError>
-    ensures { IfOk result (λ w. w ≡ asked_at place (head_of request.now) (body_of request.now)) }
+) -> Result<PageRequest, AllocError>
+    ensures { IfOk result (λ w. w ≡ request_at route (head_of request.now) (body_of request.now)) }
 {
-    let Some(place) = place else {
-        return Ok(Wish::Refused(Refusal::NoPlace));
+    let Some(route) = route else {
+        return Ok(PageRequest::Refused(RequestRefusal::NoPlace));
     };
-    let method = if place.is_write() { "POST" } else { "GET" };
+    let method = if route.is_write() { "POST" } else { "GET" };
     if request.method().as_str() != method {
-        return Ok(Wish::Refused(Refusal::WrongMethod));
+        return Ok(PageRequest::Refused(RequestRefusal::WrongMethod));
     }
-    if place.is_write() && !is_marked(request) {
-        return Ok(Wish::Refused(Refusal::NoMark));
+    if route.is_write() && !has_page_header(request) {
+        return Ok(PageRequest::Refused(RequestRefusal::NoMark));
     }
-    asked_of(alloc, place, request)
+    request_on_route(alloc, route, request)
 }
 
 /// What is asked for at a place.
-#[tactic(auto, unfolding(crate::specs::Asking::asked_of))]
-fn asked_of(alloc: Global, place: Place, request: &Request<Bytes>) -> Result<Wish, AllocError>
-    ensures { IfOk result (λ w. w ≡ asked_of place (head_of request.now) (body_of request.now)) }
+#[tactic(auto, unfolding(crate::specs::Asking::request_on_route))]
+fn request_on_route(
+    alloc: Global,
+    route: Route,
+    request: &Request<Bytes>,
+) -> Result<PageRequest, AllocError>
+    ensures { IfOk result (λ w. w ≡ request_on_route route (head_of request.now) (body_of request.now)) }
 {
-    match place {
-        Place::Page => Ok(Wish::Page),
-        Place::Picture => Ok(Wish::Picture),
-        Place::Flat => Ok(Wish::Flat),
-        Place::Read => read_of(alloc, query_of(request)),
-        Place::Write => write_of(alloc, query_of(request), request.body().as_slice()),
-        Place::Swap => Ok(Wish::Write {
-            handler: copy(alloc, b"hotconfig")?,
-            text: copy(alloc, request.body().as_slice())?,
+    match route {
+        Route::Page => Ok(PageRequest::Page),
+        Route::Picture => Ok(PageRequest::Picture),
+        Route::Flat => Ok(PageRequest::Flat),
+        Route::Read => read_of(alloc, query_of(request)),
+        Route::Write => write_of(alloc, query_of(request), request.body().as_slice()),
+        Route::Swap => Ok(PageRequest::Write {
+            handler: Sequence::copy_of(alloc, b"hotconfig")?,
+            text: Sequence::copy_of(alloc, request.body().as_slice())?,
         }),
     }
 }

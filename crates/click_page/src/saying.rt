@@ -11,14 +11,14 @@ ghost use Rattle.click_page.specs.Drawn.{IsPicture};
 ghost use Rattle.click_page.specs.Form.{IsFlatText};
 ghost use Rattle.click_page.specs.Saying.{Says, SaysFor, SaysMade, entry_of, fault_data, refusal_line, status_of};
 
+use crate::content_kind::ContentKind;
 use crate::entries::{fault_entry, read_entries, read_entry, write_entry};
 use crate::form::flat_text;
 use crate::heads::{say_bytes, say_text};
-use crate::looks::Kind;
+use crate::page_request::{PageRequest, RequestRefusal};
 use crate::page_text::PAGE;
 use crate::picture::picture_of;
 use crate::values::json_text;
-use crate::wish::{Refusal, Wish};
 use bytes::Bytes;
 use click_control::Answer;
 use click_router::{ConfigFault, FaultKind, Reply};
@@ -28,52 +28,52 @@ use serde_json::Value;
 use std::alloc::{AllocError, Global};
 
 /// The status of a refusal.
-fn status_of(why: Refusal) -> StatusCode
+fn status_of(why: RequestRefusal) -> StatusCode
     ensures { result ≡ status_of why }
 {
     match why {
-        Refusal::Stranger | Refusal::NoMark => StatusCode::FORBIDDEN,
-        Refusal::NoPlace => StatusCode::NOT_FOUND,
-        Refusal::WrongMethod => StatusCode::METHOD_NOT_ALLOWED,
-        Refusal::WrongQuery => StatusCode::BAD_REQUEST,
+        RequestRefusal::Stranger | RequestRefusal::NoMark => StatusCode::FORBIDDEN,
+        RequestRefusal::NoPlace => StatusCode::NOT_FOUND,
+        RequestRefusal::WrongMethod => StatusCode::METHOD_NOT_ALLOWED,
+        RequestRefusal::WrongQuery => StatusCode::BAD_REQUEST,
     }
 }
 
 /// The line of a refusal.
-fn refusal_line(why: Refusal) -> &'static [u8]
+fn refusal_line(why: RequestRefusal) -> &'static [u8]
     ensures { result.now ≡ refusal_line why }
 {
     match why {
-        Refusal::Stranger => b"this page is at 127.0.0.1 alone\n",
-        Refusal::NoPlace => b"there is nothing of that name\n",
-        Refusal::WrongMethod => b"another method is wanted here\n",
-        Refusal::NoMark => b"a write needs the header x-click-page\n",
-        Refusal::WrongQuery => b"the query names no handlers, or too many\n",
+        RequestRefusal::Stranger => b"this page is at 127.0.0.1 alone\n",
+        RequestRefusal::NoPlace => b"there is nothing of that name\n",
+        RequestRefusal::WrongMethod => b"another method is wanted here\n",
+        RequestRefusal::NoMark => b"a write needs the header x-click-page\n",
+        RequestRefusal::WrongQuery => b"the query names no handlers, or too many\n",
     }
 }
 
 /// Says why a request is refused.
-fn say_refusal(why: Refusal, response: &mut Response) -> Result<(), AllocError>
+fn say_refusal(why: RequestRefusal, response: &mut Response) -> Result<(), AllocError>
     requires { IsBlank response.old }
-    ensures { OnOk result (Says (status_of why) Kind.Text (refusal_line why) response.new) }
+    ensures { OnOk result (Says (status_of why) ContentKind.Text (refusal_line why) response.new) }
 {
     let line = Bytes::from_static(refusal_line(why));
-    say_bytes(status_of(why), Kind::Text, line, response)
+    say_bytes(status_of(why), ContentKind::Text, line, response)
 }
 
 /// Says a value, as JSON.
 fn say_value(alloc: Global, value: &Value, response: &mut Response) -> Result<(), AllocError>
     requires blank { IsBlank response.old }
     requires whole { has_float (view value.now) ≡ false }
-    ensures { OnOk result (Says 200 Kind.Json (compact_text (view value.now)) response.new) }
+    ensures { OnOk result (Says 200 ContentKind.Json (compact_text (view value.now)) response.new) }
 {
-    say_text(Kind::Json, json_text(alloc, value)?, response)
+    say_text(ContentKind::Json, json_text(alloc, value)?, response)
 }
 
 /// Says why a text opens nothing.
 fn say_fault(alloc: Global, fault: &ConfigFault, response: &mut Response) -> Result<(), AllocError>
     requires { IsBlank response.old }
-    ensures { OnOk result (Says 200 Kind.Json (compact_text (fault_data 520 (fault_text fault.now))) response.new) }
+    ensures { OnOk result (Says 200 ContentKind.Json (compact_text (fault_data 520 (fault_text fault.now))) response.new) }
 {
     let text = fault.text(alloc)?;
     say_value(alloc, &fault_entry(alloc, 520, text.as_slice())?, response)
@@ -82,13 +82,13 @@ fn say_fault(alloc: Global, fault: &ConfigFault, response: &mut Response) -> Res
 /// Says what was made of a text, or why the text opens nothing.
 fn say_made(
     alloc: Global,
-    kind: Kind,
+    kind: ContentKind,
     made: Result<Vec<u8>, ConfigFault>,
     response: &mut Response,
 ) -> Result<(), AllocError>
     requires { IsBlank response.old }
     ensures { OnOk result (MatchResult made (λ made. Says 200 kind made.items response.new)
-        (λ fault. (IsMemory fault → ⊥) × Says 200 Kind.Json (compact_text (fault_data 520 (fault_text fault))) response.new)) }
+        (λ fault. (IsMemory fault → ⊥) × Says 200 ContentKind.Json (compact_text (fault_data 520 (fault_text fault))) response.new)) }
 {
     match made {
         Ok(made) => say_text(kind, made, response),
@@ -100,7 +100,7 @@ fn say_made(
 /// Says why the text that runs was not read.
 fn say_unread(alloc: Global, answer: &Answer, response: &mut Response) -> Result<(), AllocError>
     requires { IsBlank response.old }
-    ensures { OnOk result (Says 200 Kind.Json (compact_text (entry_of (reading (codes "config")) answer.now)) response.new) }
+    ensures { OnOk result (Says 200 ContentKind.Json (compact_text (entry_of (reading (codes "config")) answer.now)) response.new) }
 {
     say_value(alloc, &read_entry(alloc, b"config", answer)?, response)
 }
@@ -108,12 +108,12 @@ fn say_unread(alloc: Global, answer: &Answer, response: &mut Response) -> Result
 /// Says the picture of the text that was read.
 fn say_picture(alloc: Global, answer: &Answer, response: &mut Response) -> Result<(), AllocError>
     requires { IsBlank response.old }
-    ensures { OnOk result (SaysMade Kind.Svg IsPicture answer.now response.new) }
+    ensures { OnOk result (SaysMade ContentKind.Svg IsPicture answer.now response.new) }
 {
     match answer {
         Answer::Replied(Reply::Value(text)) => {
             let picture = picture_of(alloc, text.as_slice());
-            say_made(alloc, Kind::Svg, picture, response)
+            say_made(alloc, ContentKind::Svg, picture, response)
         }
         _ => say_unread(alloc, answer, response),
     }
@@ -122,12 +122,12 @@ fn say_picture(alloc: Global, answer: &Answer, response: &mut Response) -> Resul
 /// Says the flat form of the text that was read.
 fn say_flat(alloc: Global, answer: &Answer, response: &mut Response) -> Result<(), AllocError>
     requires { IsBlank response.old }
-    ensures { OnOk result (SaysMade Kind.Json IsFlatText answer.now response.new) }
+    ensures { OnOk result (SaysMade ContentKind.Json IsFlatText answer.now response.new) }
 {
     match answer {
         Answer::Replied(Reply::Value(text)) => {
             let form = flat_text(alloc, text.as_slice());
-            say_made(alloc, Kind::Json, form, response)
+            say_made(alloc, ContentKind::Json, form, response)
         }
         _ => say_unread(alloc, answer, response),
     }
@@ -136,31 +136,31 @@ fn say_flat(alloc: Global, answer: &Answer, response: &mut Response) -> Result<(
 /// Answers a wish, the commands of which were answered so. After an error part of the response may be written.
 pub(crate) fn say(
     alloc: Global,
-    wish: &Wish,
+    page_request: &PageRequest,
     answers: &[Answer],
     response: &mut Response,
 ) -> Result<(), AllocError>
     requires blank { IsBlank response.old }
-    requires many { length answers.now ≡ length (commands_of wish.now) }
-    ensures { OnOk result (SaysFor wish.now answers.now response.new) }
+    requires many { length answers.now ≡ length (commands_of page_request.now) }
+    ensures { OnOk result (SaysFor page_request.now answers.now response.new) }
 {
-    match wish {
-        Wish::Page => say_bytes(
+    match page_request {
+        PageRequest::Page => say_bytes(
             StatusCode::OK,
-            Kind::Html,
+            ContentKind::Html,
             Bytes::from_static(PAGE),
             response,
         ),
-        Wish::Picture => say_picture(alloc, &answers[0], response),
-        Wish::Flat => say_flat(alloc, &answers[0], response),
-        Wish::Read { handlers } => {
+        PageRequest::Picture => say_picture(alloc, &answers[0], response),
+        PageRequest::Flat => say_flat(alloc, &answers[0], response),
+        PageRequest::Read { handlers } => {
             let told = read_entries(alloc, handlers.as_slice(), answers)?;
             say_value(alloc, &told, response)
         }
-        Wish::Write { handler, .. } => {
+        PageRequest::Write { handler, .. } => {
             let told = write_entry(alloc, handler.as_slice(), &answers[0])?;
             say_value(alloc, &told, response)
         }
-        Wish::Refused(why) => say_refusal(*why, response),
+        PageRequest::Refused(why) => say_refusal(*why, response),
     }
 }

@@ -6,9 +6,9 @@ ghost use Rattle.click_page.specs.Asking.{commands_of};
 ghost use Rattle.click_page.specs.Saying.{SaysFor, SaysNoMemory};
 
 use crate::asking::{ask_all, calls_of};
-use crate::requests::wish_of;
+use crate::page_request::PageRequest;
+use crate::requests::parse_request;
 use crate::saying::say;
-use crate::wish::Wish;
 use bytes::Bytes;
 use click_control::{Answer, Port};
 use http::{Request, StatusCode};
@@ -71,22 +71,22 @@ impl<P: Port> Service for Page<P> {
         request: &Request<Bytes>,
         response: &mut Response,
     ) -> Result<(), AllocError> {
-        let wish = wish_of(self.alloc, self.at, request)?;
-        let calls = calls_of(self.alloc, &wish, self.readonly)?;
+        let page_request = parse_request(self.alloc, self.at, request)?;
+        let calls = calls_of(self.alloc, &page_request, self.readonly)?;
         let answers = Vec::with_capacity(self.alloc, calls.len())?;
         let answers = ask_all(self.alloc, &mut self.port, calls, answers);
-        tell(self.alloc, &wish, answers.as_slice(), response);
+        tell(self.alloc, &page_request, answers.as_slice(), response);
         Ok(())
     }
 }
 
 /// Tells the answers, or that memory ran out.
-fn tell(alloc: Global, wish: &Wish, answers: &[Answer], response: &mut Response)
+fn tell(alloc: Global, page_request: &PageRequest, answers: &[Answer], response: &mut Response)
     requires blank { IsBlank response.old }
-    requires each { length answers.now ≡ length (commands_of wish.now) }
-    ensures { SaysFor wish.now answers.now response.new ⊎ SaysNoMemory response.new }
+    requires each { length answers.now ≡ length (commands_of page_request.now) }
+    ensures { SaysFor page_request.now answers.now response.new ⊎ SaysNoMemory response.new }
 {
-    if say(alloc, wish, answers, response).is_err() {
+    if say(alloc, page_request, answers, response).is_err() {
         response.clear();
         response.status = StatusCode::SERVICE_UNAVAILABLE;
     }

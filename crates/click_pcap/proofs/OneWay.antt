@@ -7,8 +7,8 @@ use Rattle.click_router.specs.State.{RouterState}
 use Rattle.click_router.specs.declared.call.Call.TheVariants as call
 use Rattle.click_router.specs.declared.call.Reply.{Reply}
 use Rattle.click_router.specs.declared.call.Reply.TheVariants as reply
-use Rattle.click_router.proofs.Outcomes.{one_answer}
-use Rattle.click_pcap.specs.Ways.{Asked, Enters, Gave, Leads, packet_of}
+use Rattle.click_router.proofs.OfCalls.OneOutcome.{one_answer}
+use Rattle.click_pcap.specs.Passages.{Asked, Enters, Gave, Leads, packet_of}
 use Rattle.click_pcap.specs.Carrying.{at_time, Gives, AllGive}
 
 abbrev packet_in : Reply → Option Packet

@@ -13,11 +13,11 @@ use Rattle.click_capture.specs.declared.order.Order.{Order}
 use Rattle.click_capture.specs.declared.record.Time.{Time}
 use Rattle.click_control.specs.Peers.{Input, Output, HasWritten}
 use Rattle.click_router.specs.State.{RouterState}
-use Rattle.click_pcap.specs.declared.stop.Unsent.{Unsent}
-use Rattle.click_pcap.specs.declared.stop.Unsent.TheVariants as unsent
+use Rattle.click_pcap.specs.declared.carry_fault.SendFault.{SendFault}
+use Rattle.click_pcap.specs.declared.carry_fault.SendFault.TheVariants as unsent
 use Rattle.click_pcap.specs.Reading.{Took, TookAll}
-use Rattle.click_pcap.specs.Ways.{Way, went, Asked, Gave}
-use Rattle.click_pcap.specs.Carrying.{at_time, told, widened, Gives, AllGive, Carried, Interrupted, unsent_stop, IsNextAt, Ends}
+use Rattle.click_pcap.specs.Passages.{PassageState, went, Asked, Gave}
+use Rattle.click_pcap.specs.Carrying.{at_time, records_at, widened_header, Gives, AllGive, Carried, Interrupted, send_carry_fault, IsNextAt, Ends}
 use Rattle.click_pcap.proofs.Pieces.{Took-then}
 use Rattle.click_pcap.proofs.Outputs.{HasWritten-then}
 
@@ -35,27 +35,27 @@ records-append : (o : Order) (rs qs : List Record) → records_bytes o (rs ++ qs
 records-append o [] qs = refl
 records-append o (r ∷ rs) qs = ap (λ (l : List ℕ). record_bytes o r ++ l) (records-append o rs qs) ∙ sym (append_assoc (record_bytes o r) (records_bytes o rs) (records_bytes o qs))
 
-pub told-more : (o : Order) (t : Time) (ps : List Packet) (p : Packet) → told o t (ps ++ p ∷ []) ≡ told o t ps ++ record_bytes o (whole t p.bytes)
-told-more o t ps p =
+pub records_at-more : (o : Order) (t : Time) (ps : List Packet) (p : Packet) → records_at o t (ps ++ p ∷ []) ≡ records_at o t ps ++ record_bytes o (whole t p.bytes)
+records_at-more o t ps p =
     ap (λ (l : List Record). records_bytes o l) (at_time-append t ps (p ∷ [])) ∙ records-append o (at_time t ps) (whole t p.bytes ∷ [])
-    ∙ ap (λ (l : List ℕ). told o t ps ++ l) (append-nil (record_bytes o (whole t p.bytes)))
+    ∙ ap (λ (l : List ℕ). records_at o t ps ++ l) (append-nil (record_bytes o (whole t p.bytes)))
 
 pub one-more : {T : Type 0} (xs : List T) (x : T) → length (xs ++ x ∷ []) ≡ length xs + 1
 one-more xs x = length-append xs (x ∷ [])
 
 -- ---- ways
 
-pub went-same : (w : Way) → w ≡ went w w.router
+pub went-same : (w : PassageState) → w ≡ went w w.router
 went-same w = refl
 
-pub went-on : (w v u : Way) (s t : RouterState) → v ≡ went w s → u ≡ went v t → u ≡ went w t
-went-on w v u s t p q = q ∙ ap (λ (x : Way). went x t) p
+pub went-on : (w v u : PassageState) (s t : RouterState) → v ≡ went w s → u ≡ went v t → u ≡ went w t
+went-on w v u s t p q = q ∙ ap (λ (x : PassageState). went x t) p
 
 -- the sink gave one more
-pub asks-more : (w v u : Way) (ps : List Packet) (p : Packet) → Gave w.sink w.router ps v.router → v ≡ went w v.router → Asked v.sink v.router (Some p) u.router → u ≡ went v u.router
+pub asks-more : (w v u : PassageState) (ps : List Packet) (p : Packet) → Gave w.sink w.router ps v.router → v ≡ went w v.router → Asked v.sink v.router (Some p) u.router → u ≡ went v u.router
     → Gave w.sink w.router (ps ++ p ∷ []) u.router × (u ≡ went w u.router)
 asks-more w v u ps p gave way asks on =
-    let sink : v.sink ≡ w.sink = ap (λ (x : Way). x.sink) way in
+    let sink : v.sink ≡ w.sink = ap (λ (x : PassageState). x.sink) way in
     (gave-more w.sink w.router v.router u.router ps p gave (subst (λ (s : List ℕ). Asked s v.router (Some p) u.router) sink asks), went-on w v u v.router u.router way on)
 
 -- ---- records
@@ -85,16 +85,16 @@ capture-append h rs qs = ap (λ (l : List ℕ). header_bytes h ++ l) (records-ap
 capture-more : (h : Header) (rs : List Record) (r : Record) → capture_bytes h (rs ++ r ∷ []) ≡ capture_bytes h rs ++ record_bytes h.order r
 capture-more h rs r = capture-append h rs (r ∷ []) ∙ ap (λ (b : List ℕ). capture_bytes h rs ++ b) (append-nil (record_bytes h.order r))
 
-pub carried-more : (h : Header) (had mid left : Input) (held midst holds : Output) (first before new : Way) (records : List Record) (r : Record) (sent : List Packet)
+pub carried-more : (h : Header) (had mid left : Input) (held midst holds : Output) (first before new : PassageState) (records : List Record) (r : Record) (sent : List Packet)
     → Carried h had mid held midst first before records → Took mid left (record_bytes h.order r) → Gives before.source before.sink r before.router sent new.router
-    → new ≡ went before new.router → HasWritten midst holds (told h.order r.time sent) false → Carried h had left held holds first new (records ++ r ∷ [])
+    → new ≡ went before new.router → HasWritten midst holds (records_at h.order r.time sent) false → Carried h had left held holds first new (records ++ r ∷ [])
 carried-more h had mid left held midst holds first before new records r sent c took gives ends wrote =
-    let source : before.source ≡ first.source = ap (λ (w : Way). w.source) c.ends in
-    let sink : before.sink ≡ first.sink = ap (λ (w : Way). w.sink) c.ends in
+    let source : before.source ≡ first.source = ap (λ (w : PassageState). w.source) c.ends in
+    let sink : before.sink ≡ first.sink = ap (λ (w : PassageState). w.sink) c.ends in
     let at_first : Gives first.source first.sink r before.router sent new.router =
     subst (λ (s : List ℕ). Gives first.source s r before.router sent new.router) sink (subst (λ (s : List ℕ). Gives s before.sink r before.router sent new.router) source gives) in
-    let out : capture_bytes (widened h) (c.outs ++ at_time r.time sent) ≡ capture_bytes (widened h) c.outs ++ told h.order r.time sent =
-    capture-append (widened h) c.outs (at_time r.time sent) in
+    let out : capture_bytes (widened_header h) (c.outs ++ at_time r.time sent) ≡ capture_bytes (widened_header h) c.outs ++ records_at h.order r.time sent =
+    capture-append (widened_header h) c.outs (at_time r.time sent) in
     record {
       read = subst (λ (b : List ℕ). Took had left b) (sym (capture-more h records r)) (Took-then had mid left _ _ c.read took);
       outs = c.outs ++ at_time r.time sent;
@@ -142,7 +142,7 @@ next-at h records r at kept next here len is =
 -- ---- how a capture ends
 
 -- nothing is left to read
-pub ended : (h : Header) (had mid left : Input) (held holds : Output) (first new : Way) (records : List Record) → Carried h had mid held holds first new records → TookAll mid left []
+pub ended : (h : Header) (had mid left : Input) (held holds : Output) (first new : PassageState) (records : List Record) → Carried h had mid held holds first new records → TookAll mid left []
     → Carried h had left held holds first new records × IsAtEnd left.remaining
 ended h had mid left held holds first new records c took = (
   record {
@@ -156,19 +156,19 @@ ended h had mid left held holds first new records c took = (
 )
 
 -- the header was read and written
-pub begun : (h : Header) (had left : Input) (held holds : Output) (w : Way) → Took had left (header_bytes h) → HasWritten held holds (header_bytes (widened h)) false → Carried h had left held holds w w []
+pub begun : (h : Header) (had left : Input) (held holds : Output) (w : PassageState) → Took had left (header_bytes h) → HasWritten held holds (header_bytes (widened_header h)) false → Carried h had left held holds w w []
 begun h had left held holds w took wrote = record {
   read = subst (λ (b : List ℕ). Took had left b) (sym (append-nil (header_bytes h))) took;
   outs = [];
   give = (refl, refl);
   ends = refl;
-  written = subst (λ (b : List ℕ). HasWritten held holds b false) (sym (append-nil (header_bytes (widened h)))) wrote;
+  written = subst (λ (b : List ℕ). HasWritten held holds b false) (sym (append-nil (header_bytes (widened_header h)))) wrote;
 }
 
 -- a passage broke off
-pub interrupted : (T : Type 0) (h : Header) (had mid left : Input) (held midst holds : Output) (first before new : Way) (records : List Record) (why : Unsent) (number at : ℕ)
+pub interrupted : (T : Type 0) (h : Header) (had mid left : Input) (held midst holds : Output) (first before new : PassageState) (records : List Record) (why : SendFault) (number at : ℕ)
     → Carried h had mid held midst first before records → Interrupted h mid left midst holds before new why → number ≡ length records + 1 → IsNextAt h records at
-    → Ends {T = T} h had left held holds first new (Err (unsent_stop why number at))
+    → Ends {T = T} h had left held holds first new (Err (send_carry_fault why number at))
 interrupted T h had mid left held midst holds first before new records unsent.GivesOn number at c i n k = (records, mid, midst, before, c, i, n, k)
 interrupted T h had mid left held midst holds first before new records unsent.NoMemory number at c i n k = inr (records, mid, midst, before, c, i)
 interrupted T h had mid left held midst holds first before new records unsent.WriteFailed number at c i n k = (records, mid, midst, before, c, i)

@@ -5,13 +5,13 @@ use Rattle.click_engine.specs.Devices.{Device, element_with}
 use Rattle.click_engine.specs.Keeps.{KeepsRest}
 use Rattle.click_engine.specs.Plant.{Plant}
 use Rattle.click_engine.specs.Rounds.{arrive, transmit, transmitted, round, source_of, sink_of}
-use Rattle.click_engine.proofs.Keeping.{arrive-settings, transmit-settings, round-settings}
+use Rattle.click_engine.proofs.OfInvariants.ElementInvariants.{arrive-settings, transmit-settings, round-settings}
 use Rattle.click_router.specs.One.{Answers, arrivals, entered, worked, sent}
 use Rattle.click_router.specs.State.{RouterState}
 use Rattle.click_router.specs.declared.call.Call.TheVariants as call
 use Rattle.click_router.specs.declared.call.Reply.{Reply}
 use Rattle.click_router.specs.declared.call.Reply.TheVariants as reply
-use Rattle.click_pcap.specs.Ways.{Way, HasEnds, Enters, Asked, went}
+use Rattle.click_pcap.specs.Passages.{PassageState, HasEnds, Enters, Asked, went}
 
 pub record SameDevices (s t : RouterState) : Type 0 where
   pub sources : t.plant.sources ≡ s.plant.sources
@@ -62,14 +62,14 @@ transmit-so s t device r has is =
 pub round-so : (s t : RouterState) (r : Reply) → worked s ≡ (t, r) → SameDevices s t
 round-so s t r is = subst (λ (q : RouterState × Reply). SameDevices s q.0) is (with_plant s (round s.plant).plant (round-settings s.plant).rest)
 
-pub still-ends : (w : Way) (t : RouterState) → SameDevices w.router t → HasEnds w → HasEnds (went w t)
+pub still-ends : (w : PassageState) (t : RouterState) → SameDevices w.router t → HasEnds w → HasEnds (went w t)
 still-ends w t same h = record {
   enters = subst (λ (ds : List Device). IsSome (element_with ds w.source)) (sym same.sources) h.enters;
   leaves = subst (λ (ds : List Device). IsSome (element_with ds w.sink)) (sym same.sinks) h.leaves;
 }
 
 -- a packet entered, and each task ran once
-pub enters-so : (w : Way) (mid new : RouterState) (device : List ℕ) (p : Packet) (r : Reply) (n : ℕ) → HasEnds w → device ≡ w.source → Answers w.router (call.Arrive device p) mid r
+pub enters-so : (w : PassageState) (mid new : RouterState) (device : List ℕ) (p : Packet) (r : Reply) (n : ℕ) → HasEnds w → device ≡ w.source → Answers w.router (call.Arrive device p) mid r
     → Answers mid call.Round new (reply.Worked n) → Enters w.source p w.router new × HasEnds (went w new)
 enters-so w mid new device p r n ends at arrives works =
     let here : Answers w.router (call.Arrive w.source p) mid r = subst (λ (d : List ℕ). Answers w.router (call.Arrive d p) mid r) at arrives in
@@ -80,7 +80,7 @@ enters-so w mid new device p r n ends at arrives works =
     )
 
 -- the sink was asked
-pub asked-so : (w : Way) (new : RouterState) (device : List ℕ) (r : Reply) → HasEnds w → device ≡ w.sink → Answers w.router (call.Transmit device) new r
+pub asked-so : (w : PassageState) (new : RouterState) (device : List ℕ) (r : Reply) → HasEnds w → device ≡ w.sink → Answers w.router (call.Transmit device) new r
     → ((packet : Option Packet) × (r ≡ reply.Sent packet) × Asked w.sink w.router packet new) × HasEnds (went w new)
 asked-so w new device r ends at answers =
     let here : Answers w.router (call.Transmit w.sink) new r = subst (λ (d : List ℕ). Answers w.router (call.Transmit d) new r) at answers in

@@ -1,6 +1,6 @@
 pub mod Statuses
 pub mod Reading
 pub mod Writing
-pub mod Ways
+pub mod Passages
 pub mod Carrying
 pub mod Runs

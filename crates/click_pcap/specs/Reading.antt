@@ -5,12 +5,12 @@ use Rattle.click_capture.specs.Captures.{Record, header_bytes, head_bytes, recor
 use Rattle.click_capture.specs.declared.header.Header.{Header}
 use Rattle.click_capture.specs.declared.record.Head.{Head}
 use Rattle.click_control.specs.Peers.{Input}
-use Rattle.click_pcap.specs.declared.reading.NoHeader.{NoHeader}
-use Rattle.click_pcap.specs.declared.reading.NoHeader.TheVariants as no_header
-use Rattle.click_pcap.specs.declared.reading.NoRecord.{NoRecord}
-use Rattle.click_pcap.specs.declared.reading.NoRecord.TheVariants as no_record
-use Rattle.click_pcap.specs.declared.reading.Next.{Next}
-use Rattle.click_pcap.specs.declared.reading.Next.TheVariants as next
+use Rattle.click_pcap.specs.declared.reading.HeaderReadFault.{HeaderReadFault}
+use Rattle.click_pcap.specs.declared.reading.HeaderReadFault.TheVariants as no_header
+use Rattle.click_pcap.specs.declared.reading.RecordReadFault.{RecordReadFault}
+use Rattle.click_pcap.specs.declared.reading.RecordReadFault.TheVariants as no_record
+use Rattle.click_pcap.specs.declared.reading.NextRecord.{NextRecord}
+use Rattle.click_pcap.specs.declared.reading.NextRecord.TheVariants as next
 
 -- Between two moments these bytes were read, and no read failed.
 pub record Took (had left : Input) (bytes : List ℕ) : Type 0 where
@@ -35,7 +35,7 @@ pub record Fills (had left : Input) (asked : ℕ) (bytes : List ℕ) : Type 0 wh
   pub ended : length bytes < asked → IsAtEnd left.remaining
 
 -- A header was read; or 24 bytes that have this fault; or all bytes, which are fewer; or a read failed.
-abbrev pub ReadsHeader : Input → Input → Result Header NoHeader → Type 0
+abbrev pub ReadsHeader : Input → Input → Result Header HeaderReadFault → Type 0
 ReadsHeader had left (Ok header) = Took had left (header_bytes header)
 ReadsHeader had left (Err (no_header.Fault fault)) = (bytes : List ℕ) × Took had left bytes × (length bytes ≡ 24) × IsHeaderFault bytes fault
 ReadsHeader had left (Err (no_header.Short count)) = (bytes : List ℕ) × TookAll had left bytes × (length bytes ≡ count) × (count < 24)
@@ -53,7 +53,7 @@ IsCut header bytes =
 
 -- A record was read, whose packet stands at the front of the piece; or nothing is there; or all bytes, which are no whole record; or the 16 bytes before a
 -- packet, which say that it is longer than the capture's packets may be; or a read failed.
-abbrev pub ReadsRecord : Header → Input → Input → List ℕ → Result Next NoRecord → Type 0
+abbrev pub ReadsRecord : Header → Input → Input → List ℕ → Result NextRecord RecordReadFault → Type 0
 ReadsRecord header had left piece (Ok next.End) = TookAll had left []
 ReadsRecord header had left piece (Ok (next.Packet head)) =
     Took had left (record_bytes header.order (record_in piece head)) × (length (take head.kept piece) ≡ head.kept) × (head.kept ≤ longest header.snap)

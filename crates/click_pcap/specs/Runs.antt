@@ -4,17 +4,17 @@ use Rattle.click_engine.specs.Rounds.{source_of, sink_of}
 use Rattle.click_router.specs.Opened.{IsOpened, IsFirstFault}
 use Rattle.click_router.specs.State.{RouterState}
 use Rattle.click_router.specs.declared.fault.FaultKind.TheVariants as kind
-use Rattle.click_pcap.specs.declared.passage.NoPassage.{NoPassage}
-use Rattle.click_pcap.specs.declared.passage.NoPassage.TheVariants as none
+use Rattle.click_pcap.specs.declared.passage.PassageFault.{PassageFault}
+use Rattle.click_pcap.specs.declared.passage.PassageFault.TheVariants as none
 
 -- why a text opens no router: its first fault, or memory runs out
-abbrev pub IsConfigFault : List ℕ → NoPassage → Type 0
+abbrev pub IsConfigFault : List ℕ → PassageFault → Type 0
 IsConfigFault text (none.Config f) = IsFirstFault text f × (f.kind ≡ kind.NoMemory → ⊥)
 IsConfigFault text none.NoMemory = Unit {0}
 IsConfigFault text _ = ⊥
 
 -- Why there is no passage: that; or the router of the text has no source of the one device; or it has that, and no sink of the other.
-abbrev pub IsNoPassage : List ℕ → List ℕ → List ℕ → NoPassage → Type 0
+abbrev pub IsNoPassage : List ℕ → List ℕ → List ℕ → PassageFault → Type 0
 IsNoPassage text source sink none.NoSource = (s : RouterState) × IsOpened text s × (IsSome (source_of s.plant source) → ⊥)
 IsNoPassage text source sink none.NoSink =
     (s : RouterState) × IsOpened text s × IsSome (source_of s.plant source) × (IsSome (sink_of s.plant sink) → ⊥)

@@ -2,12 +2,12 @@
 use Rattle.std.specs.Prelude.{ℕ}
 use Rattle.std.specs.declared.io.ErrorKind.{ErrorKind}
 use Rattle.std.specs.declared.io.ErrorKind.TheVariants as io
-use Rattle.click_pcap.specs.declared.passage.NoPassage.{NoPassage}
-use Rattle.click_pcap.specs.declared.passage.NoPassage.TheVariants as none
+use Rattle.click_pcap.specs.declared.passage.PassageFault.{PassageFault}
+use Rattle.click_pcap.specs.declared.passage.PassageFault.TheVariants as none
 use Rattle.click_pcap.specs.declared.status.Status.{Status}
 use Rattle.click_pcap.specs.declared.status.Status.TheVariants as status
-use Rattle.click_pcap.specs.declared.stop.Stop.{Stop}
-use Rattle.click_pcap.specs.declared.stop.Stop.TheVariants as stop
+use Rattle.click_pcap.specs.declared.carry_fault.CarryFault.{CarryFault}
+use Rattle.click_pcap.specs.declared.carry_fault.CarryFault.TheVariants as carry_fault
 
 -- the number that the program's caller sees
 abbrev pub code : Status → ℕ
@@ -18,23 +18,23 @@ code status.NoMemory = 3
 code status.DeviceFailed = 4
 
 -- where there is no passage
-abbrev pub none_status : NoPassage → Status
-none_status (none.Config fault) = status.Faulty
-none_status none.NoSource = status.Faulty
-none_status none.NoSink = status.Faulty
-none_status none.NoMemory = status.NoMemory
+abbrev pub passage_status : PassageFault → Status
+passage_status (none.Config fault) = status.Faulty
+passage_status none.NoSource = status.Faulty
+passage_status none.NoSink = status.Faulty
+passage_status none.NoMemory = status.NoMemory
 
 -- where the run broke off
-abbrev pub stop_status : Stop → Status
-stop_status (stop.ShortHeader at) = status.Faulty
-stop_status (stop.Header fault) = status.Faulty
-stop_status (stop.Cut number at) = status.Faulty
-stop_status (stop.TooLong number at fault) = status.Faulty
-stop_status (stop.GivesOn number at) = status.Faulty
-stop_status stop.Uncounted = status.Faulty
-stop_status stop.NoMemory = status.NoMemory
-stop_status stop.ReadFailed = status.DeviceFailed
-stop_status stop.WriteFailed = status.DeviceFailed
+abbrev pub carry_status : CarryFault → Status
+carry_status (carry_fault.ShortHeader at) = status.Faulty
+carry_status (carry_fault.Header fault) = status.Faulty
+carry_status (carry_fault.Cut number at) = status.Faulty
+carry_status (carry_fault.TooLong number at fault) = status.Faulty
+carry_status (carry_fault.GivesOn number at) = status.Faulty
+carry_status carry_fault.Uncounted = status.Faulty
+carry_status carry_fault.NoMemory = status.NoMemory
+carry_status carry_fault.ReadFailed = status.DeviceFailed
+carry_status carry_fault.WriteFailed = status.DeviceFailed
 
 -- where the words of the command line cannot be read
 abbrev pub unread_status : ErrorKind → Status

@@ -2,12 +2,12 @@
 
 ghost use Rattle.std.specs.Prelude.{◌≡◌, [], length};
 ghost use Rattle.click_control.specs.Peers.{Input as AnInput, Output as AnOutput};
-ghost use Rattle.click_pcap.specs.Ways.{Way, went};
-ghost use Rattle.click_pcap.specs.Carrying.{widened, header_stop, unsent_stop, WroteHeader, SendsAll, Passes, Carried, Ends, Carries};
+ghost use Rattle.click_pcap.specs.Passages.{PassageState, went};
+ghost use Rattle.click_pcap.specs.Carrying.{widened_header, header_carry_fault, send_carry_fault, WroteHeader, SendsAll, Passes, Carried, Ends, Carries};
 
+use crate::carry_fault::{CarryFault, SendFault};
 use crate::passage::Passage;
-use crate::reading::{Next, NoHeader, NoRecord, read_header, read_record};
-use crate::stop::{Stop, Unsent};
+use crate::reading::{HeaderReadFault, NextRecord, RecordReadFault, read_header, read_record};
 use crate::tally::Tally;
 use crate::writing::write_all;
 use click_capture::{
@@ -24,14 +24,14 @@ const LEAST_SNAP: u32 = 1_600;
 const MOST_ASKED: u32 = 1_048_576;
 
 /// The header that is written for one that was read: the same, but with room for each packet.
-fn widened(header: &Header) -> Header
-    ensures { result ≡ widened header.now }
+fn widened_header(header: &Header) -> Header
+    ensures { result ≡ widened_header header.now }
 {
-    let mut widened = *header;
-    if widened.snap != 0 && widened.snap < LEAST_SNAP {
-        widened.snap = LEAST_SNAP;
+    let mut widened_header = *header;
+    if widened_header.snap != 0 && widened_header.snap < LEAST_SNAP {
+        widened_header.snap = LEAST_SNAP;
     }
-    widened
+    widened_header
 }
 
 /// Carries the packets of a capture through the router: each enters, each task runs once, and what the sink then gives is written with the time of the packet
@@ -42,40 +42,40 @@ pub fn carry<I: Source, O: Sink>(
     reader: &mut I,
     writer: &mut O,
     tally: &mut Tally,
-) -> Result<(), Stop>
+) -> Result<(), CarryFault>
     ensures { Carries (I.input reader.old) (I.input reader.new) (O.output writer.old) (O.output writer.new) passage.old passage.new result }
 {
     let header = match read_header(reader) {
         Ok(header) => header,
-        Err(why) => return Err(header_stop(why)),
+        Err(why) => return Err(header_carry_fault(why)),
     };
-    if let Err(stop) = write_header(alloc, &widened(&header), writer) {
-        return Err(stop);
+    if let Err(carry_fault) = write_header(alloc, &widened_header(&header), writer) {
+        return Err(carry_fault);
     }
     carry_records(alloc, passage, &header, reader, writer, tally)
 }
 
 /// Why no header was read, as a run is told.
-fn header_stop(why: NoHeader) -> Stop
-    ensures { result ≡ header_stop why }
+fn header_carry_fault(why: HeaderReadFault) -> CarryFault
+    ensures { result ≡ header_carry_fault why }
 {
     match why {
-        NoHeader::ReadFailed => Stop::ReadFailed,
-        NoHeader::Short(count) => Stop::ShortHeader { at: count as u64 },
-        NoHeader::Fault(fault) => Stop::Header(fault),
+        HeaderReadFault::ReadFailed => CarryFault::ReadFailed,
+        HeaderReadFault::Short(count) => CarryFault::ShortHeader { at: count as u64 },
+        HeaderReadFault::Fault(fault) => CarryFault::Header(fault),
     }
 }
 
 /// Writes a header.
-fn write_header<O: Sink>(alloc: Global, header: &Header, writer: &mut O) -> Result<(), Stop>
+fn write_header<O: Sink>(alloc: Global, header: &Header, writer: &mut O) -> Result<(), CarryFault>
     ensures { WroteHeader header.now (O.output writer.old) (O.output writer.new) result }
 {
     let Ok(bytes) = header_bytes(alloc, header) else {
-        return Err(Stop::NoMemory);
+        return Err(CarryFault::NoMemory);
     };
     match write_all(writer, &bytes) {
         Ok(()) => Ok(()),
-        Err(Failed) => Err(Stop::WriteFailed),
+        Err(Failed) => Err(CarryFault::WriteFailed),
     }
 }
 
@@ -87,13 +87,13 @@ fn carry_records<I: Source, O: Sink>(
     reader: &mut I,
     writer: &mut O,
     tally: &mut Tally,
-) -> Result<(), Stop>
-    ensures { (had : AnInput) (held : AnOutput) (first : Way)
+) -> Result<(), CarryFault>
+    ensures { (had : AnInput) (held : AnOutput) (first : PassageState)
         → Carried header.now had (I.input reader.old) held (O.output writer.old) first passage.old []
         → Ends header.now had (I.input reader.new) held (O.output writer.new) first passage.new result }
 {
     let Ok(mut packet) = vec![in alloc; 0u8; LONGEST_RECORD as usize] else {
-        return Err(Stop::NoMemory);
+        return Err(CarryFault::NoMemory);
     };
     carry_each(
         alloc,
@@ -115,9 +115,9 @@ fn carry_each<I: Source, O: Sink>(
     reader: &mut I,
     writer: &mut O,
     tally: &mut Tally,
-) -> Result<(), Stop>
+) -> Result<(), CarryFault>
     requires { length piece.old ≡ 262144 }
-    ensures { (had : AnInput) (held : AnOutput) (first : Way)
+    ensures { (had : AnInput) (held : AnOutput) (first : PassageState)
         → Carried header.now had (I.input reader.old) held (O.output writer.old) first passage.old []
         → Ends header.now had (I.input reader.new) held (O.output writer.new) first passage.new result }
 {
@@ -125,11 +125,15 @@ fn carry_each<I: Source, O: Sink>(
     for before in 0..u64::MAX {
         let number = before + 1;
         let head = match read_record(reader, header, piece) {
-            Ok(Next::End) => return Ok(()),
-            Ok(Next::Packet(head)) => head,
-            Err(NoRecord::ReadFailed) => return Err(Stop::ReadFailed),
-            Err(NoRecord::Cut) => return Err(Stop::Cut { number, at }),
-            Err(NoRecord::TooLong(fault)) => return Err(Stop::TooLong { number, at, fault }),
+            Ok(NextRecord::End) => return Ok(()),
+            Ok(NextRecord::Packet(head)) => head,
+            Err(RecordReadFault::ReadFailed) => return Err(CarryFault::ReadFailed),
+            Err(RecordReadFault::Cut) => return Err(CarryFault::Cut { number, at }),
+            Err(RecordReadFault::TooLong(fault)) => return Err(CarryFault::TooLong {
+                number,
+                at,
+                fault,
+            }),
         };
         tally.read = number;
         let kept = head.kept as usize;
@@ -142,22 +146,22 @@ fn carry_each<I: Source, O: Sink>(
             writer,
             tally,
         ) {
-            return Err(unsent_stop(why, number, at));
+            return Err(send_carry_fault(why, number, at));
         }
         at = at.saturating_add((HEAD_LEN + kept) as u64);
     }
     // No input has so many records.
-    Err(Stop::Uncounted)
+    Err(CarryFault::Uncounted)
 }
 
 /// Why what came of the packet of a record was not written to its end, as a run is told.
-fn unsent_stop(why: Unsent, number: u64, at: u64) -> Stop
-    ensures { result ≡ unsent_stop why number at }
+fn send_carry_fault(why: SendFault, number: u64, at: u64) -> CarryFault
+    ensures { result ≡ send_carry_fault why number at }
 {
     match why {
-        Unsent::GivesOn => Stop::GivesOn { number, at },
-        Unsent::NoMemory => Stop::NoMemory,
-        Unsent::WriteFailed => Stop::WriteFailed,
+        SendFault::GivesOn => CarryFault::GivesOn { number, at },
+        SendFault::NoMemory => CarryFault::NoMemory,
+        SendFault::WriteFailed => CarryFault::WriteFailed,
     }
 }
 
@@ -170,7 +174,7 @@ fn carry_packet<O: Sink>(
     bytes: &[u8],
     writer: &mut O,
     tally: &mut Tally,
-) -> Result<(), Unsent>
+) -> Result<(), SendFault>
     ensures { Passes header.now (record { time = head.now.time; wire = head.now.wire; bytes = bytes.now }) passage.old passage.new (O.output writer.old) (O.output writer.new) result }
 {
     if let Err(TooLong) = passage.enter(bytes) {
@@ -189,7 +193,7 @@ fn send_all<O: Sink>(
     time: Time,
     writer: &mut O,
     tally: &mut Tally,
-) -> Result<(), Unsent>
+) -> Result<(), SendFault>
     ensures sends { SendsAll header.now time passage.old passage.new (O.output writer.old) (O.output writer.new) result }
     ensures ends { passage.new ≡ went passage.old passage.new.router }
 {
@@ -198,12 +202,12 @@ fn send_all<O: Sink>(
             return Ok(());
         };
         let Ok(record) = record_bytes(alloc, header.order, time, packet.bytes()) else {
-            return Err(Unsent::NoMemory);
+            return Err(SendFault::NoMemory);
         };
         if let Err(Failed) = write_all(writer, &record) {
-            return Err(Unsent::WriteFailed);
+            return Err(SendFault::WriteFailed);
         }
         tally.written = tally.written.saturating_add(1);
     }
-    Err(Unsent::GivesOn)
+    Err(SendFault::GivesOn)
 }

@@ -4,7 +4,7 @@ ghost use Rattle.std.specs.Prelude.{◌≡◌, ℕ, List};
 ghost use Rattle.click_packet.specs.Packet.{Packet};
 ghost use Rattle.click_capture.specs.Captures.{Record};
 ghost use Rattle.click_router.specs.State.{RouterState};
-ghost use Rattle.click_pcap.specs.Ways.{Leads};
+ghost use Rattle.click_pcap.specs.Passages.{Leads};
 ghost use Rattle.click_pcap.specs.Carrying.{AllGive};
 
 /// What comes of a packet is one list of packets, and it leaves one router.

@@ -2,25 +2,25 @@
 #![tactic(auto)]
 
 mod arguments;
+mod carry_fault;
 mod carrying;
 pub mod laws;
 mod passage;
 mod reading;
 mod status;
-mod stop;
 mod tally;
 mod writing;
 
 use arguments::options_of;
+use carry_fault::CarryFault;
 use carrying::carry;
 use clap::error::ErrorKind;
 use click_control::{Reading, Writing};
-use passage::{NoPassage, Passage};
-use status::{Status, of_none, of_stop, of_unread};
+use passage::{Passage, PassageFault};
+use status::{Status, carry_status, passage_status, unread_status};
 use std::io::{BufReader, Write};
 use std::process::ExitCode;
 use std::{env, io};
-use stop::Stop;
 use tally::Tally;
 
 /// What is told where the router lacks a device.
@@ -37,7 +37,7 @@ fn program(rt: &HostRuntime) -> Status {
     let alloc = rt.alloc();
     let words = match env::args(rt) {
         Ok(words) => words,
-        Err(error) => return unread(rt, error.kind()),
+        Err(error) => return refuse_words(rt, error.kind()),
     };
     let Ok(words) = words.collect::<Vec<String>>(alloc) else {
         return Status::NoMemory;
@@ -59,8 +59,8 @@ fn program(rt: &HostRuntime) -> Status {
 }
 
 /// Tells why the words of the command line cannot be read: memory ran out, or one of them is no text.
-fn unread(rt: &HostRuntime, kind: io::ErrorKind) -> Status {
-    let status = of_unread(kind);
+fn refuse_words(rt: &HostRuntime, kind: io::ErrorKind) -> Status {
+    let status = unread_status(kind);
     if status == Status::WrongArguments {
         // A failed write changes nothing of the status.
         let _ = rt.eprintln("click_pcap: an argument is not UTF-8");
@@ -73,31 +73,35 @@ fn run(rt: &HostRuntime, text: &[u8], source: &[u8], sink: &[u8]) -> Status {
     match Passage::open(rt.alloc(), text, source, sink) {
         Ok(passage) => match carried(rt, passage) {
             Ok(()) => Status::Good,
-            Err(stop) => of_stop(stop),
+            Err(carry_fault) => carry_status(carry_fault),
         },
         Err(why) => {
             refuse(rt, &why);
-            of_none(&why)
+            passage_status(&why)
         }
     }
 }
 
 /// Carries the packets, and tells why the run broke off and the numbers.
-fn carried(rt: &HostRuntime, mut passage: Passage) -> Result<(), Stop> {
+fn carried(rt: &HostRuntime, mut passage: Passage) -> Result<(), CarryFault> {
     let mut tally = Tally::default();
-    let ended = carried_from(rt, &mut passage, &mut tally);
-    if let Err(stop) = ended {
-        tell_stop(rt, stop);
+    let ended = carry_standard(rt, &mut passage, &mut tally);
+    if let Err(carry_fault) = ended {
+        tell_fault(rt, carry_fault);
     }
     tell_tally(rt, &tally);
     ended
 }
 
 /// Carries the packets on standard input to standard output.
-fn carried_from(rt: &HostRuntime, passage: &mut Passage, tally: &mut Tally) -> Result<(), Stop> {
+fn carry_standard(
+    rt: &HostRuntime,
+    passage: &mut Passage,
+    tally: &mut Tally,
+) -> Result<(), CarryFault> {
     let alloc = rt.alloc();
     let Ok(input) = BufReader::new(alloc, rt.stdin()) else {
-        return Err(Stop::NoMemory);
+        return Err(CarryFault::NoMemory);
     };
     let mut reader = Reading::new(input);
     let mut writer = Writing::new(rt.stdout());
@@ -105,9 +109,9 @@ fn carried_from(rt: &HostRuntime, passage: &mut Passage, tally: &mut Tally) -> R
 }
 
 /// Tells why a run broke off.
-fn tell_stop(rt: &HostRuntime, stop: Stop) {
+fn tell_fault(rt: &HostRuntime, carry_fault: CarryFault) {
     // A failed write changes nothing of the status.
-    let _ = match format!(in rt.alloc(); "error: {stop}\n") {
+    let _ = match format!(in rt.alloc(); "error: {carry_fault}\n") {
         Ok(text) => rt.stderr().write_all(text.as_bytes()),
         Err(_) => rt.stderr().write_all(b"error: out of memory\n"),
     };
@@ -122,21 +126,21 @@ fn tell_tally(rt: &HostRuntime, tally: &Tally) {
 }
 
 /// Tells why there is no passage; nothing where memory ran out.
-fn refuse(rt: &HostRuntime, why: &NoPassage) {
+fn refuse(rt: &HostRuntime, why: &PassageFault) {
     // A failed write changes nothing of the status.
     let _ = match why {
-        NoPassage::Config(fault) => match fault.text(rt.alloc()) {
-            Ok(text) => told(&mut rt.stderr(), text.as_slice()),
-            Err(_) => told(&mut rt.stderr(), b"faulty configuration"),
+        PassageFault::Config(fault) => match fault.text(rt.alloc()) {
+            Ok(text) => write_line(&mut rt.stderr(), text.as_slice()),
+            Err(_) => write_line(&mut rt.stderr(), b"faulty configuration"),
         },
-        NoPassage::NoSource => told(&mut rt.stderr(), NO_SOURCE),
-        NoPassage::NoSink => told(&mut rt.stderr(), NO_SINK),
-        NoPassage::NoMemory => Ok(()),
+        PassageFault::NoSource => write_line(&mut rt.stderr(), NO_SOURCE),
+        PassageFault::NoSink => write_line(&mut rt.stderr(), NO_SINK),
+        PassageFault::NoMemory => Ok(()),
     };
 }
 
 /// Writes a line.
-fn told<W: Write>(to: &mut W, text: &[u8]) -> io::Result<()> {
+fn write_line<W: Write>(to: &mut W, text: &[u8]) -> io::Result<()> {
     to.write_all(text)?;
     to.write_all(b"\n")
 }

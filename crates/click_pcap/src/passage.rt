@@ -2,18 +2,18 @@
 
 ghost use Rattle.std.specs.Prelude.{◌≡◌, ◌<◌, ◌≤◌, length, IfOk, IfErr, OnOk, OnErr};
 ghost use Rattle.click_router.specs.Opened.{IsOpened};
-ghost use Rattle.click_pcap.specs.Ways.{went, packet_of, Enters, Asked};
+ghost use Rattle.click_pcap.specs.Passages.{went, packet_of, Enters, Asked};
 ghost use Rattle.click_pcap.specs.Runs.{IsConfigFault, IsNoPassage};
 
+use click_base::sequence::Sequence;
 use click_packet::{Packet, TooLong};
 use click_router::{ConfigFault, FaultKind, Reply, Router, prepare};
-use click_text::sequence::Sequence;
 use std::alloc::{AllocError, Global};
 use std::marker::Model;
 
 /// Why there is no passage.
 #[derive(Debug, Drop)]
-pub enum NoPassage {
+pub enum PassageFault {
     /// The configuration is faulty.
     Config(ConfigFault),
     /// The router has no source of the one device.
@@ -35,30 +35,24 @@ pub struct Passage {
 }
 
 impl Model for Passage {
-    ghost use Rattle.click_pcap.specs.Ways.{Way, HasEnds};
+    ghost use Rattle.click_pcap.specs.Passages.{PassageState, HasEnds};
 
-    ghost Value = { Way };
+    ghost Value = { PassageState };
 
     ghost view = { λ p. record { router = p.router; source = p.source; sink = p.sink } };
 
     ghost invariant = { λ p. HasEnds (record { router = p.router; source = p.source; sink = p.sink }) };
 }
 
-fn kept(alloc: Global, bytes: &[u8]) -> Result<Sequence<u8>, AllocError>
-    ensures { IfOk result (λ kept. kept ≡ bytes.now) }
-{
-    Ok(Sequence::of(Vec::from_slice(alloc, bytes)?))
-}
-
 /// The router of a text.
-fn router_of(alloc: Global, text: &[u8]) -> Result<Router<()>, NoPassage>
+fn router_of(alloc: Global, text: &[u8]) -> Result<Router<()>, PassageFault>
     ensures ok { IfOk result (IsOpened text.now) }
     ensures err { IfErr result (IsConfigFault text.now) }
 {
     match prepare(alloc, text) {
         Ok(prepared) => Ok(Router::open((), prepared)),
-        Err(fault) if fault.kind == FaultKind::NoMemory => Err(NoPassage::NoMemory),
-        Err(fault) => Err(NoPassage::Config(fault)),
+        Err(fault) if fault.kind == FaultKind::NoMemory => Err(PassageFault::NoMemory),
+        Err(fault) => Err(PassageFault::Config(fault)),
     }
 }
 
@@ -69,7 +63,7 @@ impl Passage {
         text: &[u8],
         source: &[u8],
         sink: &[u8],
-    ) -> Result<Passage, NoPassage>
+    ) -> Result<Passage, PassageFault>
         ensures ok { IfOk result (λ passage. IsOpened text.now passage.router × (passage.source ≡ source.now) × (passage.sink ≡ sink.now)) }
         ensures err { IfErr result (IsNoPassage text.now source.now sink.now) }
     {
@@ -78,16 +72,16 @@ impl Passage {
             Err(why) => return Err(why),
         };
         if !router.has_source(source) {
-            return Err(NoPassage::NoSource);
+            return Err(PassageFault::NoSource);
         }
         if !router.has_sink(sink) {
-            return Err(NoPassage::NoSink);
+            return Err(PassageFault::NoSink);
         }
-        let Ok(source) = kept(alloc, source) else {
-            return Err(NoPassage::NoMemory);
+        let Ok(source) = Sequence::copy_of(alloc, source) else {
+            return Err(PassageFault::NoMemory);
         };
-        let Ok(sink) = kept(alloc, sink) else {
-            return Err(NoPassage::NoMemory);
+        let Ok(sink) = Sequence::copy_of(alloc, sink) else {
+            return Err(PassageFault::NoMemory);
         };
         Ok(Passage {
             router,

@@ -11,7 +11,7 @@ use click_control::{Failed, Source};
 
 /// Why no header was read.
 #[derive(Clone, Copy, Debug, PartialEq, Eq)]
-pub enum NoHeader {
+pub enum HeaderReadFault {
     ReadFailed,
     /// The input ends after so many bytes, fewer than a header has.
     Short(usize),
@@ -20,14 +20,14 @@ pub enum NoHeader {
 
 /// What comes next in a capture.
 #[derive(Clone, Copy, Debug, PartialEq, Eq)]
-pub enum Next {
+pub enum NextRecord {
     End,
     Packet(Head),
 }
 
 /// Why no record was read.
 #[derive(Clone, Copy, Debug, PartialEq, Eq)]
-pub enum NoRecord {
+pub enum RecordReadFault {
     ReadFailed,
     /// The input ends inside the record.
     Cut,
@@ -52,16 +52,16 @@ fn fill<R: Source>(reader: &mut R, piece: &mut [u8]) -> Result<usize, Failed>
 }
 
 /// Reads the header of a capture.
-pub fn read_header<R: Source>(reader: &mut R) -> Result<Header, NoHeader>
+pub fn read_header<R: Source>(reader: &mut R) -> Result<Header, HeaderReadFault>
     ensures { ReadsHeader (R.input reader.old) (R.input reader.new) result }
 {
     let mut bytes = [0; HEADER_LEN];
     match fill(reader, &mut bytes) {
-        Err(Failed) => Err(NoHeader::ReadFailed),
-        Ok(count) if count < HEADER_LEN => Err(NoHeader::Short(count)),
+        Err(Failed) => Err(HeaderReadFault::ReadFailed),
+        Ok(count) if count < HEADER_LEN => Err(HeaderReadFault::Short(count)),
         Ok(_) => match header_of(&bytes) {
             Ok(header) => Ok(header),
-            Err(fault) => Err(NoHeader::Fault(fault)),
+            Err(fault) => Err(HeaderReadFault::Fault(fault)),
         },
     }
 }
@@ -71,26 +71,30 @@ pub fn read_record<R: Source>(
     reader: &mut R,
     header: &Header,
     packet: &mut [u8],
-) -> Result<Next, NoRecord>
+) -> Result<NextRecord, RecordReadFault>
     requires { length packet.old ≡ 262144 }
     ensures len { length packet.new ≡ 262144 }
     ensures reads { ReadsRecord header.now (R.input reader.old) (R.input reader.new) packet.new result }
 {
     let mut bytes = [0; HEAD_LEN];
     match fill(reader, &mut bytes) {
-        Err(Failed) => return Err(NoRecord::ReadFailed),
-        Ok(0) => return Ok(Next::End),
-        Ok(count) if count < HEAD_LEN => return Err(NoRecord::Cut),
+        Err(Failed) => return Err(RecordReadFault::ReadFailed),
+        Ok(0) => return Ok(NextRecord::End),
+        Ok(count) if count < HEAD_LEN => return Err(RecordReadFault::Cut),
         Ok(_) => {}
     }
     match head_of(header, &bytes) {
-        Err(fault) => Err(NoRecord::TooLong(fault)),
+        Err(fault) => Err(RecordReadFault::TooLong(fault)),
         Ok(head) => read_packet(reader, head, packet),
     }
 }
 
 /// Reads the bytes of the packet that this stands before.
-fn read_packet<R: Source>(reader: &mut R, head: Head, packet: &mut [u8]) -> Result<Next, NoRecord>
+fn read_packet<R: Source>(
+    reader: &mut R,
+    head: Head,
+    packet: &mut [u8],
+) -> Result<NextRecord, RecordReadFault>
     requires room { length packet.old ≡ 262144 }
     requires kept { head.kept ≤ 262144 }
     ensures len { length packet.new ≡ 262144 }
@@ -99,8 +103,8 @@ fn read_packet<R: Source>(reader: &mut R, head: Head, packet: &mut [u8]) -> Resu
 {
     let kept = head.kept as usize;
     match fill(reader, &mut packet[..kept]) {
-        Err(Failed) => Err(NoRecord::ReadFailed),
-        Ok(count) if count < kept => Err(NoRecord::Cut),
-        Ok(_) => Ok(Next::Packet(head)),
+        Err(Failed) => Err(RecordReadFault::ReadFailed),
+        Ok(count) if count < kept => Err(RecordReadFault::Cut),
+        Ok(_) => Ok(NextRecord::Packet(head)),
     }
 }

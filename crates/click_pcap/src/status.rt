@@ -3,8 +3,8 @@
 ghost use Rattle.std.specs.Prelude.{◌≡◌};
 ghost use Rattle.click_pcap.specs.Statuses as spec;
 
-use crate::passage::NoPassage;
-use crate::stop::Stop;
+use crate::carry_fault::CarryFault;
+use crate::passage::PassageFault;
 use std::io;
 
 /// How the program ends, for its caller.
@@ -34,33 +34,33 @@ impl Status {
 }
 
 /// The status where there is no passage.
-pub fn of_none(why: &NoPassage) -> Status
-    ensures { result ≡ spec.none_status why.now }
+pub fn passage_status(why: &PassageFault) -> Status
+    ensures { result ≡ spec.passage_status why.now }
 {
     match why {
-        NoPassage::Config(_) | NoPassage::NoSource | NoPassage::NoSink => Status::Faulty,
-        NoPassage::NoMemory => Status::NoMemory,
+        PassageFault::Config(_) | PassageFault::NoSource | PassageFault::NoSink => Status::Faulty,
+        PassageFault::NoMemory => Status::NoMemory,
     }
 }
 
 /// The status of a run that broke off.
-pub fn of_stop(stop: Stop) -> Status
-    ensures { result ≡ spec.stop_status stop }
+pub fn carry_status(carry_fault: CarryFault) -> Status
+    ensures { result ≡ spec.carry_status carry_fault }
 {
-    match stop {
-        Stop::ShortHeader { .. }
-        | Stop::Header(_)
-        | Stop::Cut { .. }
-        | Stop::TooLong { .. }
-        | Stop::GivesOn { .. }
-        | Stop::Uncounted => Status::Faulty,
-        Stop::NoMemory => Status::NoMemory,
-        Stop::ReadFailed | Stop::WriteFailed => Status::DeviceFailed,
+    match carry_fault {
+        CarryFault::ShortHeader { .. }
+        | CarryFault::Header(_)
+        | CarryFault::Cut { .. }
+        | CarryFault::TooLong { .. }
+        | CarryFault::GivesOn { .. }
+        | CarryFault::Uncounted => Status::Faulty,
+        CarryFault::NoMemory => Status::NoMemory,
+        CarryFault::ReadFailed | CarryFault::WriteFailed => Status::DeviceFailed,
     }
 }
 
 /// The status where the words of the command line cannot be read.
-pub fn of_unread(kind: io::ErrorKind) -> Status
+pub fn unread_status(kind: io::ErrorKind) -> Status
     ensures { result ≡ spec.unread_status kind }
 {
     if kind == io::ErrorKind::OutOfMemory {

@@ -17,10 +17,10 @@ use Rattle.click_ports.specs.Links.{code_at, IsAgnostic, IsFixed, Linked, along,
 use Rattle.click_ports.specs.Kinds.{Reaches, itself, linked, further, IsPull, IsPush}
 use Rattle.click_ports.specs.Lawful.{Lawful}
 use Rattle.click_ports.specs.Breaches.{IsBreach, count, unused, mixed, twice, rank, side_rank, PortBefore, fault_port, BreachBefore, IsFirstBreach}
-use Rattle.click_ports.proofs.Spreading.{linked-back, linked-has}
-use Rattle.click_ports.proofs.Telling.{counted-right}
-use Rattle.click_ports.proofs.Places.{same_port}
-use Rattle.click_ports.proofs.Using.{has-end, reason}
+use Rattle.click_ports.proofs.MarkedKinds.{linked-back, linked-has}
+use Rattle.click_ports.proofs.FirstBreach.{counted-right}
+use Rattle.click_ports.proofs.PortNumbers.{same_port}
+use Rattle.click_ports.proofs.PortUses.{has-end, reason}
 
 -- what two linked ports reach
 across-link : (ss : List Shape) (cs : List Connection) (p q : Port) (c : Code) → Lawful ss cs → Linked ss cs p q → code_at ss p ≡ c → IsPull ss cs p → IsPull ss cs q

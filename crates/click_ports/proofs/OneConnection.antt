@@ -11,8 +11,8 @@ use Rattle.click_ports.specs.declared.shape.Shape.{Shape}
 use Rattle.click_ports.specs.Ports.{joined_port, joins, Has}
 use Rattle.click_ports.specs.Kinds.{IsPull, IsPush, IsSingle, push_output, pull_input}
 use Rattle.click_ports.specs.Lawful.{Lawful}
-use Rattle.click_ports.proofs.Places.{same_port}
-use Rattle.click_ports.proofs.Using.{has-end}
+use Rattle.click_ports.proofs.PortNumbers.{same_port}
+use Rattle.click_ports.proofs.PortUses.{has-end}
 
 module _ {X : Type 0} (p : X → Bool) where
   one_more : (x : X) (xs : List X) → p x ≡ true → count_by p (x ∷ xs) ≡ 1 + count_by p xs

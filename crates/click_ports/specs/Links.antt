@@ -1,11 +1,11 @@
 -- Which ports are linked (Click manual, "Agnostic ports").
 use Rattle.std.specs.Prelude.{◌≡◌, ℕ, List, Contains, slice_index_or, true, false}
-use Rattle.click_classes.specs.declared.class.Class.{Class}
-use Rattle.click_classes.specs.declared.class.Class.TheVariants as class
+use Rattle.click_base.specs.declared.class.Class.{Class}
+use Rattle.click_base.specs.declared.class.Class.TheVariants as class
 use Rattle.click_classes.specs.declared.ports.Code.{Code}
 use Rattle.click_classes.specs.declared.ports.Code.TheVariants.{Agnostic}
 use Rattle.click_classes.specs.declared.ports.Side.TheVariants.{Input, Output}
-use Rattle.click_classes.specs.Codes.{code, passes}
+use Rattle.click_classes.specs.Ports.{code, passes}
 use Rattle.click_expand.specs.declared.flat.Connection.{Connection}
 use Rattle.click_ports.specs.declared.port.Port.{Port}
 use Rattle.click_ports.specs.declared.shape.Shape.{Shape}

@@ -1,8 +1,7 @@
 -- What a contract sees of a net, and the net of a flat form and its elements' states.
 use Rattle.std.specs.Prelude.{◌≡◌, ℕ, ◌<◌, List, length, map, filter, All, Bool, ◌&&◌, nat_lt, Some}
 use Rattle.click_classes.specs.declared.state.State.{State}
-use Rattle.click_classes.specs.Classes.{class_of}
-use Rattle.click_classes.specs.Counts.{counts}
+use Rattle.click_classes.specs.Ports.{counts}
 use Rattle.click_classes.specs.State.{class}
 use Rattle.click_expand.specs.declared.flat.FlatElement.{FlatElement}
 use Rattle.click_expand.specs.declared.flat.Connection.{Connection}
@@ -40,7 +39,7 @@ net_of f states = record {
 
 -- one state for each element, of its class
 abbrev pub AreStatesOf : List FlatElement → List State → Type 0
-AreStatesOf es states = map (λ (e : FlatElement). class_of e.class) es ≡ map (λ (s : State). Some (class s)) states
+AreStatesOf es states = map (λ (e : FlatElement). e.class) es ≡ map class states
 
 -- what each net keeps: a name for each element, connections between elements that are there, and the rules of ports
 pub record IsLawfulNet (net : Net) : Type 0 where

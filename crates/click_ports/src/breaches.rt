@@ -13,8 +13,8 @@ use crate::fault::{FaultKind, PortFault};
 use crate::kinds::Kinds;
 use crate::layout::Layout;
 use crate::port::Port;
+use click_base::sequence::Sequence;
 use click_classes::Side;
-use click_text::sequence::Sequence;
 
 /// A fault at a port.
 fn fault_at(kind: FaultKind, port: Port) -> PortFault

@@ -5,8 +5,8 @@ ghost use Rattle.click_ports.specs.kept.Ends.{AreFarEnds};
 
 use crate::layout::Layout;
 use crate::sizes::joined_port;
+use click_base::sequence::Sequence;
 use click_classes::Side;
-use click_text::sequence::Sequence;
 use std::alloc::{AllocError, Global};
 
 /// So many empty rows.

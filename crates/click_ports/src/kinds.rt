@@ -8,9 +8,9 @@ ghost use Rattle.click_ports.specs.kept.Wiring.{AreWithin};
 
 use crate::layout::Layout;
 use crate::passages::all_passages;
-use crate::search::reaching;
+use crate::search::ports_reaching;
+use click_base::sequence::Sequence;
 use click_classes::Code;
-use click_text::sequence::Sequence;
 use std::alloc::{AllocError, Global};
 
 /// Which ports reach a push port, and which a pull port.
@@ -46,7 +46,7 @@ pub fn kinds_of(
     let all_inside = all_passages(alloc, layout)?;
     let codes = all_codes.as_slice();
     let inside = all_inside.as_slice();
-    let pushes = reaching(alloc, codes, ends, inside, Code::Push)?;
-    let pulls = reaching(alloc, codes, ends, inside, Code::Pull)?;
+    let pushes = ports_reaching(alloc, codes, ends, inside, Code::Push)?;
+    let pulls = ports_reaching(alloc, codes, ends, inside, Code::Pull)?;
     Ok(Kinds { pushes, pulls })
 }

@@ -9,7 +9,8 @@ ghost use Rattle.click_ports.specs.kept.Wiring.{AreWithin, InPlace, first, port_
 use crate::numbering::{Block, numbered};
 use crate::port::Port;
 use crate::shape::Shape;
-use click_classes::{Class, Code, Side, code};
+use click_base::Class;
+use click_classes::{Code, Side, code};
 use click_expand::Connection;
 use std::alloc::{AllocError, Global};
 use std::marker::Model;

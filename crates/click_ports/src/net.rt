@@ -10,15 +10,15 @@ ghost use Rattle.click_ports.specs.Ports.{Has};
 use crate::layout::Layout;
 use crate::port::Port;
 use crate::shape::Shape;
+use click_base::sequence::Sequence;
 use click_classes::Side;
 use click_expand::Connection;
-use click_text::sequence::Sequence;
 use std::marker::Model;
 
 /// Elements and the connections between them, by which every port is push or pull and no rule of ports is broken.
 #[derive(Drop)]
 pub struct Net {
-    called: Sequence<Sequence<u8>>,
+    element_names: Sequence<Sequence<u8>>,
     layout: Layout,
     pulling: Vec<bool>,
 }
@@ -29,19 +29,23 @@ impl Model for Net {
 
     ghost Value = { Seen };
 
-    ghost view = { λ n. record { names = n.called; shapes = n.layout.shapes; connections = n.layout.connections } };
+    ghost view = { λ n. record { names = n.element_names; shapes = n.layout.shapes; connections = n.layout.connections } };
 
-    ghost invariant = { λ n. KeepsNet n.called n.layout n.pulling.items };
+    ghost invariant = { λ n. KeepsNet n.element_names n.layout n.pulling.items };
 }
 
 impl Net {
     /// The net of these parts.
-    pub(crate) fn of(called: Sequence<Sequence<u8>>, layout: Layout, pulling: Vec<bool>) -> Net
-        requires { KeepsNet called layout pulling.items }
-        ensures { result ≡ record { names = called; shapes = layout.shapes; connections = layout.connections } }
+    pub(crate) fn of(
+        element_names: Sequence<Sequence<u8>>,
+        layout: Layout,
+        pulling: Vec<bool>,
+    ) -> Net
+        requires { KeepsNet element_names layout pulling.items }
+        ensures { result ≡ record { names = element_names; shapes = layout.shapes; connections = layout.connections } }
     {
         Net {
-            called,
+            element_names,
             layout,
             pulling,
         }
@@ -53,7 +57,7 @@ impl Net {
         ensures value { result.now ≡ slice_index_or self.now.names element [] }
         ensures sound { IsLawfulNet self.now }
     {
-        self.called.as_slice()[element].as_slice()
+        self.element_names.as_slice()[element].as_slice()
     }
 
     /// What the net knows of the elements' states, in flat order.

@@ -1,15 +1,16 @@
 //! Which ports are linked inside their element.
 
 ghost use Rattle.std.specs.Prelude.{◌≡◌, ℕ, ◌<◌, ◌≤◌, length, true, IfOk};
-ghost use Rattle.click_classes.specs.Codes as codes;
+ghost use Rattle.click_classes.specs.Ports as codes;
 ghost use Rattle.click_ports.specs.Ports.{Has};
 ghost use Rattle.click_ports.specs.kept.Passages as spec;
 ghost use Rattle.click_ports.specs.kept.Passages.{IsRow, AreRows};
 
 use crate::layout::Layout;
 use crate::port::Port;
-use click_classes::{Class, Side, passes};
-use click_text::sequence::Sequence;
+use click_base::Class;
+use click_base::sequence::Sequence;
+use click_classes::{Side, passes};
 use std::alloc::{AllocError, Global};
 
 /// The other side.

@@ -4,8 +4,8 @@ ghost use Rattle.std.specs.Prelude.{◌≡◌, ◌↔◌, ◌⊎◌, ℕ, ◌<�
 ghost use Rattle.click_classes.specs.declared.ports.Code.TheVariants.{Agnostic};
 ghost use Rattle.click_ports.specs.kept.Search.{code_of, IsGraph, Spreads, RowMarked, AreMarked};
 
+use click_base::sequence::Sequence;
 use click_classes::Code;
-use click_text::sequence::Sequence;
 use std::alloc::{AllocError, Global};
 
 /// The numbers of the ports that have the code.
@@ -53,7 +53,7 @@ fn mark_row(
 }
 
 /// For each port whether the marks that begin at the ports of the code spread to it.
-pub fn reaching(
+pub fn ports_reaching(
     alloc: Global,
     codes: &[Code],
     outside: &[Sequence<usize>],

@@ -6,8 +6,8 @@ use Rattle.clap.specs.declared.builder.command.Command.{Command}
 use Rattle.clap.specs.declared.parser.matches.ArgMatches.{ArgMatches}
 use Rattle.click_prog.specs.Asked.{AsksFor, IsRefused, IsRefusedFor}
 use Rattle.click_prog.specs.declared.arguments.Options.{Options}
-use Rattle.click_prog.specs.declared.arguments.Refusal.{Refusal}
-use Rattle.click_prog.specs.declared.arguments.Refusal.TheVariants as why
+use Rattle.click_prog.specs.declared.arguments.ArgumentRefusal.{ArgumentRefusal}
+use Rattle.click_prog.specs.declared.arguments.ArgumentRefusal.TheVariants as why
 
 -- options that are just what a parse found are those of some parse
 pub asked-of : {E : Type 0} (r : Result Options E) (command : Command) (matches : ArgMatches) → IsParsedFrom command matches → IfOk r (AsksFor (found_of matches))
@@ -16,7 +16,7 @@ asked-of (Ok options) command matches parsed asks = (command, matches, parsed, a
 asked-of (Err e) command matches parsed asks = tt
 
 -- what a parse found is refused, so what some parse found is
-refused-of : (command : Command) (matches : ArgMatches) → IsParsedFrom command matches → (refusal : Refusal) → IsRefusedFor (found_of matches) refusal → IsRefused refusal
+refused-of : (command : Command) (matches : ArgMatches) → IsParsedFrom command matches → (refusal : ArgumentRefusal) → IsRefusedFor (found_of matches) refusal → IsRefused refusal
 refused-of command matches parsed (why.Clap error) refused = tt
 refused-of command matches parsed (why.NoNumber number) refused = (command, matches, parsed, refused)
 refused-of command matches parsed (why.NotDrawn option) refused = (command, matches, parsed, refused)
@@ -24,6 +24,6 @@ refused-of command matches parsed (why.NotLive option) refused = (command, match
 refused-of command matches parsed (why.OnlyLive option) refused = (command, matches, parsed, refused)
 refused-of command matches parsed (why.Link fault) refused = (command, matches, parsed, refused)
 
-pub refused-if : {T : Type 0} (r : Result T Refusal) (command : Command) (matches : ArgMatches) → IsParsedFrom command matches → IfErr r (IsRefusedFor (found_of matches)) → IfErr r IsRefused
+pub refused-if : {T : Type 0} (r : Result T ArgumentRefusal) (command : Command) (matches : ArgMatches) → IsParsedFrom command matches → IfErr r (IsRefusedFor (found_of matches)) → IfErr r IsRefused
 refused-if (Ok options) command matches parsed refused = tt
 refused-if (Err refusal) command matches parsed refused = refused-of command matches parsed refusal refused

@@ -7,24 +7,24 @@ use Rattle.click_router.specs.One.{is_transmit}
 use Rattle.click_router.specs.declared.call.Call.{Call as Asked}
 use Rattle.click_router.specs.declared.call.Reply.{Reply}
 use Rattle.click_control.specs.declared.port.AskFault.{AskFault}
-use Rattle.click_desk.specs.Sittings.{Sitting}
+use Rattle.click_desk.specs.SeatStates.{SeatState}
 use Rattle.click_page.specs.Answering.{Paged, AnswersSo}
 use Rattle.click_workers.specs.Linked.{AreQuiet}
 use Rattle.click_workers.specs.Seats.{SameSeat, SeatAsks}
-use Rattle.click_workers.proofs.Growing.{asked-grows}
-use Rattle.click_workers.proofs.Sending.{quiet-both, made-quiet}
+use Rattle.click_workers.proofs.SeatLists.{asked-grows}
+use Rattle.click_workers.proofs.TransmitSeats.{quiet-both, made-quiet}
 use Rattle.click_prog.specs.Paging.{IsPaged, IsPagedOver, page_at}
 
-same-twice : (a b c : Sitting) → SameSeat a b → SameSeat b c → SameSeat a c
+same-twice : (a b c : SeatState) → SameSeat a b → SameSeat b c → SameSeat a c
 same-twice a b c h k = (k.0 ∙ h.0, k.1 ∙ h.1, k.2 ∙ h.2)
 
-chain-same : (old : Paged Sitting) (requests : List Call) (new : Paged Sitting) → Chain (AnswersSo SeatAsks) old requests new → SameSeat old.port new.port
+chain-same : (old : Paged SeatState) (requests : List Call) (new : Paged SeatState) → Chain (AnswersSo SeatAsks) old requests new → SameSeat old.port new.port
 chain-same old [] new e = (ap (λ p. p.port.desk) e, ap (λ p. p.port.number) e, ap (λ p. p.port.feeds) e)
 chain-same old (r ∷ requests) new (next, answers, rest) =
     same-twice old.port next.port new.port (asked-grows old.readonly old.port _ answers.answers next.port answers.asked).0 (chain-same next requests new rest)
 
-chain-quiet : (old : Paged Sitting) (requests : List Call) (new : Paged Sitting) → Chain (AnswersSo SeatAsks) old requests new → AreQuiet old.port.calls → AreQuiet new.port.calls
-chain-quiet old [] new e quiet = subst (λ (p : Paged Sitting). AreQuiet p.port.calls) (sym e) quiet
+chain-quiet : (old : Paged SeatState) (requests : List Call) (new : Paged SeatState) → Chain (AnswersSo SeatAsks) old requests new → AreQuiet old.port.calls → AreQuiet new.port.calls
+chain-quiet old [] new e quiet = subst (λ (p : Paged SeatState). AreQuiet p.port.calls) (sym e) quiet
 chain-quiet old (r ∷ requests) new (next, answers, rest) quiet =
     let grown = (asked-grows old.readonly old.port _ answers.answers next.port answers.asked).1 in
     chain-quiet next requests new rest (subst AreQuiet (sym grown) (quiet-both old.port.calls _ quiet (made-quiet old.readonly _ answers.answers)))
@@ -45,10 +45,10 @@ module _ {P : Type 0} (asks : P → Asked → Result Reply AskFault → P → Ty
       ap (λ (r : Bool). page_at new.port r new.at) kept.0 ∙ ap (λ (a : ℕ). page_at new.port readonly a) kept.1 in
       (requests, subst (λ (p : Paged P). Chain (AnswersSo asks) (page_at old readonly at) requests p) same chain)
 
-pub page-same : (readonly : Bool) (at : ℕ) (old new : Sitting) → IsPaged readonly at old new → SameSeat old new
+pub page-same : (readonly : Bool) (at : ℕ) (old new : SeatState) → IsPaged readonly at old new → SameSeat old new
 page-same readonly at old new paged = chain-same (page_at old readonly at) paged.0 (page_at new readonly at) paged.1
 
-pub page-quiet : (readonly : Bool) (at : ℕ) (old new : Sitting) → old.calls ≡ [] → IsPaged readonly at old new → AreQuiet new.calls
+pub page-quiet : (readonly : Bool) (at : ℕ) (old new : SeatState) → old.calls ≡ [] → IsPaged readonly at old new → AreQuiet new.calls
 page-quiet readonly at old new none paged =
     chain-quiet (page_at old readonly at) paged.0 (page_at new readonly at) paged.1
     (subst AreQuiet (sym none) (All-nil (λ (p : Asked × Reply). is_transmit p.0 ≡ false)))

@@ -8,8 +8,8 @@ use Rattle.clap.specs.declared.builder.command.Command.{Command}
 use Rattle.clap.specs.declared.parser.matches.ArgMatches.{ArgMatches}
 use Rattle.click_prog.specs.declared.arguments.NoNumber.{NoNumber}
 use Rattle.click_prog.specs.declared.arguments.Options.{Options}
-use Rattle.click_prog.specs.declared.arguments.Refusal.{Refusal}
-use Rattle.click_prog.specs.declared.arguments.Refusal.TheVariants as why
+use Rattle.click_prog.specs.declared.arguments.ArgumentRefusal.{ArgumentRefusal}
+use Rattle.click_prog.specs.declared.arguments.ArgumentRefusal.TheVariants as why
 use Rattle.click_prog.specs.Links.{AreLinks, IsLinkFault}
 use Rattle.click_prog.specs.Numbers.{IsNoNumber, IsNumber}
 use Rattle.click_prog.specs.Running.{Planned}
@@ -81,7 +81,7 @@ abbrev pub AsksFor : Found → Options → Type 0
 AsksFor found options = Finds found options × DrawsAlone found options × GoesOn found options × Ends found options
 
 -- What was found is refused: a value is none of what its option takes, or what was given does not go together. What clap says is its own.
-abbrev pub IsRefusedFor : Found → Refusal → Type 0
+abbrev pub IsRefusedFor : Found → ArgumentRefusal → Type 0
 IsRefusedFor found (why.Clap error) = Unit {0}
 IsRefusedFor found (why.NoNumber n) =
     IsMistyped found (codes "port") 1 65535 n ⊎ (IsMistyped found (codes "sessions") 1 64 n ⊎ (IsMistyped found (codes "workers") 0 16 n
@@ -92,7 +92,7 @@ IsRefusedFor found (why.OnlyLive option) = (options : Options) × Finds found op
 IsRefusedFor found (why.Link fault) = IsLinkFault (values_of found (codes "device")) fault
 
 -- a refusal that is not clap's own is for what some parse found
-abbrev pub IsRefused : Refusal → Type 0
+abbrev pub IsRefused : ArgumentRefusal → Type 0
 IsRefused (why.Clap error) = Unit {0}
 IsRefused refusal = (command : Command) × (matches : ArgMatches) × IsParsedFrom command matches × IsRefusedFor (found_of matches) refusal
 

@@ -1,12 +1,12 @@
 -- A run with links, and its status.
 use Rattle.std.specs.Prelude.{◌≡◌, ◌⊎◌, ℕ, ◌+◌, ◌++◌, List, [], ◌∷◌, Bool, Option, Some, None, map, option_map}
 use Rattle.click_control.specs.Peers.{Input, Output}
-use Rattle.click_desk.specs.Booklet.{Booklet}
+use Rattle.click_desk.specs.BookState.{BookState}
 use Rattle.click_desk.specs.declared.open.OpenFault.{OpenFault}
 use Rattle.click_links.specs.Ends.{Attempt, Hearing}
 use Rattle.click_links.specs.Forwarding.{sent_by, gifts_by}
 use Rattle.click_links.specs.declared.run.Receiving.{Receiving}
-use Rattle.click_desk.specs.Sittings.{Sitting}
+use Rattle.click_desk.specs.SeatStates.{SeatState}
 use Rattle.click_http.specs.declared.serving.Ended.{Ended}
 use Rattle.click_workers.specs.Beside.{BesideWork}
 use Rattle.click_workers.specs.Linked.{calls_in, ForwardsBeside, LinkedHeadline, LinkRan, IsTrueOpening}
@@ -22,20 +22,20 @@ use Rattle.click_prog.specs.declared.status.Status.TheVariants as status
 -- Places for sessions, drivers, a forwarder of these receivers' devices and other work were at one desk of this text that keeps nothing, each with a seat of its own, at a gate that they share; each place served so many sessions,
 -- one after another; there is one history of one thread with just their calls and replies. By the link of each device just the packets of the replies to its Transmits in that history were sent, in order, after those
 -- that were; and what each receiver heard is what was dropped for its cause, what the history polled of its device, and what is left.
-pub record HasLinked {D Rd Wr G Seats Done : Type 0} (sittings : Seats → List Sitting) (many : ℕ) (does : Seats → Seats → Done → Type 0) (lets_in : D → ℕ → Option (Rd × Wr) → Type 0) (input : Rd → Input) (output : Wr → Output) (gives : G → ℕ → ℕ → Bool → Type 0)
-    (told : G → ℕ → ℕ → Type 0) (door : D) (readonly : Bool) (text : List ℕ) (places workers turns : ℕ) (receivers : List (Receiving Hearing)) (before : List Attempt) (book : Booklet) (ended : List SessionEnd)
+pub record HasLinked {D Rd Wr G Seats Done : Type 0} (sittings : Seats → List SeatState) (many : ℕ) (does : Seats → Seats → Done → Type 0) (lets_in : D → ℕ → Option (Rd × Wr) → Type 0) (input : Rd → Input) (output : Wr → Output) (gives : G → ℕ → ℕ → Bool → Type 0)
+    (told : G → ℕ → ℕ → Type 0) (door : D) (readonly : Bool) (text : List ℕ) (places workers turns : ℕ) (receivers : List (Receiving Hearing)) (before : List Attempt) (book : BookState) (ended : List SessionEnd)
     (drivers : List Bool) (after : List Attempt) (ends : List (LinkEnd Hearing)) (done : Done) : Type 0 where
   pub gate : G
   pub headline : LinkedHeadline (map (λ (r : Receiving Hearing). r.device) receivers) text (places + workers + (1 + many)) book
-  pub work : BesideWork (λ (s : Sitting × Seats). s.0 ∷ sittings s.1) (1 + many) (ForwardsBeside (map (λ (r : Receiving Hearing). r.device) receivers) before after does)
+  pub work : BesideWork (λ (s : SeatState × Seats). s.0 ∷ sittings s.1) (1 + many) (ForwardsBeside (map (λ (r : Receiving Hearing). r.device) receivers) before after does)
       (AttendedInTurn lets_in input output gives told door gate readonly turns) (DroveFor gives told gate None) places workers book.seats ended drivers done
   pub sent : (device : List ℕ) → sent_by device after ≡ sent_by device before ++ gifts_by device (calls_in book.entries)
   pub links : SideBySide (λ (r : Receiving Hearing) (e : LinkEnd Hearing). (e.device ≡ r.device) × LinkRan book.entries r.device r.link.came e.link.came e.received.dropped (option_map (λ l. l.items) e.left)) receivers ends
 
 -- the same, and the status is that of the places' last sessions
-pub record HaveLinked {D Rd Wr G Seats Done : Type 0} (sittings : Seats → List Sitting) (many : ℕ) (does : Seats → Seats → Done → Type 0) (lets_in : D → ℕ → Option (Rd × Wr) → Type 0) (input : Rd → Input) (output : Wr → Output) (gives : G → ℕ → ℕ → Bool → Type 0)
+pub record HaveLinked {D Rd Wr G Seats Done : Type 0} (sittings : Seats → List SeatState) (many : ℕ) (does : Seats → Seats → Done → Type 0) (lets_in : D → ℕ → Option (Rd × Wr) → Type 0) (input : Rd → Input) (output : Wr → Output) (gives : G → ℕ → ℕ → Bool → Type 0)
     (told : G → ℕ → ℕ → Type 0) (door : D) (readonly : Bool) (text : List ℕ) (places workers turns : ℕ) (receivers : List (Receiving Hearing)) (before : List Attempt) (s : Status) : Type 0 where
-  pub book : Booklet
+  pub book : BookState
   pub ended : List SessionEnd
   pub drivers : List Bool
   pub after : List Attempt
@@ -51,7 +51,7 @@ pub record HaveNotLinked (seats : ℕ) (devices : List (List ℕ)) (text : List 
   pub is : s ≡ opening_status fault
 
 -- A run with links and other work, none, or no memory to begin.
-abbrev pub LinkedBesideTo : {D Rd Wr G Seats Done : Type 0} → (Seats → List Sitting) → ℕ → (Seats → Seats → Done → Type 0) → (D → ℕ → Option (Rd × Wr) → Type 0) → (Rd → Input) → (Wr → Output)
+abbrev pub LinkedBesideTo : {D Rd Wr G Seats Done : Type 0} → (Seats → List SeatState) → ℕ → (Seats → Seats → Done → Type 0) → (D → ℕ → Option (Rd × Wr) → Type 0) → (Rd → Input) → (Wr → Output)
     → (G → ℕ → ℕ → Bool → Type 0) → (G → ℕ → ℕ → Type 0) → D → Bool → List ℕ → ℕ → ℕ → ℕ → List (Receiving Hearing) → List Attempt → Status → Type 0
 LinkedBesideTo sittings many does lets_in input output gives told door readonly text places workers turns receivers before s =
     HaveLinked sittings many does lets_in input output gives told door readonly text places workers turns receivers before s

@@ -5,8 +5,8 @@ use Rattle.click_control.specs.Peers.{Input, Output}
 use Rattle.click_control.specs.declared.port.AskFault.{AskFault}
 use Rattle.click_router.specs.declared.call.Call.{Call as Asked}
 use Rattle.click_router.specs.declared.call.Reply.{Reply}
-use Rattle.click_desk.specs.Booklet.{Booklet}
-use Rattle.click_desk.specs.Sittings.{Sitting}
+use Rattle.click_desk.specs.BookState.{BookState}
+use Rattle.click_desk.specs.SeatStates.{SeatState}
 use Rattle.click_http.specs.declared.serving.Ended.{Ended}
 use Rattle.click_page.specs.Answering.{Paged, AnswersSo}
 use Rattle.click_workers.specs.Beside.{BesideWork}
@@ -27,7 +27,7 @@ abbrev pub IsPagedOver : {P : Type 0} → (P → Asked → Result Reply AskFault
 IsPagedOver asks readonly at old new = (requests : List Call) × Chain (AnswersSo asks) (page_at old readonly at) requests (page_at new readonly at)
 
 -- the same over a seat
-abbrev pub IsPaged : Bool → ℕ → Sitting → Sitting → Type 0
+abbrev pub IsPaged : Bool → ℕ → SeatState → SeatState → Type 0
 IsPaged readonly at old new = IsPagedOver SeatAsks readonly at old new
 
 -- a run that ends keeps a book of 1,048,576 entries, and one that stays keeps none
@@ -50,7 +50,7 @@ turns_of false = 1
 pub record HavePaged {D Rd Wr G : Type 0} (lets_in : D → ℕ → Option (Rd × Wr) → Type 0) (input : Rd → Input) (output : Wr → Output) (gives : G → ℕ → ℕ → Bool → Type 0)
     (told : G → ℕ → ℕ → Type 0) (door : D) (plan : Planned) (text : List ℕ) (turns at : ℕ) (s : Status) : Type 0 where
   pub gate : G
-  pub book : Booklet
+  pub book : BookState
   pub headline : HeadlineFor (room_of plan.live) text (plan.sessions + plan.workers + 1) book
   pub ended : List SessionEnd
   pub drivers : List Bool

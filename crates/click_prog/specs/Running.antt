@@ -3,7 +3,7 @@ use Rattle.std.specs.Prelude.{◌≡◌, ◌⊎◌, ℕ, ◌+◌, List, Bool, Op
 use Rattle.click_control.specs.Peers.{Input, Output}
 use Rattle.click_control.specs.declared.serving.Ended.{Ended}
 use Rattle.click_control.specs.declared.serving.ServeFault.{ServeFault}
-use Rattle.click_desk.specs.Booklet.{Booklet}
+use Rattle.click_desk.specs.BookState.{BookState}
 use Rattle.click_workers.specs.Runs.{Headline, HeadlineFor, RanOver, IsTrueFault, IsNoClose}
 use Rattle.click_workers.specs.Work.{Attended, AttendedInTurn, Drove, DroveFor, Worked}
 use Rattle.click_workers.specs.declared.session.SessionEnd.{SessionEnd}
@@ -21,7 +21,7 @@ pub record Planned : Type 0 where
 
 -- The session was over the one seat of a desk of this text, the desk's book is a history of one thread, and the status is that of the session's end.
 pub record HasRun (text : List ℕ) (readonly : Bool) (had left : Input) (held holds : Output) (s : Status) : Type 0 where
-  pub book : Booklet
+  pub book : BookState
   pub headline : Headline text 1 book
   pub ended : Result Ended ServeFault
   pub ran : RanOver text readonly book had left held holds ended
@@ -32,7 +32,7 @@ pub record HasRun (text : List ℕ) (readonly : Bool) (had left : Input) (held h
 pub record HaveRun {D Rd Wr G : Type 0} (lets_in : D → ℕ → Option (Rd × Wr) → Type 0) (input : Rd → Input) (output : Wr → Output) (gives : G → ℕ → ℕ → Bool → Type 0)
     (told : G → ℕ → ℕ → Type 0) (door : D) (readonly : Bool) (text : List ℕ) (sessions workers rounds : ℕ) (s : Status) : Type 0 where
   pub gate : G
-  pub book : Booklet
+  pub book : BookState
   pub headline : Headline text (sessions + workers) book
   pub ended : List SessionEnd
   pub drivers : List Bool
@@ -44,7 +44,7 @@ pub record HaveRun {D Rd Wr G : Type 0} (lets_in : D → ℕ → Option (Rd × W
 pub record HaveLived {D Rd Wr G : Type 0} (lets_in : D → ℕ → Option (Rd × Wr) → Type 0) (input : Rd → Input) (output : Wr → Output) (gives : G → ℕ → ℕ → Bool → Type 0)
     (told : G → ℕ → ℕ → Type 0) (door : D) (readonly : Bool) (text : List ℕ) (places workers turns : ℕ) (s : Status) : Type 0 where
   pub gate : G
-  pub book : Booklet
+  pub book : BookState
   pub headline : HeadlineFor None text (places + workers) book
   pub ended : List SessionEnd
   pub drivers : List Bool
@@ -68,7 +68,7 @@ pub record HasNotRun (text : List ℕ) (had left : Input) (held holds : Output) 
   pub fault : RunFault
   pub true_fault : IsTrueFault text fault
   pub no_close : IsNoClose fault
-  pub unread : left ≡ had
+  pub refuse_words : left ≡ had
   pub unwritten : holds ≡ held
   pub is : s ≡ fault_status fault
 

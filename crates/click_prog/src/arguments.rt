@@ -46,7 +46,7 @@ pub struct Options<'a> {
 
 /// Why a command line is refused.
 #[derive(Drop)]
-pub enum Refusal<'a> {
+pub enum ArgumentRefusal<'a> {
     /// What clap has to say of it; help is asked for so too.
     Clap(Error),
     NoNumber(NoNumber<'a>),
@@ -56,25 +56,25 @@ pub enum Refusal<'a> {
     Link(LinkFault<'a>),
 }
 
-impl<'a> From<NoNumber<'a>> for Refusal<'a> {
+impl<'a> From<NoNumber<'a>> for ArgumentRefusal<'a> {
     ghost use Rattle.std.specs.Prelude.{◌≡◌};
-    ghost use Rattle.click_prog.specs.declared.arguments.Refusal.TheVariants as why;
+    ghost use Rattle.click_prog.specs.declared.arguments.ArgumentRefusal.TheVariants as why;
 
     ghost from_gives = { λ number refusal. refusal ≡ why.NoNumber number };
 
     fn from(number: NoNumber<'a>) -> Self {
-        Refusal::NoNumber(number)
+        ArgumentRefusal::NoNumber(number)
     }
 }
 
-impl<'a> From<LinkFault<'a>> for Refusal<'a> {
+impl<'a> From<LinkFault<'a>> for ArgumentRefusal<'a> {
     ghost use Rattle.std.specs.Prelude.{◌≡◌};
-    ghost use Rattle.click_prog.specs.declared.arguments.Refusal.TheVariants as why;
+    ghost use Rattle.click_prog.specs.declared.arguments.ArgumentRefusal.TheVariants as why;
 
     ghost from_gives = { λ fault refusal. refusal ≡ why.Link fault };
 
     fn from(fault: LinkFault<'a>) -> Self {
-        Refusal::Link(fault)
+        ArgumentRefusal::Link(fault)
     }
 }
 
@@ -110,7 +110,10 @@ pub struct NoNumber<'a> {
 }
 
 /// What the words of a command line ask for, or why they are refused. `-e` takes the next word whatever it is.
-pub fn options_of<'a>(alloc: Global, words: &'a [String]) -> Result<Options<'a>, Refusal<'a>>
+pub fn options_of<'a>(
+    alloc: Global,
+    words: &'a [String],
+) -> Result<Options<'a>, ArgumentRefusal<'a>>
     // Where they are not refused there is a text.
     ensures text { IfOk result (λ options. is_some options.text ≡ true) }
     ensures port { IfOk result (λ options. IfSome options.port (λ port. 1 ≤ port) × IfSome options.page (λ port. 1 ≤ port)) }
@@ -120,7 +123,7 @@ pub fn options_of<'a>(alloc: Global, words: &'a [String]) -> Result<Options<'a>,
 {
     match parsed(alloc, words) {
         Ok(matches) => options_in(alloc, &matches),
-        Err(error) => Err(Refusal::Clap(error)),
+        Err(error) => Err(ArgumentRefusal::Clap(error)),
     }
 }
 
@@ -172,25 +175,31 @@ fn parsed<'a>(alloc: Global, words: &'a [String]) -> Result<ArgMatches<'a>, Erro
 }
 
 /// What was found in the words, where that goes together.
-fn options_in<'a>(alloc: Global, matches: &ArgMatches<'a>) -> Result<Options<'a>, Refusal<'a>>
+fn options_in<'a>(
+    alloc: Global,
+    matches: &ArgMatches<'a>,
+) -> Result<Options<'a>, ArgumentRefusal<'a>>
     ensures asked { IfOk result (AsksFor (found_of matches.now)) }
     ensures refused { IfErr result (IsRefusedFor (found_of matches.now)) }
 {
     let options = options_found(alloc, matches)?;
-    if let Some(option) = of_a_run(matches, &options) {
-        return Err(Refusal::NotDrawn(NotDrawn { option }));
+    if let Some(option) = run_only_option(matches, &options) {
+        return Err(ArgumentRefusal::NotDrawn(NotDrawn { option }));
     }
-    if let Some(option) = of_an_end(matches, &options) {
-        return Err(Refusal::NotLive(NotLive { option }));
+    if let Some(option) = ending_only_option(matches, &options) {
+        return Err(ArgumentRefusal::NotLive(NotLive { option }));
     }
-    match of_a_stay(matches, &options) {
-        Some(option) => Err(Refusal::OnlyLive(OnlyLive { option })),
+    match live_only_option(matches, &options) {
+        Some(option) => Err(ArgumentRefusal::OnlyLive(OnlyLive { option })),
         None => Ok(options),
     }
 }
 
 /// What was found in the words.
-fn options_found<'a>(alloc: Global, matches: &ArgMatches<'a>) -> Result<Options<'a>, Refusal<'a>>
+fn options_found<'a>(
+    alloc: Global,
+    matches: &ArgMatches<'a>,
+) -> Result<Options<'a>, ArgumentRefusal<'a>>
     ensures found { IfOk result (Finds (found_of matches.now)) }
     ensures refused { IfErr result (IsRefusedFor (found_of matches.now)) }
 {
@@ -223,20 +232,20 @@ fn links_found<'a>(alloc: Global, matches: &ArgMatches<'a>) -> Result<Vec<Link<'
 }
 
 /// Where a picture is drawn, the first option that was given of those which only a run has.
-fn of_a_run(matches: &ArgMatches, options: &Options) -> Option<&'static str>
+fn run_only_option(matches: &ArgMatches, options: &Options) -> Option<&'static str>
     ensures { MatchOption result (DrawsAlone (found_of matches.now) options.now) (λ _. DrawsAlone (found_of matches.now) options.now → ⊥) }
 {
     if !options.draw {
         return None;
     }
-    match number_of_a_run(matches) {
+    match run_only_number(matches) {
         Some(option) => Some(option),
-        None => word_of_a_run(options),
+        None => run_only_word(options),
     }
 }
 
 /// The first number that was given of those which only a run has.
-fn number_of_a_run(matches: &ArgMatches) -> Option<&'static str>
+fn run_only_number(matches: &ArgMatches) -> Option<&'static str>
     ensures { MatchOption result (HasNoNumber (found_of matches.now)) (λ _. HasNoNumber (found_of matches.now) → ⊥) }
 {
     if matches.get_str("port").is_some() {
@@ -261,7 +270,7 @@ fn number_of_a_run(matches: &ArgMatches) -> Option<&'static str>
 }
 
 /// The first option that was given of those which only a run has and which are no numbers.
-fn word_of_a_run(found: &Options) -> Option<&'static str>
+fn run_only_word(found: &Options) -> Option<&'static str>
     ensures { MatchOption result (HasNoWord found.now) (λ _. HasNoWord found.now → ⊥) }
 {
     if found.readonly {
@@ -283,7 +292,7 @@ fn word_of_a_run(found: &Options) -> Option<&'static str>
 }
 
 /// Where the router stays, the first option that was given of those which only a run that ends has.
-fn of_an_end(matches: &ArgMatches, options: &Options) -> Option<&'static str>
+fn ending_only_option(matches: &ArgMatches, options: &Options) -> Option<&'static str>
     ensures { MatchOption result (GoesOn (found_of matches.now) options.now) (λ _. GoesOn (found_of matches.now) options.now → ⊥) }
 {
     if !options.live {
@@ -302,7 +311,7 @@ fn of_an_end(matches: &ArgMatches, options: &Options) -> Option<&'static str>
 }
 
 /// Where the router ends, the first option that was given of those which only one that stays has.
-fn of_a_stay(matches: &ArgMatches, options: &Options) -> Option<&'static str>
+fn live_only_option(matches: &ArgMatches, options: &Options) -> Option<&'static str>
     ensures { MatchOption result (Ends (found_of matches.now) options.now) (λ _. Ends (found_of matches.now) options.now → ⊥) }
 {
     if options.live {

@@ -1,6 +1,6 @@
 //! What is told of links.
 
-use click_links::{Counted, Device};
+use click_links::{CountSnapshot, Device};
 use itoa::Buffer;
 use std::io::{self, Write};
 use std::sync::Wait;
@@ -60,7 +60,7 @@ pub fn tell_counts<W: Write>(to: &mut W, devices: &[Device]) {
 }
 
 /// Writes the counts of a link as a line.
-fn write_counts<W: Write>(to: &mut W, name: &[u8], counted: Counted) -> io::Result<()> {
+fn write_counts<W: Write>(to: &mut W, name: &[u8], counted: CountSnapshot) -> io::Result<()> {
     to.write_all(b"link ")?;
     to.write_all(name)?;
     let counts: [(&[u8], u64); 8] = [

@@ -37,9 +37,9 @@ impl Door for Standard {
 
 /// Lets nobody in: where the program cannot listen.
 #[derive(Drop)]
-pub struct Shut;
+pub struct ClosedDoor;
 
-impl Door for Shut {
+impl Door for ClosedDoor {
     ghost use Rattle.std.specs.Prelude.{◌≡◌, None};
 
     ghost lets_in = { λ _ _ got. got ≡ None };

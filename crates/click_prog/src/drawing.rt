@@ -5,7 +5,7 @@ ghost use Rattle.click_prog.specs.Drawn.{DrawsTo};
 ghost use Rattle.click_prog.specs.Statuses.{config_status};
 
 use crate::serving::tell;
-use crate::status::{Status, of_config};
+use crate::status::{Status, config_status};
 use click_page::picture_of;
 use click_router::{ConfigFault, FaultKind};
 use std::alloc::Global;
@@ -31,5 +31,5 @@ fn refuse<E: Write>(alloc: Global, errors: &mut E, fault: &ConfigFault) -> Statu
     if fault.kind != FaultKind::NoMemory {
         tell(alloc, errors, fault);
     }
-    of_config(fault)
+    config_status(fault)
 }

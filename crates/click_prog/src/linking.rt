@@ -10,18 +10,19 @@ ghost use Rattle.click_prog.specs.Statuses.{opening_status};
 ghost use Rattle.click_workers.specs.Linked.{AreQuiet, IsTrueOpening};
 
 use crate::counts::{Ending, tell_counts, tell_on};
-use crate::doors::{Shut, Standard};
+use crate::doors::{ClosedDoor, Standard};
 use crate::paging::Paging;
-use crate::serving::{Comes, Plan, tell};
+use crate::serving::{Plan, SessionSource, tell};
 use crate::sockets::{SocketFault, Sockets};
-use crate::status::{Status, of_opening, of_sessions};
+use crate::status::{Status, opening_status, sessions_status};
 use click_control::{Reading, Sink, Source, Writing};
 use click_desk::OpenFault;
-use click_http::Front;
+use click_http::PageListener;
 use click_links::{UdpIn, UdpOut};
 use click_router::{FaultKind, Handlers, prepare};
 use click_workers::{
-    Alone, Beside, Clients, Door, Gate, LinkedRan, Listening, OpenGate, Wiring, run_linked_beside,
+    Beside, Clients, Door, Gate, LinkSetup, LinkedRan, Listening, NothingBeside, OpenGate,
+    run_linked_beside,
 };
 use std::alloc::Global;
 use std::io::{Stdin, Stdout, Write};
@@ -33,7 +34,7 @@ use std::time::Clock;
 
 /// Links with their sockets, and after how many seconds each their counts are told; 0: only at the end.
 #[derive(Drop)]
-pub struct Wired {
+pub struct OpenedLinks {
     pub sockets: Sockets,
     pub tell: u64,
 }
@@ -74,14 +75,23 @@ pub fn serve_linked<
     text: &[u8],
     plan: Plan,
     turns: u64,
-    wired: Wired,
+    opened_links: OpenedLinks,
 ) -> Status
     requires { 0 < turns }
     ensures { LinkedRunTo D.lets_in D.Reader.input D.Writer.output ⟦<OpenGate as Gate>⟧.gives ⟦<OpenGate as Gate>⟧.told door.now plan.readonly text.now plan.sessions
-        plan.workers turns wired.sockets.links.receivers.items wired.sockets.sender.tried result }
+        plan.workers turns opened_links.sockets.links.receivers.items opened_links.sockets.sender.tried result }
 {
     let clients = clients_of(door, plan, turns);
-    serve_clients(rt, alloc, table, errors, text, clients, wired, Alone)
+    serve_clients(
+        rt,
+        alloc,
+        table,
+        errors,
+        text,
+        clients,
+        opened_links,
+        NothingBeside,
+    )
 }
 
 /// The same with a page beside them.
@@ -100,16 +110,25 @@ pub fn serve_linked_page<
     text: &[u8],
     plan: Plan,
     turns: u64,
-    wired: Wired,
+    opened_links: OpenedLinks,
     paging: Paging<C>,
 ) -> Status
     requires turns { 0 < turns }
     requires readonly { paging.readonly ≡ plan.readonly }
-    ensures { LinkedPageTo D.lets_in D.Reader.input D.Writer.output ⟦<OpenGate as Gate>⟧.gives ⟦<OpenGate as Gate>⟧.told paging.entry.front.port door.now plan.readonly text.now plan.sessions
-        plan.workers turns wired.sockets.links.receivers.items wired.sockets.sender.tried result }
+    ensures { LinkedPageTo D.lets_in D.Reader.input D.Writer.output ⟦<OpenGate as Gate>⟧.gives ⟦<OpenGate as Gate>⟧.told paging.entry.page_listener.port door.now plan.readonly text.now plan.sessions
+        plan.workers turns opened_links.sockets.links.receivers.items opened_links.sockets.sender.tried result }
 {
     let clients = clients_of(door, plan, turns);
-    serve_clients(rt, alloc, table, errors, text, clients, wired, paging)
+    serve_clients(
+        rt,
+        alloc,
+        table,
+        errors,
+        text,
+        clients,
+        opened_links,
+        paging,
+    )
 }
 
 /// Serves these sessions and drivers with links beside them, and with other work, which makes no Transmit.
@@ -127,19 +146,19 @@ fn serve_clients<
     mut errors: E,
     text: &[u8],
     clients: Clients<D, G>,
-    wired: Wired,
+    opened_links: OpenedLinks,
     beside: B,
 ) -> Status
     requires many { (0 < clients.places + clients.workers) × (clients.places + clients.workers + (1 + B.Seats.many) ≤ 256) }
     requires turns { 0 < clients.turns }
     requires quiet { (old new : B.Seats) (done : B.Done) → All (λ s. s.calls ≡ []) (B.Seats.sittings old) → B.does beside old new done → All (λ s. AreQuiet s.calls) (B.Seats.sittings new) }
     ensures { LinkedBesideTo B.Seats.sittings B.Seats.many (B.does beside) D.lets_in D.Reader.input D.Writer.output G.gives G.told clients.entry.door.now clients.entry.readonly text.now clients.entry.places
-        clients.entry.workers clients.entry.turns wired.sockets.links.receivers.items wired.sockets.sender.tried result }
+        clients.entry.workers clients.entry.turns opened_links.sockets.links.receivers.items opened_links.sockets.sender.tried result }
 {
-    let Wired {
+    let OpenedLinks {
         sockets,
         tell: every,
-    } = wired;
+    } = opened_links;
     let Sockets { links, sender } = sockets;
     let Ok(devices) = links.devices(alloc) else {
         return Status::NoMemory;
@@ -172,7 +191,7 @@ fn serve_clients<
                 workers,
                 turns,
             };
-            let wiring = Wiring {
+            let wiring = LinkSetup {
                 devices,
                 links,
                 sender,
@@ -191,7 +210,7 @@ fn serve_clients<
     match ran {
         Ok((ran, _)) => {
             tell_counts(&mut errors, devices);
-            of_sessions(ran.ended.as_slice())
+            sessions_status(ran.ended.as_slice())
         }
         Err(fault) => refuse(alloc, &mut errors, &fault),
     }
@@ -204,7 +223,7 @@ fn refuse<E: Write>(alloc: Global, errors: &mut E, fault: &OpenFault) -> Status
     if let OpenFault::Config(fault) = fault {
         tell(alloc, errors, fault);
     }
-    of_opening(fault)
+    opening_status(fault)
 }
 
 /// Serves the sessions that come, with links beside them and a page where one is opened, over a router that stays. One on standard input ends it; over TCP nothing does but the end of the process.
@@ -214,32 +233,52 @@ pub fn linked_plan<T: Handlers + Send + Drop, R: Threads + Wait + Sync>(
     table: T,
     text: &[u8],
     plan: Plan,
-    comes: Comes,
-    wired: Wired,
-    page: Option<Front>,
+    session_source: SessionSource,
+    opened_links: OpenedLinks,
+    page: Option<PageListener>,
 ) -> Status
-    ensures standard { comes ≡ Comes.Standard → PlanLinksTo ⟦<Standard as Door>⟧.lets_in ⟦<Reading<Stdin> as Source>⟧.input ⟦<Writing<Stdout> as Sink>⟧.output
-        ⟦<OpenGate as Gate>⟧.gives ⟦<OpenGate as Gate>⟧.told (option_map (λ f. f.port) page) plan text.now 1 wired.sockets.links.receivers.items wired.sockets.sender.tried result }
-    ensures over { (listener : TcpListener) → comes ≡ Comes.Over listener → PlanLinksTo ⟦<Listening as Door>⟧.lets_in ⟦<Reading<TcpStream> as Source>⟧.input ⟦<Writing<TcpStream> as Sink>⟧.output
-        ⟦<OpenGate as Gate>⟧.gives ⟦<OpenGate as Gate>⟧.told (option_map (λ f. f.port) page) plan text.now 18446744073709551615 wired.sockets.links.receivers.items wired.sockets.sender.tried result }
-    ensures nowhere { comes ≡ Comes.Nowhere → PlanLinksTo ⟦<Shut as Door>⟧.lets_in ⟦<Reading<Stdin> as Source>⟧.input ⟦<Writing<Stdout> as Sink>⟧.output
-        ⟦<OpenGate as Gate>⟧.gives ⟦<OpenGate as Gate>⟧.told (option_map (λ f. f.port) page) plan text.now 1 wired.sockets.links.receivers.items wired.sockets.sender.tried result }
+    ensures standard { session_source ≡ SessionSource.Standard → PlanLinksTo ⟦<Standard as Door>⟧.lets_in ⟦<Reading<Stdin> as Source>⟧.input ⟦<Writing<Stdout> as Sink>⟧.output
+        ⟦<OpenGate as Gate>⟧.gives ⟦<OpenGate as Gate>⟧.told (option_map (λ f. f.port) page) plan text.now 1 opened_links.sockets.links.receivers.items opened_links.sockets.sender.tried result }
+    ensures over { (listener : TcpListener) → session_source ≡ SessionSource.Over listener → PlanLinksTo ⟦<Listening as Door>⟧.lets_in ⟦<Reading<TcpStream> as Source>⟧.input ⟦<Writing<TcpStream> as Sink>⟧.output
+        ⟦<OpenGate as Gate>⟧.gives ⟦<OpenGate as Gate>⟧.told (option_map (λ f. f.port) page) plan text.now 18446744073709551615 opened_links.sockets.links.receivers.items opened_links.sockets.sender.tried result }
+    ensures nowhere { session_source ≡ SessionSource.Nowhere → PlanLinksTo ⟦<ClosedDoor as Door>⟧.lets_in ⟦<Reading<Stdin> as Source>⟧.input ⟦<Writing<Stdout> as Sink>⟧.output
+        ⟦<OpenGate as Gate>⟧.gives ⟦<OpenGate as Gate>⟧.told (option_map (λ f. f.port) page) plan text.now 1 opened_links.sockets.links.receivers.items opened_links.sockets.sender.tried result }
 {
-    match comes {
-        Comes::Standard => {
+    match session_source {
+        SessionSource::Standard => {
             let door = Standard::new(host.stdin(), host.stdout());
-            serve_wired(rt, host, table, &door, text, plan, 1, wired, page)
+            serve_opened_links(rt, host, table, &door, text, plan, 1, opened_links, page)
         }
-        Comes::Over(listener) => {
+        SessionSource::Over(listener) => {
             let door = Listening::new(listener);
-            serve_wired(rt, host, table, &door, text, plan, u64::MAX, wired, page)
+            serve_opened_links(
+                rt,
+                host,
+                table,
+                &door,
+                text,
+                plan,
+                u64::MAX,
+                opened_links,
+                page,
+            )
         }
-        Comes::Nowhere => serve_wired(rt, host, table, &Shut, text, plan, 1, wired, page),
+        SessionSource::Nowhere => serve_opened_links(
+            rt,
+            host,
+            table,
+            &ClosedDoor,
+            text,
+            plan,
+            1,
+            opened_links,
+            page,
+        ),
     }
 }
 
 /// The same at this door.
-fn serve_wired<T: Handlers + Send + Drop, D: Door, R: Threads + Wait + Sync>(
+fn serve_opened_links<T: Handlers + Send + Drop, D: Door, R: Threads + Wait + Sync>(
     rt: &R,
     host: &HostRuntime,
     table: T,
@@ -247,24 +286,43 @@ fn serve_wired<T: Handlers + Send + Drop, D: Door, R: Threads + Wait + Sync>(
     text: &[u8],
     plan: Plan,
     turns: u64,
-    wired: Wired,
-    page: Option<Front>,
+    opened_links: OpenedLinks,
+    page: Option<PageListener>,
 ) -> Status
     requires { 0 < turns }
     ensures { PlanLinksTo D.lets_in D.Reader.input D.Writer.output ⟦<OpenGate as Gate>⟧.gives ⟦<OpenGate as Gate>⟧.told (option_map (λ f. f.port) page) plan text.now turns
-        wired.sockets.links.receivers.items wired.sockets.sender.tried result }
+        opened_links.sockets.links.receivers.items opened_links.sockets.sender.tried result }
 {
     let (alloc, errors) = (host.alloc(), host.stderr());
     match page {
-        None => serve_linked(rt, alloc, table, door, errors, text, plan, turns, wired),
-        Some(front) => {
+        None => serve_linked(
+            rt,
+            alloc,
+            table,
+            door,
+            errors,
+            text,
+            plan,
+            turns,
+            opened_links,
+        ),
+        Some(page_listener) => {
             let paging = Paging {
-                front,
+                page_listener,
                 clock: host,
                 readonly: plan.readonly,
             };
             serve_linked_page(
-                rt, alloc, table, door, errors, text, plan, turns, wired, paging,
+                rt,
+                alloc,
+                table,
+                door,
+                errors,
+                text,
+                plan,
+                turns,
+                opened_links,
+                paging,
             )
         }
     }

@@ -5,7 +5,7 @@ ghost use Rattle.std.specs.Prelude.{◌≡◌, ◌∷◌, []};
 ghost use Rattle.std.specs.Net.Addr.{ipv4_octets};
 
 mod arguments;
-mod booked;
+mod book_lines;
 mod counts;
 mod doors;
 mod drawing;
@@ -17,15 +17,15 @@ mod serving;
 mod sockets;
 mod status;
 
-use arguments::{Refusal, options_of};
+use arguments::{ArgumentRefusal, options_of};
 use clap::error::ErrorKind;
 use click_handlers::with_table;
 use drawing::draw;
 use link::{Link, LinkFault};
-use linking::Wired;
-use serving::{AtEnd, Comes, Plan, Serving, faulty, plan_of};
+use linking::OpenedLinks;
+use serving::{EndReport, Plan, Serving, SessionSource, config_fault_status, plan_of};
 use sockets::{SocketFault, open_sockets};
-use status::{Status, of_unread};
+use status::{Status, unread_status};
 use std::alloc::Global;
 use std::net::{Ipv4Addr, Net, TcpListener, TcpStream};
 use std::process::ExitCode;
@@ -45,7 +45,7 @@ fn program<R: Threads + Wait + Net<Listener = TcpListener, Stream = TcpStream> +
     let alloc = host.alloc();
     let words = match env::args(host) {
         Ok(words) => words,
-        Err(error) => return unread(host, error.kind()),
+        Err(error) => return refuse_words(host, error.kind()),
     };
     let Ok(words) = words.collect::<Vec<String>>(alloc) else {
         return Status::NoMemory;
@@ -62,7 +62,7 @@ fn program<R: Threads + Wait + Net<Listener = TcpListener, Stream = TcpStream> +
             host,
             options.text.unwrap().as_bytes(),
             plan_of(&options),
-            AtEnd {
+            EndReport {
                 check: options.check.map(|name| name.as_bytes()),
                 book: options.book,
             },
@@ -81,21 +81,21 @@ fn serve<R: Threads + Wait + Net<Listener = TcpListener, Stream = TcpStream> + S
     host: &HostRuntime,
     text: &[u8],
     plan: Plan,
-    end: AtEnd,
+    end: EndReport,
     port: Option<u16>,
     links: &[Link],
     tell: u64,
     page: Option<u16>,
 ) -> Status {
-    let links = match wired(rt, host.alloc(), links, tell) {
+    let links = match opened_links(rt, host.alloc(), links, tell) {
         Ok(links) => links,
-        Err(fault) => return unlinked(host, text, &fault),
+        Err(fault) => return refuse_links(host, text, &fault),
     };
-    let comes = match port {
-        None => Comes::Standard,
+    let session_source = match port {
+        None => SessionSource::Standard,
         Some(port) => match TcpListener::bind(rt, address_of(port)) {
-            Ok(listener) => Comes::Over(listener),
-            Err(_) => Comes::Nowhere,
+            Ok(listener) => SessionSource::Over(listener),
+            Err(_) => SessionSource::Nowhere,
         },
     };
     let serving = Serving {
@@ -103,7 +103,7 @@ fn serve<R: Threads + Wait + Net<Listener = TcpListener, Stream = TcpStream> + S
         text,
         plan,
         end,
-        comes,
+        session_source,
         links,
         page,
     };
@@ -114,22 +114,22 @@ fn serve<R: Threads + Wait + Net<Listener = TcpListener, Stream = TcpStream> + S
 }
 
 /// The links with their sockets, where there are any.
-fn wired<'a, R: Net>(
+fn opened_links<'a, R: Net>(
     rt: &R,
     alloc: Global,
     links: &[Link<'a>],
     tell: u64,
-) -> Result<Option<Wired>, SocketFault<'a>> {
+) -> Result<Option<OpenedLinks>, SocketFault<'a>> {
     if links.is_empty() {
         return Ok(None);
     }
     let sockets = open_sockets(rt, alloc, links)?;
-    Ok(Some(Wired { sockets, tell }))
+    Ok(Some(OpenedLinks { sockets, tell }))
 }
 
 /// Tells why there are no links; where the configuration is faulty, that, as where it cannot listen.
-fn unlinked(host: &HostRuntime, text: &[u8], fault: &SocketFault) -> Status {
-    if let Some(status) = faulty(host, text) {
+fn refuse_links(host: &HostRuntime, text: &[u8], fault: &SocketFault) -> Status {
+    if let Some(status) = config_fault_status(host, text) {
         return status;
     }
     // A failed write changes nothing of the status.
@@ -149,29 +149,29 @@ fn address_of(port: u16) -> (Ipv4Addr, u16)
 }
 
 /// Tells why the command line is refused; nothing where memory ran out.
-fn refused(host: &HostRuntime, refusal: &Refusal) -> Status {
+fn refused(host: &HostRuntime, refusal: &ArgumentRefusal) -> Status {
     // A failed write changes nothing of the status.
     match refusal {
-        Refusal::Clap(error) if error.kind() == ErrorKind::OutOfMemory => {
+        ArgumentRefusal::Clap(error) if error.kind() == ErrorKind::OutOfMemory => {
             return Status::NoMemory;
         }
-        Refusal::Link(LinkFault::NoMemory) => return Status::NoMemory,
-        Refusal::Clap(error) => {
+        ArgumentRefusal::Link(LinkFault::NoMemory) => return Status::NoMemory,
+        ArgumentRefusal::Clap(error) => {
             let _ = host.eprint(error);
         }
-        Refusal::NoNumber(number) => {
+        ArgumentRefusal::NoNumber(number) => {
             let _ = eprintln!(host; "click_prog: {number}");
         }
-        Refusal::NotDrawn(option) => {
+        ArgumentRefusal::NotDrawn(option) => {
             let _ = eprintln!(host; "click_prog: {option}");
         }
-        Refusal::NotLive(option) => {
+        ArgumentRefusal::NotLive(option) => {
             let _ = eprintln!(host; "click_prog: {option}");
         }
-        Refusal::OnlyLive(option) => {
+        ArgumentRefusal::OnlyLive(option) => {
             let _ = eprintln!(host; "click_prog: {option}");
         }
-        Refusal::Link(fault) => {
+        ArgumentRefusal::Link(fault) => {
             let _ = eprintln!(host; "click_prog: {fault}");
         }
     }
@@ -179,8 +179,8 @@ fn refused(host: &HostRuntime, refusal: &Refusal) -> Status {
 }
 
 /// Tells why the words of the command line cannot be read: memory ran out, or one of them is no text.
-fn unread(host: &HostRuntime, kind: io::ErrorKind) -> Status {
-    let status = of_unread(kind);
+fn refuse_words(host: &HostRuntime, kind: io::ErrorKind) -> Status {
+    let status = unread_status(kind);
     if status == Status::WrongArguments {
         // A failed write changes nothing of the status.
         let _ = host.eprintln("click_prog: an argument is not UTF-8");

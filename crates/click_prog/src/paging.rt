@@ -4,16 +4,16 @@ ghost use Rattle.std.specs.Prelude.{◌≡◌, ◌<◌};
 ghost use Rattle.std.specs.declared.net.TcpListener.{TcpListener};
 ghost use Rattle.click_prog.specs.Paging.{IsPagedOver, PagedRunTo, PlanPagesTo, room_of, rounds_of, turns_of};
 
-use crate::doors::{Shut, Standard};
-use crate::serving::{AtEnd, Comes, Plan, refuse, tell_book, tell_check};
-use crate::status::{Status, of_sessions};
+use crate::doors::{ClosedDoor, Standard};
+use crate::serving::{EndReport, Plan, SessionSource, refuse, tell_book, tell_check};
+use crate::status::{Status, sessions_status};
 use click_control::{Port, Reading, Sink, Source, Writing};
 use click_desk::{Desk, Seat};
-use click_http::{Ended, Front, serve_until};
+use click_http::{Ended, PageListener, serve_until};
 use click_page::Page;
 use click_router::Handlers;
 use click_workers::{
-    AllRan, Beside, BesideRan, Clients, Door, Gate, Listening, OpenGate, Opening, Seated,
+    AllRan, Beside, BesideRan, Clients, Door, Gate, Listening, OpenGate, Opening, SeatPort,
     run_beside,
 };
 use std::alloc::Global;
@@ -27,7 +27,7 @@ use std::time::Clock;
 /// A page that shows the router to browsers: what was opened for it, the clock that it is served by, and whether it may only read.
 #[derive(Drop)]
 pub struct Paging<'a, C> {
-    pub front: Front,
+    pub page_listener: PageListener,
     pub clock: &'a C,
     pub readonly: bool,
 }
@@ -39,7 +39,7 @@ impl<'a, T: Handlers + Send + Drop, C: Clock + Sync> Beside<T> for Paging<'a, C>
 
     type Done = Ended;
 
-    ghost does = { λ paging old new _. IsPaged paging.readonly paging.front.port old new };
+    ghost does = { λ paging old new _. IsPaged paging.readonly paging.page_listener.port old new };
 
     fn work<R: Threads + Wait + Sync>(
         self,
@@ -50,12 +50,12 @@ impl<'a, T: Handlers + Send + Drop, C: Clock + Sync> Beside<T> for Paging<'a, C>
         stop: &AtomicBool,
     ) -> (Ended, Seat<T>) {
         let Paging {
-            front,
+            page_listener,
             clock,
             readonly,
         } = self;
-        let port = Seated::new(rt, desk, seats);
-        let (ended, port) = serve_page(rt, clock, alloc, front, port, readonly, stop);
+        let port = SeatPort::new(rt, desk, seats);
+        let (ended, port) = serve_page(rt, clock, alloc, page_listener, port, readonly, stop);
         (ended, port.into_seat())
     }
 }
@@ -65,16 +65,16 @@ fn serve_page<P: Port, C: Clock, R: Wait>(
     rt: &R,
     clock: &C,
     alloc: Global,
-    front: Front,
+    page_listener: PageListener,
     port: P,
     readonly: bool,
     stop: &AtomicBool,
 ) -> (Ended, P)
-    ensures { IsPagedOver P.asks readonly front.port port result.1 }
+    ensures { IsPagedOver P.asks readonly page_listener.port port result.1 }
 {
-    let at = front.port();
+    let at = page_listener.port();
     let mut page = Page::new(alloc, port, readonly, at);
-    let ended = serve_until(rt, clock, alloc, front, &mut page, stop);
+    let ended = serve_until(rt, clock, alloc, page_listener, &mut page, stop);
     (ended, page.into_port())
 }
 
@@ -111,12 +111,12 @@ pub fn serve_paged<
     text: &[u8],
     plan: Plan,
     turns: u64,
-    end: AtEnd,
+    end: EndReport,
     paging: Paging<C>,
 ) -> Status
     requires turns { 0 < turns }
     requires readonly { paging.readonly ≡ plan.readonly }
-    ensures { PagedRunTo D.lets_in D.Reader.input D.Writer.output ⟦<OpenGate as Gate>⟧.gives ⟦<OpenGate as Gate>⟧.told door.now plan text.now turns paging.entry.front.port result }
+    ensures { PagedRunTo D.lets_in D.Reader.input D.Writer.output ⟦<OpenGate as Gate>⟧.gives ⟦<OpenGate as Gate>⟧.told door.now plan text.now turns paging.entry.page_listener.port result }
 {
     let Plan {
         sessions: places,
@@ -160,7 +160,7 @@ pub fn serve_paged<
         ) => {
             tell_check(errors, end.check, checked);
             tell_book(alloc, errors, end.book, book.entries.as_slice());
-            of_sessions(ended.as_slice())
+            sessions_status(ended.as_slice())
         }
         Err(fault) => refuse(alloc, errors, &fault),
     }
@@ -180,26 +180,26 @@ pub fn paged_plan<T: Handlers + Send + Drop, R: Threads + Wait + Sync>(
     table: T,
     text: &[u8],
     plan: Plan,
-    end: AtEnd,
-    comes: Comes,
-    front: Front,
+    end: EndReport,
+    session_source: SessionSource,
+    page_listener: PageListener,
 ) -> Status
-    ensures standard { comes ≡ Comes.Standard → PlanPagesTo ⟦<Standard as Door>⟧.lets_in ⟦<Reading<Stdin> as Source>⟧.input ⟦<Writing<Stdout> as Sink>⟧.output
-        ⟦<OpenGate as Gate>⟧.gives ⟦<OpenGate as Gate>⟧.told plan text.now 1 front.port result }
-    ensures over { (listener : TcpListener) → comes ≡ Comes.Over listener → PlanPagesTo ⟦<Listening as Door>⟧.lets_in ⟦<Reading<TcpStream> as Source>⟧.input ⟦<Writing<TcpStream> as Sink>⟧.output
-        ⟦<OpenGate as Gate>⟧.gives ⟦<OpenGate as Gate>⟧.told plan text.now (turns_of plan.live) front.port result }
-    ensures nowhere { comes ≡ Comes.Nowhere → PlanPagesTo ⟦<Shut as Door>⟧.lets_in ⟦<Reading<Stdin> as Source>⟧.input ⟦<Writing<Stdout> as Sink>⟧.output
-        ⟦<OpenGate as Gate>⟧.gives ⟦<OpenGate as Gate>⟧.told plan text.now 1 front.port result }
+    ensures standard { session_source ≡ SessionSource.Standard → PlanPagesTo ⟦<Standard as Door>⟧.lets_in ⟦<Reading<Stdin> as Source>⟧.input ⟦<Writing<Stdout> as Sink>⟧.output
+        ⟦<OpenGate as Gate>⟧.gives ⟦<OpenGate as Gate>⟧.told plan text.now 1 page_listener.port result }
+    ensures over { (listener : TcpListener) → session_source ≡ SessionSource.Over listener → PlanPagesTo ⟦<Listening as Door>⟧.lets_in ⟦<Reading<TcpStream> as Source>⟧.input ⟦<Writing<TcpStream> as Sink>⟧.output
+        ⟦<OpenGate as Gate>⟧.gives ⟦<OpenGate as Gate>⟧.told plan text.now (turns_of plan.live) page_listener.port result }
+    ensures nowhere { session_source ≡ SessionSource.Nowhere → PlanPagesTo ⟦<ClosedDoor as Door>⟧.lets_in ⟦<Reading<Stdin> as Source>⟧.input ⟦<Writing<Stdout> as Sink>⟧.output
+        ⟦<OpenGate as Gate>⟧.gives ⟦<OpenGate as Gate>⟧.told plan text.now 1 page_listener.port result }
 {
     let alloc = host.alloc();
     let mut errors = host.stderr();
     let paging = Paging {
-        front,
+        page_listener,
         clock: host,
         readonly: plan.readonly,
     };
-    match comes {
-        Comes::Standard => {
+    match session_source {
+        SessionSource::Standard => {
             let door = Standard::new(host.stdin(), host.stdout());
             serve_paged(
                 rt,
@@ -214,7 +214,7 @@ pub fn paged_plan<T: Handlers + Send + Drop, R: Threads + Wait + Sync>(
                 paging,
             )
         }
-        Comes::Over(listener) => {
+        SessionSource::Over(listener) => {
             let door = Listening::new(listener);
             let turns = turns_of(plan.live);
             serve_paged(
@@ -230,11 +230,11 @@ pub fn paged_plan<T: Handlers + Send + Drop, R: Threads + Wait + Sync>(
                 paging,
             )
         }
-        Comes::Nowhere => serve_paged(
+        SessionSource::Nowhere => serve_paged(
             rt,
             alloc,
             table,
-            &Shut,
+            &ClosedDoor,
             &mut errors,
             text,
             plan,

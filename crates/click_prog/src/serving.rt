@@ -8,15 +8,15 @@ ghost use Rattle.click_prog.specs.Running.{RunsTo, RunsAlone, AllRunTo, LiveRunT
 ghost use Rattle.click_prog.specs.Statuses.{fault_status, check_line, check_word};
 
 use crate::arguments::Options;
-use crate::booked::write_book;
-use crate::doors::{Shut, Standard};
-use crate::linking::{Wired, linked_plan};
+use crate::book_lines::write_book;
+use crate::doors::{ClosedDoor, Standard};
+use crate::linking::{OpenedLinks, linked_plan};
 use crate::paging::{Paging, paged_plan};
-use crate::status::{Status, of_config, of_end, of_fault, of_sessions};
+use crate::status::{Status, config_status, end_status, fault_status, sessions_status};
 use click_control::{InputDevice, OutputDevice, Reading, Sink, Source, Writing};
 use click_desk::{BoxedTable, Entry};
 use click_handlers::{Table, TakesTable};
-use click_http::open_front;
+use click_http::open_page_listener;
 use click_router::{Check, ConfigFault, Handlers, prepare};
 use click_workers::{
     AllRan, Door, Gate, Listening, OpenGate, Ran, RunFault, run, run_live, run_workers,
@@ -84,7 +84,7 @@ pub fn plan_of(options: &Options) -> Plan
 
 /// What is told once a run is closed: whether this handler can be read then, and the book.
 #[derive(Clone, Copy)]
-pub struct AtEnd<'a> {
+pub struct EndReport<'a> {
     pub check: Option<&'a [u8]>,
     pub book: bool,
 }
@@ -100,7 +100,7 @@ pub fn session<T: Handlers + Drop, I: InputDevice, O: OutputDevice, E: Write, R:
     errors: &mut E,
     text: &[u8],
     readonly: bool,
-    end: AtEnd,
+    end: EndReport,
 ) -> (Status, Reading<I>, Writing<O>)
     ensures { RunsTo text.now readonly (fresh_input (I.remaining input)) (⟦<Reading<I> as Source>⟧.input result.1)
         (fresh_output (O.contents output)) (⟦<Writing<O> as Sink>⟧.output result.2) result.0 }
@@ -131,7 +131,7 @@ fn serve_text<T: Handlers + Drop, S: Source, W: Sink, E: Write, R: Wait>(
     errors: &mut E,
     text: &[u8],
     readonly: bool,
-    end: AtEnd,
+    end: EndReport,
 ) -> Status
     ensures { RunsTo text.now readonly (S.input reader.old) (S.input reader.new) (W.output writer.old) (W.output writer.new) result }
 {
@@ -145,7 +145,7 @@ fn serve_text<T: Handlers + Drop, S: Source, W: Sink, E: Write, R: Wait>(
         ) => {
             tell_check(errors, end.check, checked);
             tell_book(alloc, errors, end.book, book.entries.as_slice());
-            of_end(&ended)
+            end_status(&ended)
         }
         Err(fault) => refuse(alloc, errors, &fault),
     }
@@ -160,7 +160,7 @@ pub fn serve_all<T: Handlers + Send + Drop, D: Door, E: Write, R: Threads + Wait
     errors: &mut E,
     text: &[u8],
     plan: Plan,
-    end: AtEnd,
+    end: EndReport,
 ) -> Status
     ensures { AllRunTo D.lets_in D.Reader.input D.Writer.output ⟦<OpenGate as Gate>⟧.gives ⟦<OpenGate as Gate>⟧.told door.now plan.readonly text.now plan.sessions
         plan.workers plan.rounds result }
@@ -185,7 +185,7 @@ pub fn serve_all<T: Handlers + Send + Drop, D: Door, E: Write, R: Threads + Wait
         ) => {
             tell_check(errors, end.check, checked);
             tell_book(alloc, errors, end.book, book.entries.as_slice());
-            of_sessions(ended.as_slice())
+            sessions_status(ended.as_slice())
         }
         Err(fault) => refuse(alloc, errors, &fault),
     }
@@ -217,7 +217,7 @@ pub fn serve_live<T: Handlers + Send + Drop, D: Door, E: Write, R: Threads + Wai
     match run_live(
         rt, alloc, table, text, readonly, door, sessions, workers, turns, &OpenGate, None,
     ) {
-        Ok(ran) => of_sessions(ran.ended.as_slice()),
+        Ok(ran) => sessions_status(ran.ended.as_slice()),
         Err(fault) => refuse(alloc, errors, &fault),
     }
 }
@@ -229,20 +229,20 @@ pub(crate) fn refuse<E: Write>(alloc: Global, errors: &mut E, fault: &RunFault) 
     if let RunFault::Config(fault) = fault {
         tell(alloc, errors, fault);
     }
-    of_fault(fault)
+    fault_status(fault)
 }
 
 /// Writes why a configuration is refused.
 pub fn tell<E: Write>(alloc: Global, errors: &mut E, fault: &ConfigFault) {
     // A failed write changes nothing of the status.
     let _ = match fault.text(alloc) {
-        Ok(text) => told(errors, text.as_slice()),
-        Err(_) => told(errors, b"faulty configuration"),
+        Ok(text) => write_line(errors, text.as_slice()),
+        Err(_) => write_line(errors, b"faulty configuration"),
     };
 }
 
 /// Writes a fault as a line of the program's.
-fn told<W: Write>(to: &mut W, fault: &[u8]) -> io::Result<()>
+fn write_line<W: Write>(to: &mut W, fault: &[u8]) -> io::Result<()>
     ensures { OnOk result (Appends (W.contents to.old) (W.contents to.new) (codes "click_prog: " ++ fault.now ++ 10 ∷ [])) }
 {
     to.write_all(b"click_prog: ")?;
@@ -291,7 +291,7 @@ fn word_of(check: Check) -> &'static [u8]
 
 /// Where sessions come from, as a command line asks for it.
 #[derive(Drop)]
-pub enum Comes {
+pub enum SessionSource {
     /// One from standard input and output.
     Standard,
     /// Over TCP.
@@ -306,9 +306,9 @@ pub struct Serving<'a> {
     pub host: &'a HostRuntime,
     pub text: &'a [u8],
     pub plan: Plan,
-    pub end: AtEnd<'a>,
-    pub comes: Comes,
-    pub links: Option<Wired>,
+    pub end: EndReport<'a>,
+    pub session_source: SessionSource,
+    pub links: Option<OpenedLinks>,
     /// At which port of 127.0.0.1 browsers are shown a page.
     pub page: Option<u16>,
 }
@@ -325,31 +325,49 @@ impl<'a> Serving<'a> {
             text,
             plan,
             end,
-            comes,
+            session_source,
             links,
             page,
         } = self;
         let page = match page {
             None => None,
-            Some(port) => match open_front(host, host.alloc(), port) {
-                Ok(front) => Some(front),
-                Err(fault) => return unpaged(host, text, port, &fault),
+            Some(port) => match open_page_listener(host, host.alloc(), port) {
+                Ok(page_listener) => Some(page_listener),
+                Err(fault) => return refuse_page(host, text, port, &fault),
             },
         };
         match links {
-            Some(wired) => linked_plan(rt, host, table, text, plan, comes, wired, page),
+            Some(opened_links) => linked_plan(
+                rt,
+                host,
+                table,
+                text,
+                plan,
+                session_source,
+                opened_links,
+                page,
+            ),
             None => match page {
-                Some(front) => paged_plan(rt, host, table, text, plan, end, comes, front),
-                None if plan.live => live_plan(rt, host, table, text, plan, comes),
-                None => serve_plan(rt, host, table, text, plan, end, comes),
+                Some(page_listener) => paged_plan(
+                    rt,
+                    host,
+                    table,
+                    text,
+                    plan,
+                    end,
+                    session_source,
+                    page_listener,
+                ),
+                None if plan.live => live_plan(rt, host, table, text, plan, session_source),
+                None => serve_plan(rt, host, table, text, plan, end, session_source),
             },
         }
     }
 }
 
 /// Tells why there is no page; where the configuration is faulty, that.
-fn unpaged(host: &HostRuntime, text: &[u8], port: u16, fault: &io::Error) -> Status {
-    if let Some(status) = faulty(host, text) {
+fn refuse_page(host: &HostRuntime, text: &[u8], port: u16, fault: &io::Error) -> Status {
+    if let Some(status) = config_fault_status(host, text) {
         return status;
     }
     if fault.kind() == io::ErrorKind::OutOfMemory {
@@ -361,13 +379,13 @@ fn unpaged(host: &HostRuntime, text: &[u8], port: u16, fault: &io::Error) -> Sta
 }
 
 /// Tells what is wrong with the configuration, if anything is, and the status of that.
-pub fn faulty(host: &HostRuntime, text: &[u8]) -> Option<Status> {
+pub fn config_fault_status(host: &HostRuntime, text: &[u8]) -> Option<Status> {
     let alloc = host.alloc();
     match prepare(alloc, text) {
         Ok(_) => None,
         Err(fault) => {
             tell(alloc, &mut host.stderr(), &fault);
-            Some(of_config(&fault))
+            Some(config_status(&fault))
         }
     }
 }
@@ -399,21 +417,21 @@ fn serve_plan<T: Handlers + Send + Drop, R: Threads + Wait + Sync>(
     table: T,
     text: &[u8],
     plan: Plan,
-    end: AtEnd,
-    comes: Comes,
+    end: EndReport,
+    session_source: SessionSource,
 ) -> Status
-    ensures alone { comes ≡ Comes.Standard → plan.workers ≡ 0 → RunsAlone text.now plan.readonly result }
-    ensures standard { comes ≡ Comes.Standard → 0 < plan.workers → PlanRunsTo ⟦<Standard as Door>⟧.lets_in ⟦<Reading<Stdin> as Source>⟧.input ⟦<Writing<Stdout> as Sink>⟧.output
+    ensures alone { session_source ≡ SessionSource.Standard → plan.workers ≡ 0 → RunsAlone text.now plan.readonly result }
+    ensures standard { session_source ≡ SessionSource.Standard → 0 < plan.workers → PlanRunsTo ⟦<Standard as Door>⟧.lets_in ⟦<Reading<Stdin> as Source>⟧.input ⟦<Writing<Stdout> as Sink>⟧.output
         ⟦<OpenGate as Gate>⟧.gives ⟦<OpenGate as Gate>⟧.told plan text.now result }
-    ensures over { (listener : TcpListener) → comes ≡ Comes.Over listener → PlanRunsTo ⟦<Listening as Door>⟧.lets_in ⟦<Reading<TcpStream> as Source>⟧.input ⟦<Writing<TcpStream> as Sink>⟧.output
+    ensures over { (listener : TcpListener) → session_source ≡ SessionSource.Over listener → PlanRunsTo ⟦<Listening as Door>⟧.lets_in ⟦<Reading<TcpStream> as Source>⟧.input ⟦<Writing<TcpStream> as Sink>⟧.output
         ⟦<OpenGate as Gate>⟧.gives ⟦<OpenGate as Gate>⟧.told plan text.now result }
-    ensures nowhere { comes ≡ Comes.Nowhere → PlanRunsTo ⟦<Shut as Door>⟧.lets_in ⟦<Reading<Stdin> as Source>⟧.input ⟦<Writing<Stdout> as Sink>⟧.output
+    ensures nowhere { session_source ≡ SessionSource.Nowhere → PlanRunsTo ⟦<ClosedDoor as Door>⟧.lets_in ⟦<Reading<Stdin> as Source>⟧.input ⟦<Writing<Stdout> as Sink>⟧.output
         ⟦<OpenGate as Gate>⟧.gives ⟦<OpenGate as Gate>⟧.told plan text.now result }
 {
     let alloc = host.alloc();
     let mut errors = host.stderr();
-    match comes {
-        Comes::Standard if plan.workers == 0 => {
+    match session_source {
+        SessionSource::Standard if plan.workers == 0 => {
             let (status, _, _) = session(
                 rt,
                 alloc,
@@ -427,15 +445,24 @@ fn serve_plan<T: Handlers + Send + Drop, R: Threads + Wait + Sync>(
             );
             status
         }
-        Comes::Standard => {
+        SessionSource::Standard => {
             let door = Standard::new(host.stdin(), host.stdout());
             serve_all(rt, alloc, table, &door, &mut errors, text, plan, end)
         }
-        Comes::Over(listener) => {
+        SessionSource::Over(listener) => {
             let door = Listening::new(listener);
             serve_all(rt, alloc, table, &door, &mut errors, text, plan, end)
         }
-        Comes::Nowhere => serve_all(rt, alloc, table, &Shut, &mut errors, text, plan, end),
+        SessionSource::Nowhere => serve_all(
+            rt,
+            alloc,
+            table,
+            &ClosedDoor,
+            &mut errors,
+            text,
+            plan,
+            end,
+        ),
     }
 }
 
@@ -446,26 +473,35 @@ fn live_plan<T: Handlers + Send + Drop, R: Threads + Wait + Sync>(
     table: T,
     text: &[u8],
     plan: Plan,
-    comes: Comes,
+    session_source: SessionSource,
 ) -> Status
-    ensures standard { comes ≡ Comes.Standard → PlanLivesTo ⟦<Standard as Door>⟧.lets_in ⟦<Reading<Stdin> as Source>⟧.input ⟦<Writing<Stdout> as Sink>⟧.output
+    ensures standard { session_source ≡ SessionSource.Standard → PlanLivesTo ⟦<Standard as Door>⟧.lets_in ⟦<Reading<Stdin> as Source>⟧.input ⟦<Writing<Stdout> as Sink>⟧.output
         ⟦<OpenGate as Gate>⟧.gives ⟦<OpenGate as Gate>⟧.told plan text.now 1 result }
-    ensures over { (listener : TcpListener) → comes ≡ Comes.Over listener → PlanLivesTo ⟦<Listening as Door>⟧.lets_in ⟦<Reading<TcpStream> as Source>⟧.input ⟦<Writing<TcpStream> as Sink>⟧.output
+    ensures over { (listener : TcpListener) → session_source ≡ SessionSource.Over listener → PlanLivesTo ⟦<Listening as Door>⟧.lets_in ⟦<Reading<TcpStream> as Source>⟧.input ⟦<Writing<TcpStream> as Sink>⟧.output
         ⟦<OpenGate as Gate>⟧.gives ⟦<OpenGate as Gate>⟧.told plan text.now 18446744073709551615 result }
-    ensures nowhere { comes ≡ Comes.Nowhere → PlanLivesTo ⟦<Shut as Door>⟧.lets_in ⟦<Reading<Stdin> as Source>⟧.input ⟦<Writing<Stdout> as Sink>⟧.output
+    ensures nowhere { session_source ≡ SessionSource.Nowhere → PlanLivesTo ⟦<ClosedDoor as Door>⟧.lets_in ⟦<Reading<Stdin> as Source>⟧.input ⟦<Writing<Stdout> as Sink>⟧.output
         ⟦<OpenGate as Gate>⟧.gives ⟦<OpenGate as Gate>⟧.told plan text.now 1 result }
 {
     let alloc = host.alloc();
     let mut errors = host.stderr();
-    match comes {
-        Comes::Standard => {
+    match session_source {
+        SessionSource::Standard => {
             let door = Standard::new(host.stdin(), host.stdout());
             serve_live(rt, alloc, table, &door, &mut errors, text, plan, 1)
         }
-        Comes::Over(listener) => {
+        SessionSource::Over(listener) => {
             let door = Listening::new(listener);
             serve_live(rt, alloc, table, &door, &mut errors, text, plan, u64::MAX)
         }
-        Comes::Nowhere => serve_live(rt, alloc, table, &Shut, &mut errors, text, plan, 1),
+        SessionSource::Nowhere => serve_live(
+            rt,
+            alloc,
+            table,
+            &ClosedDoor,
+            &mut errors,
+            text,
+            plan,
+            1,
+        ),
     }
 }

@@ -4,8 +4,8 @@ ghost use Rattle.std.specs.Prelude.{◌≡◌, [], map, IfOk};
 ghost use Rattle.click_prog.specs.Links.{line_of};
 
 use crate::link::Link;
+use click_base::sequence::Sequence;
 use click_links::{Links, UdpIn, UdpLine, UdpOut, open_udp};
-use click_text::sequence::Sequence;
 use std::alloc::{AllocError, AllocFailed, Global};
 use std::io;
 use std::io::ErrorKind;
@@ -81,7 +81,7 @@ fn open_socket<'a, R: Net>(
     ensures end { IfOk result (λ ends. (ends.0.here ≡ SocketAddr.V4 link.now.here) × (ends.0.there ≡ SocketAddr.V4 link.now.there)) }
     ensures line { IfOk result (λ ends. ends.1 ≡ line_of link.now) }
 {
-    let device = Sequence::of(Vec::from_slice(alloc, link.device.as_bytes())?);
+    let device = Sequence::copy_of(alloc, link.device.as_bytes())?;
     let (here, there) = (SocketAddr::V4(link.here), SocketAddr::V4(link.there));
     match open_udp(rt, alloc, device, here, there, WAIT) {
         Ok(ends) => Ok(ends),

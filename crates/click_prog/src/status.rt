@@ -39,7 +39,7 @@ impl Status {
 }
 
 /// The status of a session.
-pub fn of_end(ended: &Result<Ended, ServeFault>) -> Status
+pub fn end_status(ended: &Result<Ended, ServeFault>) -> Status
     ensures { result ≡ spec.end_status ended.now }
 {
     match ended {
@@ -51,22 +51,22 @@ pub fn of_end(ended: &Result<Ended, ServeFault>) -> Status
 }
 
 /// The status of a run that has no book.
-pub fn of_fault(fault: &RunFault) -> Status
+pub fn fault_status(fault: &RunFault) -> Status
     ensures { result ≡ spec.fault_status fault.now }
 {
     match fault {
-        RunFault::Config(fault) => of_config(fault),
+        RunFault::Config(fault) => config_status(fault),
         RunFault::NoMemory => Status::NoMemory,
         RunFault::Close(_) | RunFault::NoView => Status::Refused,
     }
 }
 
 /// The status where a desk with links was not opened.
-pub fn of_opening(fault: &OpenFault) -> Status
+pub fn opening_status(fault: &OpenFault) -> Status
     ensures { result ≡ spec.opening_status fault.now }
 {
     match fault {
-        OpenFault::Config(fault) => of_config(fault),
+        OpenFault::Config(fault) => config_status(fault),
         OpenFault::NoMemory => Status::NoMemory,
         OpenFault::SeatCount
         | OpenFault::DeviceTwice
@@ -77,7 +77,7 @@ pub fn of_opening(fault: &OpenFault) -> Status
 }
 
 /// The status of a faulty configuration.
-pub fn of_config(fault: &ConfigFault) -> Status
+pub fn config_status(fault: &ConfigFault) -> Status
     ensures { result ≡ spec.config_status fault.now.kind }
 {
     match fault.kind {
@@ -87,12 +87,12 @@ pub fn of_config(fault: &ConfigFault) -> Status
 }
 
 /// The status of one of several sessions.
-fn of_session(end: &SessionEnd) -> Status
+fn session_status(end: &SessionEnd) -> Status
     ensures { result ≡ spec.session_status end.now }
 {
     match end {
         SessionEnd::NoEntry => Status::DeviceFailed,
-        SessionEnd::Served(ended) => of_end(ended),
+        SessionEnd::Served(ended) => end_status(ended),
     }
 }
 
@@ -117,23 +117,23 @@ fn is_device(status: Status) -> bool
 fn any_memory(ends: &[SessionEnd]) -> bool
     ensures { result ≡ list_any (λ e. spec.is_memory (spec.session_status e)) ends.now }
 {
-    ends.iter().any(|end| is_memory(of_session(end)))
+    ends.iter().any(|end| is_memory(session_status(end)))
 }
 
 fn any_refused(ends: &[SessionEnd]) -> bool
     ensures { result ≡ list_any (λ e. spec.is_refused (spec.session_status e)) ends.now }
 {
-    ends.iter().any(|end| is_refused(of_session(end)))
+    ends.iter().any(|end| is_refused(session_status(end)))
 }
 
 fn any_device(ends: &[SessionEnd]) -> bool
     ensures { result ≡ list_any (λ e. spec.is_device (spec.session_status e)) ends.now }
 {
-    ends.iter().any(|end| is_device(of_session(end)))
+    ends.iter().any(|end| is_device(session_status(end)))
 }
 
 /// The status of several sessions: of those that are not good the one with the least number.
-pub fn of_sessions(ends: &[SessionEnd]) -> Status
+pub fn sessions_status(ends: &[SessionEnd]) -> Status
     ensures { result ≡ spec.sessions_status ends.now }
 {
     if any_memory(ends) {
@@ -148,7 +148,7 @@ pub fn of_sessions(ends: &[SessionEnd]) -> Status
 }
 
 /// The status where the words of the command line cannot be read.
-pub fn of_unread(kind: io::ErrorKind) -> Status
+pub fn unread_status(kind: io::ErrorKind) -> Status
     ensures { result ≡ spec.unread_status kind }
 {
     if kind == io::ErrorKind::OutOfMemory {

@@ -7,7 +7,7 @@ use Rattle.std.specs.Str.{bytes_eq}
 use Rattle.std.specs.List.{All}
 use Rattle.std.proofs.lemmas.List.Elements.{All-nil, All-cons}
 use Rattle.click_packet.specs.Packet.{Packet}
-use Rattle.click_rings.specs.Feeds.{Drawing, FeedName, name_of, has_feed, are_apart, drew, IsPlace}
+use Rattle.click_rings.specs.Feeds.{ConsumerState, FeedName, name_of, has_feed, have_distinct_devices, drew, IsPlace}
 
 pub none_first : (a b : Bool) → (a || b) ≡ false → a ≡ false
 none_first true b e = e
@@ -41,24 +41,24 @@ pub is_itself : (a : List ℕ) → bytes_eq a a ≡ true
 is_itself a = (bytes_eq-Decides a a).1 refl
 
 -- inlets of other devices are as they were
-pub drew_away : (device : List ℕ) (got : List Packet) (is : List Drawing) → has_feed device (map name_of is) ≡ false → drew device got is ≡ is
+pub drew_away : (device : List ℕ) (got : List Packet) (is : List ConsumerState) → has_feed device (map name_of is) ≡ false → drew device got is ≡ is
 drew_away device got [] away = refl
 drew_away device got (i ∷ is) away =
     let first : bytes_eq i.device device ≡ false = none_first (bytes_eq i.device device) (has_feed device (map name_of is)) away in
     let rest = drew_away device got is (none_rest (bytes_eq i.device device) (has_feed device (map name_of is)) away) in
     rw first (ap (λ l. i ∷ l) rest)
 
-drew_one : (got : List Packet) (i : Drawing) (b : Bool) → name_of (if b then record i { drawn = i.drawn ++ got } else i) ≡ name_of i
+drew_one : (got : List Packet) (i : ConsumerState) (b : Bool) → name_of (if b then record i { drawn = i.drawn ++ got } else i) ≡ name_of i
 drew_one got i true = refl
 drew_one got i false = refl
 
 -- a draw changes no name
-pub drew_feeds : (device : List ℕ) (got : List Packet) (is : List Drawing) → map name_of (drew device got is) ≡ map name_of is
+pub drew_feeds : (device : List ℕ) (got : List Packet) (is : List ConsumerState) → map name_of (drew device got is) ≡ map name_of is
 drew_feeds device got [] = refl
 drew_feeds device got (i ∷ is) = (λ k. drew_one got i (bytes_eq i.device device) k ∷ drew_feeds device got is k)
 
 -- an inlet that stands there is one
-pub has_at : (device : List ℕ) (is : List Drawing) (k : ℕ) → IsPlace device is k → has_feed device (map name_of is) ≡ true
+pub has_at : (device : List ℕ) (is : List ConsumerState) (k : ℕ) → IsPlace device is k → has_feed device (map name_of is) ≡ true
 has_at device [] k at = let h = at.0 in absurd (omega arith)
 has_at device (i ∷ is) zero at = or_first (bytes_eq i.device device) (has_feed device (map name_of is)) (at.1 i)
 has_at device (i ∷ is) (suc k) at = or_rest (bytes_eq i.device device) (has_feed device (map name_of is)) (has_at device is k (let h = at.0 in omega arith, at.1))
@@ -71,26 +71,26 @@ each_has (f ∷ fs) =
     (λ k n below. or_rest (bytes_eq f.device (slice_index_or fs k n).device) (has_feed (slice_index_or fs k n).device fs) (each_has fs k n below))
 
 -- the first of several apart is of no device of the others
-pub head_apart : (f : FeedName) (fs : List FeedName) → are_apart (f ∷ fs) ≡ true → has_feed f.device fs ≡ false
-head_apart f fs e = not-true (has_feed f.device fs) (both_first (not (has_feed f.device fs)) (are_apart fs) e)
+pub head_apart : (f : FeedName) (fs : List FeedName) → have_distinct_devices (f ∷ fs) ≡ true → has_feed f.device fs ≡ false
+head_apart f fs e = not-true (has_feed f.device fs) (both_first (not (has_feed f.device fs)) (have_distinct_devices fs) e)
 
-pub tail_apart : (f : FeedName) (fs : List FeedName) → are_apart (f ∷ fs) ≡ true → are_apart fs ≡ true
-tail_apart f fs e = both_rest (not (has_feed f.device fs)) (are_apart fs) e
+pub tail_apart : (f : FeedName) (fs : List FeedName) → have_distinct_devices (f ∷ fs) ≡ true → have_distinct_devices fs ≡ true
+tail_apart f fs e = both_rest (not (has_feed f.device fs)) (have_distinct_devices fs) e
 
 -- the same of inlets
-pub first_apart : (i : Drawing) (is : List Drawing) → are_apart (map name_of (i ∷ is)) ≡ true → has_feed i.device (map name_of is) ≡ false
+pub first_apart : (i : ConsumerState) (is : List ConsumerState) → have_distinct_devices (map name_of (i ∷ is)) ≡ true → has_feed i.device (map name_of is) ≡ false
 first_apart i is e = head_apart (name_of i) (map name_of is) e
 
-pub rest_apart : (i : Drawing) (is : List Drawing) → are_apart (map name_of (i ∷ is)) ≡ true → are_apart (map name_of is) ≡ true
+pub rest_apart : (i : ConsumerState) (is : List ConsumerState) → have_distinct_devices (map name_of (i ∷ is)) ≡ true → have_distinct_devices (map name_of is) ≡ true
 rest_apart i is e = tail_apart (name_of i) (map name_of is) e
 
 -- where one of the others is of the device, the first is not
-pub other_first : (device : List ℕ) (i : Drawing) (is : List Drawing) (b : Bool) → bytes_eq i.device device ≡ b → has_feed i.device (map name_of is) ≡ false → has_feed device (map name_of is) ≡ true → b ≡ false
+pub other_first : (device : List ℕ) (i : ConsumerState) (is : List ConsumerState) (b : Bool) → bytes_eq i.device device ≡ b → has_feed i.device (map name_of is) ≡ false → has_feed device (map name_of is) ≡ true → b ≡ false
 other_first device i is true same away there = absurd (true≢false (sym there ∙ (ap (λ d. has_feed d (map name_of is)) (sym (same_device i.device device same)) ∙ away)))
 other_first device i is false same away there = refl
 
 -- what is drawn from the inlet of a device alone
-pub drew_at : (device : List ℕ) (got : List Packet) (is : List Drawing) (k : ℕ) (x : Drawing) → IsPlace device is k → are_apart (map name_of is) ≡ true → x ≡ slice_index_or is k x
+pub drew_at : (device : List ℕ) (got : List Packet) (is : List ConsumerState) (k : ℕ) (x : ConsumerState) → IsPlace device is k → have_distinct_devices (map name_of is) ≡ true → x ≡ slice_index_or is k x
     → slice_set is k (record x { drawn = x.drawn ++ got }) ≡ drew device got is
 drew_at device got [] k x at apart here = let h = at.0 in absurd (omega arith)
 drew_at device got (i ∷ is) zero x at apart here =

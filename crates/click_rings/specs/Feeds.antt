@@ -23,7 +23,7 @@ pub record Putting : Type 0 where
   pub put : List Packet
 
 -- an inlet: the device that it is for, its ring, and all that was drawn from it
-pub record Drawing : Type 0 where
+pub record ConsumerState : Type 0 where
   pub device : List ℕ
   pub ring : RingName
   pub drawn : List Packet
@@ -33,7 +33,7 @@ pub record FeedName : Type 0 where
   pub device : List ℕ
   pub ring : RingName
 
-abbrev pub name_of : Drawing → FeedName
+abbrev pub name_of : ConsumerState → FeedName
 name_of i = record { device = i.device; ring = i.ring }
 
 -- one of these feeds is of the device
@@ -42,15 +42,15 @@ has_feed device [] = false
 has_feed device (f ∷ fs) = bytes_eq f.device device || has_feed device fs
 
 -- no two of these feeds are of one device
-abbrev pub are_apart : List FeedName → Bool
-are_apart [] = true
-are_apart (f ∷ fs) = not (has_feed f.device fs) && are_apart fs
+abbrev pub have_distinct_devices : List FeedName → Bool
+have_distinct_devices [] = true
+have_distinct_devices (f ∷ fs) = not (has_feed f.device fs) && have_distinct_devices fs
 
 -- the inlets after these packets were drawn from the device's
-abbrev pub drew : List ℕ → List Packet → List Drawing → List Drawing
+abbrev pub drew : List ℕ → List Packet → List ConsumerState → List ConsumerState
 drew device got [] = []
 drew device got (i ∷ is) = (if bytes_eq i.device device then record i { drawn = i.drawn ++ got } else i) ∷ drew device got is
 
 -- the inlet at this place is of the device
-abbrev pub IsPlace : List ℕ → List Drawing → ℕ → Type 0
-IsPlace device is k = (k < length is) × ((i : Drawing) → bytes_eq (slice_index_or is k i).device device ≡ true)
+abbrev pub IsPlace : List ℕ → List ConsumerState → ℕ → Type 0
+IsPlace device is k = (k < length is) × ((i : ConsumerState) → bytes_eq (slice_index_or is k i).device device ≡ true)

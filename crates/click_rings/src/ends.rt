@@ -2,8 +2,8 @@
 
 ghost use Rattle.std.specs.Prelude.{◌≡◌, ◌<◌, ◌++◌, ◌∷◌, [], length, IsOk, IsSome, IfErr, IfSome, OnOk};
 
+use click_base::sequence::Sequence;
 use click_packet::StoredPacket;
-use click_text::sequence::Sequence;
 use rtrb::{Consumer, Producer, PushError};
 use std::marker::Model;
 

@@ -3,7 +3,7 @@
 ghost use Rattle.std.specs.Prelude.{◌≡◌, ◌<◌, ◌⊎◌, ◌↔◌, [], IfOk, Err};
 
 use crate::ends::{Feed, Inlet};
-use click_text::sequence::Sequence;
+use click_base::sequence::Sequence;
 use rtrb::RingBuffer;
 use std::alloc::{AllocError, Global};
 use thiserror::Error;
@@ -25,7 +25,7 @@ fn ring(alloc: Global, device: &[u8], places: usize) -> Result<(Feed, Inlet), Al
     ensures pair { IfOk result (λ r. (r.0.ring ≡ r.1.ring) × (r.1.device ≡ device.now)) }
     ensures empty { IfOk result (λ r. (r.0.put ≡ []) × (r.0.places ≡ places)) }
 {
-    let device = Sequence::of(Vec::from_slice(alloc, device)?);
+    let device = Sequence::copy_of(alloc, device)?;
     let (producer, consumer) = RingBuffer::new(alloc, places)?;
     Ok((Feed { producer }, Inlet { device, consumer }))
 }

@@ -2,7 +2,7 @@
 -- text that they are read with.
 use Rattle.std.specs.Prelude.{ℕ, List, ◌++◌, length, flat_map, codes, decimal, Option, Some, None, Bool, ◌||◌, if◌then◌else◌}
 use Rattle.std.specs.Str.{bytes_eq}
-use Rattle.click_classes.specs.Classes.{classes, name}
+use Rattle.click_base.specs.Classes.{classes, name}
 use Rattle.click_expand.specs.FlatText.{flat_text_of}
 use Rattle.click_expand.specs.declared.flat.FlatElement.{FlatElement}
 use Rattle.click_router.specs.State.{RouterState}

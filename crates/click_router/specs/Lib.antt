@@ -5,7 +5,7 @@ pub mod InOrder
 pub mod One
 pub mod Opened
 pub mod Polls
-pub mod Recorded
+pub mod StoredReply
 pub mod State
 pub mod Swap
 pub mod kept

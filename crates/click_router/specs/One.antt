@@ -4,16 +4,17 @@ use Rattle.std.specs.List.{before_last, after_last, list_any}
 use Rattle.std.specs.Str.{bytes_eq}
 use Rattle.click_packet.specs.Packet.{Packet}
 use Rattle.click_classes.specs.State.{class}
-use Rattle.click_classes.specs.declared.class.Class.{Class}
+use Rattle.click_base.specs.declared.class.Class.{Class}
 use Rattle.click_engine.specs.Plant.{Plant}
 use Rattle.click_engine.specs.Rounds.{arrive, transmit, transmitted, source_of, sink_of, round}
-use Rattle.click_engine.specs.declared.world.Element.{Element}
+use Rattle.click_engine.specs.declared.run_state.Element.{Element}
 use Rattle.click_handlers.specs.Answers.{takes_room}
 use Rattle.click_handlers.specs.Names.{has_read, has_write}
 use Rattle.click_handlers.specs.Reads.{read_value}
 use Rattle.click_handlers.specs.Writes.{write_value}
 use Rattle.click_handlers.specs.declared.fault.HandlerFault.{HandlerFault}
 use Rattle.click_ports.specs.Net.{names_of}
+use Rattle.click_base.specs.Dotted.{is_dot}
 use Rattle.click_router.specs.Globals.{global_value, is_global}
 use Rattle.click_router.specs.Opened.{IsOpened}
 use Rattle.click_router.specs.State.{RouterState}
@@ -28,9 +29,6 @@ use Rattle.click_router.specs.declared.call.Refusal.{Refusal}
 use Rattle.click_router.specs.declared.call.Refusal.TheVariants as refusal
 use Rattle.click_router.specs.declared.call.Reply.{Reply}
 use Rattle.click_router.specs.declared.call.Reply.TheVariants as reply
-
-abbrev pub is_dot : ℕ → Bool
-is_dot b = nat_eq b 46
 
 -- where the element of a name stands
 abbrev pub place_of : RouterState → List ℕ → Option ℕ
@@ -105,18 +103,18 @@ has_own direction.Read name = is_global name
 has_own direction.Write name = is_hotconfig name
 
 -- what a check tells, by whether there is a handler for that way, and whether there is one for the other
-abbrev pub told : Bool → Bool → Check
-told has has_other = if has then answer.Yes else if has_other then answer.WrongWay else answer.NoHandler
+abbrev pub check_of : Bool → Bool → Check
+check_of has has_other = if has then answer.Yes else if has_other then answer.WrongWay else answer.NoHandler
 
 abbrev pub check_element : Option Class → Direction → List ℕ → Check
-check_element (Some class) way handler = told (has_handler way class handler) (has_handler (other_way way) class handler)
+check_element (Some class) way handler = check_of (has_handler way class handler) (has_handler (other_way way) class handler)
 check_element None way handler = answer.NoElement
 
 -- whether a handler can be asked one way
 abbrev pub check : Listing → Direction → List ℕ → Check
 check l way name =
     if list_any is_dot name then check_element (class_named l (before name)) way (after name)
-    else told (has_own way name) (has_own (other_way way) name)
+    else check_of (has_own way name) (has_own (other_way way) name)
 
 -- the reply to a call that checks
 abbrev pub check_reply : Check → Reply

@@ -10,9 +10,7 @@ use Rattle.click_expand.specs.declared.fault.ExpandFault.{ExpandFault}
 use Rattle.click_expand.specs.declared.fault.FaultKind.TheVariants as expand_kind
 use Rattle.click_expand.specs.declared.flat.FlatElement.{FlatElement}
 use Rattle.click_expand.specs.declared.flat.Flat.{Flat}
-use Rattle.click_classes.specs.Classes.{class_of}
 use Rattle.click_classes.specs.Made.{IsMade}
-use Rattle.click_classes.specs.declared.class.Class.{Class}
 use Rattle.click_classes.specs.declared.fault.ArgFault.{ArgFault}
 use Rattle.click_classes.specs.declared.fault.ArgFault.TheVariants as arg_kind
 use Rattle.click_classes.specs.declared.state.State.{State}
@@ -30,18 +28,8 @@ use Rattle.click_router.specs.declared.fault.FaultPlace.TheVariants as place
 use Rattle.click_router.specs.declared.fault.ConfigFault.{ConfigFault}
 
 -- what `make` of the element's class and text answers
-pub record IsBegun (e : FlatElement) (r : Result State ArgFault) : Type 0 where
-  pub class : Class
-  pub known : class_of e.class ≡ Some class
-  pub made : IsMade class e.text r
-
--- the element's class is one of the router's
-abbrev pub IsKnown : FlatElement → Type 0
-IsKnown e = (class : Class) × (class_of e.class ≡ Some class)
-
-abbrev pub AreKnown : List FlatElement → Type 0
-AreKnown [] = Unit {0}
-AreKnown (e ∷ es) = IsKnown e × AreKnown es
+abbrev pub IsBegun : FlatElement → Result State ArgFault → Type 0
+IsBegun e r = IsMade e.class e.text r
 
 -- each element's first state
 abbrev pub AreFresh : List FlatElement → List State → Type 0
@@ -91,8 +79,8 @@ abbrev pub fault_nowhere : FaultKind → ConfigFault
 fault_nowhere k = record { kind = k; place = place.Nowhere }
 
 -- a fault of the text itself
-abbrev pub of_text : List ℕ → TextFault → ConfigFault
-of_text text f = elim f.kind [
+abbrev pub of_text_fault : List ℕ → TextFault → ConfigFault
+of_text_fault text f = elim f.kind [
   | text_kind.BadByte ↦ fault_at kind.BadByte text f.span
   | text_kind.UnclosedComment ↦ fault_at kind.UnclosedComment text f.span
   | text_kind.UnclosedString ↦ fault_at kind.UnclosedString text f.span
@@ -107,8 +95,8 @@ abbrev pub span_place : List ℕ → Option Span → FaultPlace
 span_place text None = place.Nowhere
 span_place text (Some s) = place_at text s
 
-abbrev pub of_expand : List ℕ → ExpandFault → ConfigFault
-of_expand text f = elim f.kind [
+abbrev pub of_expand_fault : List ℕ → ExpandFault → ConfigFault
+of_expand_fault text f = elim f.kind [
   | expand_kind.NoMemory ↦ fault_nowhere kind.NoMemory
   | expand_kind.UnknownName ↦ record { kind = kind.UnknownName; place = span_place text f.span }
   | expand_kind.DeclaredTwice ↦ record { kind = kind.DeclaredTwice; place = span_place text f.span }
@@ -129,8 +117,8 @@ argument_kind arg_kind.OutOfRange = kind.OutOfRange
 argument_kind arg_kind.BadAddress = kind.BadAddress
 argument_kind arg_kind.BadEntry = kind.BadEntry
 
-abbrev pub of_arguments : FlatElement → ArgFault → ConfigFault
-of_arguments e f = record { kind = argument_kind f; place = place.Element e.name }
+abbrev pub of_argument_fault : FlatElement → ArgFault → ConfigFault
+of_argument_fault e f = record { kind = argument_kind f; place = place.Element e.name }
 
 -- a fault of ports, at the element of that place
 abbrev pub name_in : Option FlatElement → List ℕ
@@ -140,8 +128,8 @@ name_in (Some e) = e.name
 abbrev pub name_at : List FlatElement → ℕ → List ℕ
 name_at es i = name_in (slice_get es i)
 
-abbrev pub of_ports : List FlatElement → PortFault → ConfigFault
-of_ports es f = elim f.kind [
+abbrev pub of_port_fault : List FlatElement → PortFault → ConfigFault
+of_port_fault es f = elim f.kind [
   | port_kind.NoMemory ↦ fault_nowhere kind.NoMemory
   | port_kind.Count ↦ record { kind = kind.Count; place = place.Used (name_at es f.element) f.side f.number }
   | port_kind.Unused ↦ record { kind = kind.Unused; place = place.Port (name_at es f.element) f.side f.number }
@@ -152,15 +140,15 @@ of_ports es f = elim f.kind [
 -- The first fault of a text: of the text itself, else of its flat form, else of the arguments of the first element whose arguments are refused, else
 -- the first breach of the rules of ports.
 pub data IsFirstFault : List ℕ → ConfigFault → Type 0 where
-  unreadable : (text : List ℕ) (f : TextFault) → IsAnswered text f → IsFirstFault text (of_text text f)
+  unreadable : (text : List ℕ) (f : TextFault) → IsAnswered text f → IsFirstFault text (of_text_fault text f)
   not_flat : (text : List ℕ) (config : Config) (f : ExpandFault) → length text ≤ longest_text → Spells text config →
-      IsFlatFault config f → IsFirstFault text (of_expand text f)
+      IsFlatFault config f → IsFirstFault text (of_expand_fault text f)
   unfit : (text : List ℕ) (config : Config) (flat : Flat) (fit : List FlatElement) (e : FlatElement) (more : List FlatElement) (states : List State) (f : ArgFault) →
       length text ≤ longest_text → Spells text config → IsFlat config flat → flat.elements ≡ fit ++ e ∷ more → AreFresh fit states → IsBegun e (Err f) →
-      IsFirstFault text (of_arguments e f)
+      IsFirstFault text (of_argument_fault e f)
   unlawful : (text : List ℕ) (config : Config) (flat : Flat) (states : List State) (f : PortFault) → length text ≤ longest_text → Spells text config →
       IsFlat config flat → AreFresh flat.elements states → IsFirstBreach (net_of flat states).shapes (net_of flat states).connections f →
-      IsFirstFault text (of_ports flat.elements f)
+      IsFirstFault text (of_port_fault flat.elements f)
 
 -- memory ran out
 abbrev pub IsMemory : ConfigFault → Type 0

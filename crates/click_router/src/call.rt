@@ -5,9 +5,9 @@ ghost use Rattle.click_router.specs.One.{refusal_of, refusal_holds};
 
 use crate::fault::ConfigFault;
 use crate::globals::is_hotconfig;
+use click_base::sequence::Sequence;
 use click_handlers::HandlerFault;
 use click_packet::{Packet, StoredPacket};
-use click_text::sequence::Sequence;
 use thiserror::Error;
 
 /// One call of a router.

@@ -5,10 +5,9 @@ ghost use Rattle.click_router.specs.One as spec;
 
 use crate::call::Refusal;
 use crate::globals::{has_global, is_hotconfig};
-use crate::handler_name::split;
-use crate::recorded::{Kept, Recorded};
-use crate::running::Running;
-use click_classes::Class;
+use crate::running::RunningConfig;
+use crate::stored_reply::{CompactReply, StoredReply};
+use click_base::{Class, split};
 use click_handlers::{has_read, has_write};
 
 /// Which way a handler is asked.
@@ -31,8 +30,8 @@ pub enum Check {
 }
 
 /// What a check tells, by whether there is a handler for that way, and whether there is one for the other.
-fn told(has: bool, has_other: bool) -> Check
-    ensures { result ≡ spec.told has has_other }
+fn check_of(has: bool, has_other: bool) -> Check
+    ensures { result ≡ spec.check_of has has_other }
 {
     if has {
         Check::Yes
@@ -45,11 +44,11 @@ fn told(has: bool, has_other: bool) -> Check
 
 /// Whether a handler of the router itself can be asked one way.
 pub(crate) fn check_own(way: Direction, name: &[u8]) -> Check
-    ensures { result ≡ spec.told (spec.has_own way name.now) (spec.has_own (spec.other_way way) name.now) }
+    ensures { result ≡ spec.check_of (spec.has_own way name.now) (spec.has_own (spec.other_way way) name.now) }
 {
     match way {
-        Direction::Read => told(has_global(name), is_hotconfig(name)),
-        Direction::Write => told(is_hotconfig(name), has_global(name)),
+        Direction::Read => check_of(has_global(name), is_hotconfig(name)),
+        Direction::Write => check_of(is_hotconfig(name), has_global(name)),
     }
 }
 
@@ -61,29 +60,29 @@ pub(crate) fn check_element(class: Option<Class>, way: Direction, handler: &[u8]
         return Check::NoElement;
     };
     match way {
-        Direction::Read => told(has_read(class, handler), has_write(class, handler)),
-        Direction::Write => told(has_write(class, handler), has_read(class, handler)),
+        Direction::Read => check_of(has_read(class, handler), has_write(class, handler)),
+        Direction::Write => check_of(has_write(class, handler), has_read(class, handler)),
     }
 }
 
 /// The reply to a call that checks.
-pub(crate) fn check_reply(check: Check) -> Recorded
+pub(crate) fn check_reply(check: Check) -> StoredReply
     ensures { result ≡ spec.check_reply check }
 {
     match check {
-        Check::Yes => Recorded::of(Kept::Done),
-        Check::NoElement => Recorded::refused(Refusal::NoElement),
-        Check::NoHandler => Recorded::refused(Refusal::NoHandler),
-        Check::WrongWay => Recorded::refused(Refusal::WrongWay),
+        Check::Yes => StoredReply::of(CompactReply::Done),
+        Check::NoElement => StoredReply::refused(Refusal::NoElement),
+        Check::NoHandler => StoredReply::refused(Refusal::NoHandler),
+        Check::WrongWay => StoredReply::refused(Refusal::WrongWay),
     }
 }
 
-impl Running {
+impl RunningConfig {
     ghost use Rattle.std.specs.Prelude.{◌≡◌};
     ghost use Rattle.click_router.specs.One as spec;
 
     /// The class of the element of a name.
-    #[tactic(auto, using(crate::proofs::Listings::class_found))]
+    #[tactic(auto, using(crate::proofs::OfCalls::Listings::class_found))]
     fn class_named(&self, name: &[u8]) -> Option<Class>
         ensures { result ≡ spec.class_named (spec.listing_of self.now) name.now }
     {

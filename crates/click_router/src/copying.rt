@@ -4,15 +4,9 @@ ghost use Rattle.std.specs.Prelude.{◌≡◌, length, take, slice_index_or, IfO
 
 use crate::call::Call;
 use crate::fault::{ConfigFault, FaultPlace};
+use click_base::sequence::Sequence;
 use click_packet::StoredPacket;
-use click_text::sequence::Sequence;
 use std::alloc::{AllocError, Global};
-
-fn bytes_of(alloc: Global, bytes: &Sequence<u8>) -> Result<Sequence<u8>, AllocError>
-    ensures { IfOk result (λ copy. copy ≡ bytes.now) }
-{
-    Ok(Sequence::of(Vec::from_slice(alloc, bytes.as_slice())?))
-}
 
 fn packets_of(
     alloc: Global,
@@ -34,33 +28,33 @@ impl Call {
     {
         Ok(match self {
             Call::Read { name, text } => Call::Read {
-                name: bytes_of(alloc, name)?,
-                text: bytes_of(alloc, text)?,
+                name: name.copy(alloc)?,
+                text: text.copy(alloc)?,
             },
             Call::Write { name, text } => Call::Write {
-                name: bytes_of(alloc, name)?,
-                text: bytes_of(alloc, text)?,
+                name: name.copy(alloc)?,
+                text: text.copy(alloc)?,
             },
             Call::CheckRead { name } => Call::CheckRead {
-                name: bytes_of(alloc, name)?,
+                name: name.copy(alloc)?,
             },
             Call::CheckWrite { name } => Call::CheckWrite {
-                name: bytes_of(alloc, name)?,
+                name: name.copy(alloc)?,
             },
             Call::Swap { text } => Call::Swap {
-                text: bytes_of(alloc, text)?,
+                text: text.copy(alloc)?,
             },
             Call::Arrive { device, packet } => Call::Arrive {
-                device: bytes_of(alloc, device)?,
+                device: device.copy(alloc)?,
                 packet: packet.copy(alloc)?,
             },
             Call::Poll { device, taken } => Call::Poll {
-                device: bytes_of(alloc, device)?,
+                device: device.copy(alloc)?,
                 taken: packets_of(alloc, taken)?,
             },
             Call::Round => Call::Round,
             Call::Transmit { device } => Call::Transmit {
-                device: bytes_of(alloc, device)?,
+                device: device.copy(alloc)?,
             },
         })
     }
@@ -89,15 +83,15 @@ impl FaultPlace {
                 column: *column,
             },
             FaultPlace::Element { name } => FaultPlace::Element {
-                name: bytes_of(alloc, name)?,
+                name: name.copy(alloc)?,
             },
             FaultPlace::Used { name, side, used } => FaultPlace::Used {
-                name: bytes_of(alloc, name)?,
+                name: name.copy(alloc)?,
                 side: *side,
                 used: *used,
             },
             FaultPlace::Port { name, side, port } => FaultPlace::Port {
-                name: bytes_of(alloc, name)?,
+                name: name.copy(alloc)?,
                 side: *side,
                 port: *port,
             },

@@ -3,8 +3,8 @@
 ghost use Rattle.std.specs.Prelude.{◌≡◌, ◌++◌, IfOk, OnOk, decimal};
 ghost use Rattle.click_router.specs.FaultText.{kind_text, place_text, ports_text, port_text, fault_text};
 
+use click_base::sequence::Sequence;
 pub use click_classes::Side;
-use click_text::sequence::Sequence;
 use itoa::Buffer;
 use std::alloc::{AllocError, Global};
 use std::fmt;
@@ -178,7 +178,7 @@ impl FaultPlace {
 }
 
 /// A name as text; names are words of ASCII.
-fn shown(name: &Sequence<u8>) -> &str {
+fn name_text(name: &Sequence<u8>) -> &str {
     std::str::from_utf8(name.as_slice()).unwrap_or("?")
 }
 
@@ -187,12 +187,12 @@ impl fmt::Display for FaultPlace {
         match self {
             FaultPlace::Nowhere => Ok(()),
             FaultPlace::At { line, column } => write!(f, " at {line}:{column}"),
-            FaultPlace::Element { name } => write!(f, " in {}", shown(name)),
+            FaultPlace::Element { name } => write!(f, " in {}", name_text(name)),
             FaultPlace::Used { name, side, used } => {
-                write!(f, " at {}{}{used}", shown(name), ports_of(*side))
+                write!(f, " at {}{}{used}", name_text(name), ports_of(*side))
             }
             FaultPlace::Port { name, side, port } => {
-                write!(f, " at {}{}{port}", shown(name), port_of(*side))
+                write!(f, " at {}{}{port}", name_text(name), port_of(*side))
             }
         }
     }

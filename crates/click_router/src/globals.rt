@@ -1,18 +1,18 @@
 //! The router's own handlers, whose names have no dot.
 
 ghost use Rattle.std.specs.Prelude.{◌≡◌, ◌++◌, None, Some, is_some, codes, decimal, IfOk, OnOk, MatchOption};
-ghost use Rattle.click_classes.specs.Classes.{name};
+ghost use Rattle.click_base.specs.Classes.{name};
 ghost use Rattle.click_router.specs.State.{RouterState};
 ghost use Rattle.click_router.specs.Globals.{global_value, is_global, element_list, lines_of};
 ghost use Rattle.click_router.specs.One.{read_global, is_hotconfig};
 ghost use Rattle.click_router.specs.kept.GlobalNames.{name_of};
 
 use crate::call::{StepFault, refusal_of};
-use crate::recorded::{Kept, Recorded};
-use crate::running::Running;
-use click_classes::{CLASSES, Class};
+use crate::running::RunningConfig;
+use crate::stored_reply::{CompactReply, StoredReply};
+use click_base::sequence::Sequence;
+use click_base::{CLASSES, Class};
 use click_expand::{FlatElement, flat_text};
-use click_text::sequence::Sequence;
 use itoa::Buffer;
 use std::alloc::{AllocError, Global};
 
@@ -109,7 +109,7 @@ fn classes_text(alloc: Global, classes: &[Class]) -> Result<Vec<u8>, AllocError>
     Ok(text)
 }
 
-impl Running {
+impl RunningConfig {
     ghost use Rattle.std.specs.Prelude.{◌≡◌, Some, IfOk};
     ghost use Rattle.click_router.specs.Globals.{global_value};
     ghost use Rattle.click_router.specs.One.{read_global};
@@ -131,14 +131,14 @@ impl Running {
     }
 
     /// Reads a handler of the router itself.
-    pub(crate) fn read_global(&self, alloc: Global, name: &[u8]) -> Result<Recorded, StepFault>
+    pub(crate) fn read_global(&self, alloc: Global, name: &[u8]) -> Result<StoredReply, StepFault>
         ensures { IfOk result (λ reply. reply ≡ read_global name.now (global_value self.now name.now)) }
     {
         let Some(handler) = named(name) else {
-            return Ok(Recorded::refused(refusal_of(is_hotconfig(name))));
+            return Ok(StoredReply::refused(refusal_of(is_hotconfig(name))));
         };
         match self.global_value(alloc, handler) {
-            Ok(value) => Ok(Recorded::of(Kept::Value(Sequence::of(value)))),
+            Ok(value) => Ok(StoredReply::of(CompactReply::Value(Sequence::of(value)))),
             Err(_) => Err(StepFault::NoMemory),
         }
     }

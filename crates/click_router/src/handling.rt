@@ -2,7 +2,7 @@
 
 ghost use Rattle.std.specs.Prelude.{◌≡◌, ◌≢◌, ◌<◌, ◌≤◌, ℕ, List, Result, length, Ok, Err, None, Some, slice_get, slice_index_or, true, IfOk, IfErr, IfSome, MatchOption, MatchResult};
 ghost use Rattle.click_classes.specs.State.{class};
-ghost use Rattle.click_engine.specs.World.{blank};
+ghost use Rattle.click_engine.specs.RunState.{blank};
 ghost use Rattle.click_handlers.specs.Answers.{IsReadAnswer, IsWriteAnswer, takes_room};
 ghost use Rattle.click_handlers.specs.Reads.{read_value};
 ghost use Rattle.click_handlers.specs.Writes.{write_value};
@@ -11,13 +11,13 @@ ghost use Rattle.click_router.specs.One as spec;
 use crate::call::{Call, Refusal, Reply, StepFault, refusal_of};
 use crate::check::{Direction, check_reply};
 use crate::globals::{has_global, is_hotconfig};
-use crate::handler_name::split;
-use crate::recorded::{Kept, Recorded};
-use crate::running::Running;
+use crate::running::RunningConfig;
+use crate::stored_reply::{CompactReply, StoredReply};
+use click_base::sequence::Sequence;
+use click_base::split;
 use click_engine::{Element, Plant};
 use click_handlers::{HandlerFault, ReadRow, Table, WriteRow};
 use click_packet::PacketRoom;
-use click_text::sequence::Sequence;
 use std::alloc::Global;
 
 /// What answers the calls of a router: a table of handlers. All that stands above a router is generic in it.
@@ -28,18 +28,18 @@ pub trait Handlers {
     /// Answers one call, as `Router::record` says it.
     fn record(
         &self,
-        running: &mut Running,
+        running: &mut RunningConfig,
         alloc: Global,
         call: &Call,
         room: Option<PacketRoom>,
-    ) -> Result<Recorded, StepFault>
+    ) -> Result<StoredReply, StepFault>
         requires { is_transmit call.now ≡ true → is_some room ≡ true }
         ensures answer { MatchResult result (λ reply. Answers running.old call.now running.new reply) (λ _. running.new ≡ running.old) }
         ensures refused { IfErr result (λ _. takes_memory call.now ≡ true) }
         ensures light { IfOk result (λ reply. holds_memory reply ≡ true → running.new ≡ running.old) };
 }
 
-impl Running {
+impl RunningConfig {
     ghost use Rattle.std.specs.Prelude.{◌≡◌, Ok, Err, None, Some, slice_get, IfOk, IfSome, MatchOption, MatchResult};
     ghost use Rattle.click_router.specs.One as spec;
 
@@ -58,13 +58,13 @@ impl Running {
 }
 
 /// The reply to what a read handler answers.
-fn read_reply(answer: Result<Vec<u8>, HandlerFault>) -> Result<Recorded, StepFault>
+fn read_reply(answer: Result<Vec<u8>, HandlerFault>) -> Result<StoredReply, StepFault>
     ensures { (value : Result (List ℕ) HandlerFault) → IsReadAnswer value answer → IfOk result (λ reply. reply ≡ spec.read_reply value) }
 {
     match answer {
-        Ok(value) => Ok(Recorded::of(Kept::Value(Sequence::of(value)))),
+        Ok(value) => Ok(StoredReply::of(CompactReply::Value(Sequence::of(value)))),
         Err(HandlerFault::NoMemory) => Err(StepFault::NoMemory),
-        Err(fault) => Ok(Recorded::refused(Refusal::Handler(fault))),
+        Err(fault) => Ok(StoredReply::refused(Refusal::Handler(fault))),
     }
 }
 
@@ -74,7 +74,7 @@ fn read_row(
     element: &Element,
     alloc: Global,
     text: &[u8],
-) -> Result<Recorded, StepFault>
+) -> Result<StoredReply, StepFault>
     requires { class element.now.state ≡ row.now.class }
     ensures { IfOk result (λ reply. reply ≡ spec.read_reply (read_value row.now.name.items element.now text.now)) }
 {
@@ -88,24 +88,24 @@ fn read_element(
     alloc: Global,
     handler: &[u8],
     text: &[u8],
-) -> Result<Recorded, StepFault>
+) -> Result<StoredReply, StepFault>
     ensures { IfOk result (λ reply. reply ≡ spec.read_element element.now handler.now text.now) }
 {
     let class = element.state.class();
     match table.read(class, handler) {
         Some(row) => read_row(row, element, alloc, text),
-        None => Ok(Recorded::refused(refusal_of(table.write(class, handler).is_some()))),
+        None => Ok(StoredReply::refused(refusal_of(table.write(class, handler).is_some()))),
     }
 }
 
 /// Reads a handler.
 fn read(
     table: &Table,
-    running: &Running,
+    running: &RunningConfig,
     alloc: Global,
     name: &[u8],
     text: &[u8],
-) -> Result<Recorded, StepFault>
+) -> Result<StoredReply, StepFault>
     ensures { IfOk result (λ reply. reply ≡ spec.read running.now name.now text.now) }
 {
     let Some((element, handler)) = split(name) else {
@@ -113,18 +113,18 @@ fn read(
     };
     match running.find(element) {
         Some((_, found)) => read_element(table, found, alloc, handler, text),
-        None => Ok(Recorded::refused(Refusal::NoElement)),
+        None => Ok(StoredReply::refused(Refusal::NoElement)),
     }
 }
 
 /// What a write handler says; `Err` where memory ran out.
-fn write_reply(fault: Option<HandlerFault>) -> Result<Recorded, StepFault>
+fn write_reply(fault: Option<HandlerFault>) -> Result<StoredReply, StepFault>
     ensures { MatchOption fault (result ≡ Ok Reply.Done) (λ f. MatchResult result (λ reply. (reply ≡ Reply.Refused (Refusal.Handler f)) × (f ≢ HandlerFault.NoMemory)) (λ _. f ≡ HandlerFault.NoMemory)) }
 {
     match fault {
-        None => Ok(Recorded::of(Kept::Done)),
+        None => Ok(StoredReply::of(CompactReply::Done)),
         Some(HandlerFault::NoMemory) => Err(StepFault::NoMemory),
-        Some(fault) => Ok(Recorded::refused(Refusal::Handler(fault))),
+        Some(fault) => Ok(StoredReply::refused(Refusal::Handler(fault))),
     }
 }
 
@@ -135,7 +135,7 @@ fn write_row(
     at: usize,
     alloc: Global,
     text: &[u8],
-) -> Result<Recorded, StepFault>
+) -> Result<StoredReply, StepFault>
     requires there { at < length plant.old.elements }
     requires class { class (slice_index_or plant.old.elements at blank).state ≡ row.now.class }
     ensures answer { MatchResult result
@@ -164,7 +164,7 @@ fn write_element(
     alloc: Global,
     handler: &[u8],
     text: &[u8],
-) -> Result<Recorded, StepFault>
+) -> Result<StoredReply, StepFault>
     requires { at < length plant.old.elements }
     ensures answer { MatchResult result
         (λ reply. spec.write_element plant.old at (slice_index_or plant.old.elements at blank) handler.now text.now ≡ (plant.new, reply))
@@ -174,26 +174,26 @@ fn write_element(
     let class = plant.element(at).state.class();
     match table.write(class, handler) {
         Some(row) => write_row(row, plant, at, alloc, text),
-        None => Ok(Recorded::refused(refusal_of(table.read(class, handler).is_some()))),
+        None => Ok(StoredReply::refused(refusal_of(table.read(class, handler).is_some()))),
     }
 }
 
 /// Writes a handler that is no swap.
 fn write(
     table: &Table,
-    running: &mut Running,
+    running: &mut RunningConfig,
     alloc: Global,
     name: &[u8],
     text: &[u8],
-) -> Result<Recorded, StepFault>
+) -> Result<StoredReply, StepFault>
     ensures answer { MatchResult result (λ reply. spec.write running.old name.now text.now ≡ (running.new, reply)) (λ _. running.new ≡ running.old) }
     ensures memory { IfErr result (λ _. spec.writes_room name.now ≡ true) }
 {
     let Some((element, handler)) = split(name) else {
-        return Ok(Recorded::refused(refusal_of(has_global(name))));
+        return Ok(StoredReply::refused(refusal_of(has_global(name))));
     };
     let Some((at, _)) = running.find(element) else {
-        return Ok(Recorded::refused(Refusal::NoElement));
+        return Ok(StoredReply::refused(Refusal::NoElement));
     };
     write_element(table, &mut running.plant, at, alloc, handler, text)
 }
@@ -201,11 +201,11 @@ fn write(
 impl Handlers for Table {
     fn record(
         &self,
-        running: &mut Running,
+        running: &mut RunningConfig,
         alloc: Global,
         call: &Call,
         room: Option<PacketRoom>,
-    ) -> Result<Recorded, StepFault> {
+    ) -> Result<StoredReply, StepFault> {
         match call {
             Call::Read { name, text } => {
                 read(self, running, alloc, name.as_slice(), text.as_slice())
@@ -225,9 +225,9 @@ impl Handlers for Table {
             Call::Swap { text } => running.swap(alloc, text.as_slice()),
             Call::Arrive { device, packet } => Ok(running.arrive(device.as_slice(), packet)),
             Call::Poll { device, taken } => Ok(running.poll(device.as_slice(), taken.as_slice())),
-            Call::Round => Ok(Recorded::worked(running.round())),
+            Call::Round => Ok(StoredReply::worked(running.round())),
             Call::Transmit { device } => match room {
-                Some(room) => Ok(running.transmit_kept(device.as_slice(), room)),
+                Some(room) => Ok(running.transmit_stored(device.as_slice(), room)),
                 None => unreachable!(),
             },
         }

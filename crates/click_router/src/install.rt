@@ -6,24 +6,23 @@ ghost use Rattle.click_classes.specs.State.{class};
 ghost use Rattle.click_router.specs.One.{class_named};
 
 use crate::check::{Check, Direction, check_element, check_own};
-use crate::handler_name::split;
 use crate::opening::Prepared;
-use crate::running::Running;
-use click_classes::Class;
+use crate::running::RunningConfig;
+use click_base::sequence::Sequence;
+use click_base::{Class, split};
 use click_engine::Plant;
 use click_expand::FlatElement;
-use click_text::sequence::Sequence;
 use std::alloc::{AllocError, Global};
 use std::marker::Model;
 
 /// The names of the elements and their classes, in flat order.
 #[derive(Drop)]
-struct Listed {
+struct ElementIndex {
     names: Vec<Sequence<u8>>,
     classes: Vec<Class>,
 }
 
-impl Model for Listed {
+impl Model for ElementIndex {
     ghost use Rattle.click_router.specs.One.{Listing};
 
     ghost Value = { Listing };
@@ -37,7 +36,7 @@ fn names_of(alloc: Global, elements: &[FlatElement]) -> Result<Vec<Sequence<u8>>
 {
     let mut names = Vec::with_capacity(alloc, elements.len())?;
     for element in elements {
-        names.push(Sequence::of(Vec::from_slice(alloc, element.name.as_slice())?))?;
+        names.push(Sequence::copy_of(alloc, element.name.as_slice())?)?;
     }
     Ok(names)
 }
@@ -73,15 +72,15 @@ fn class_at(names: &[Sequence<u8>], classes: &[Class], name: &[u8]) -> Option<Cl
     }
 }
 
-impl Listed {
+impl ElementIndex {
     ghost use Rattle.std.specs.Prelude.{◌≡◌, map, IfOk};
     ghost use Rattle.click_router.specs.One as spec;
 
     /// Those of what was prepared.
-    fn of(alloc: Global, running: &Running) -> Result<Listed, AllocError>
+    fn of(alloc: Global, running: &RunningConfig) -> Result<ElementIndex, AllocError>
         ensures { IfOk result (λ l. l ≡ spec.listing_of running.now) }
     {
-        Ok(Listed {
+        Ok(ElementIndex {
             names: names_of(alloc, running.flat.elements.as_slice())?,
             classes: classes_of(alloc, &running.plant)?,
         })
@@ -121,7 +120,7 @@ impl Listed {
 #[derive(Drop)]
 pub struct Install {
     text: Sequence<u8>,
-    listed: Listed,
+    listed: ElementIndex,
 }
 
 impl Model for Install {
@@ -150,8 +149,8 @@ impl Install {
         ensures { IfOk result (λ i. i ≡ text.now) }
     {
         Ok(Install {
-            text: Sequence::of(Vec::from_slice(alloc, text)?),
-            listed: Listed::of(alloc, &prepared.running)?,
+            text: Sequence::copy_of(alloc, text)?,
+            listed: ElementIndex::of(alloc, &prepared.running)?,
         })
     }
 

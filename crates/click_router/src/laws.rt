@@ -3,10 +3,10 @@
 ghost use Rattle.std.specs.Prelude.{◌≡◌, ℕ, List, Some, slice_get, true};
 ghost use Rattle.std.specs.List.{list_any};
 ghost use Rattle.click_classes.specs.State.{class};
-ghost use Rattle.click_classes.specs.declared.class.Class.TheVariants as class_kind;
+ghost use Rattle.click_base.specs.declared.class.Class.TheVariants as class_kind;
 ghost use Rattle.click_engine.specs.Keeps.{AreFitting, AreSound};
-ghost use Rattle.click_engine.specs.TakeOver.{after_it};
-ghost use Rattle.click_engine.specs.declared.world.Element.{Element};
+ghost use Rattle.click_engine.specs.TakeOver.{with_taken_over};
+ghost use Rattle.click_engine.specs.declared.run_state.Element.{Element};
 ghost use Rattle.click_router.specs.declared.call.Call.TheVariants as call;
 ghost use Rattle.click_router.specs.declared.call.Call.{Call};
 ghost use Rattle.click_router.specs.declared.call.Refusal.{Refusal};
@@ -16,7 +16,8 @@ ghost use Rattle.click_router.specs.declared.call.Reply.TheVariants as reply;
 ghost use Rattle.click_router.specs.InOrder.{IsInOrder};
 ghost use Rattle.click_router.specs.declared.check.Direction.TheVariants as direction;
 ghost use Rattle.click_router.specs.Foretelling.{Foretells};
-ghost use Rattle.click_router.specs.One.{Answers, check, listing_of, swap_text, read, before, place_of, is_dot, with_element};
+ghost use Rattle.click_base.specs.Dotted.{is_dot};
+ghost use Rattle.click_router.specs.One.{Answers, check, listing_of, swap_text, read, before, place_of, with_element};
 ghost use Rattle.click_router.specs.State.{RouterState};
 ghost use Rattle.click_router.specs.Swap.{taken};
 ghost use Rattle.click_router.specs.declared.fault.ConfigFault.{ConfigFault};
@@ -77,7 +78,7 @@ pub fn good_swaps_take_over()
 pub fn same_names_take_over_from_themselves()
     ensures { (old new : RouterState) (text : List ℕ) (at : ℕ) (e before : Element) → IsOpened text new → old.plant.net.names ≡ new.plant.net.names
         → slice_get new.plant.elements at ≡ Some e → slice_get old.plant.elements at ≡ Some before
-        → slice_get (taken new old).plant.elements at ≡ Some (after_it e (Some before)) }
+        → slice_get (taken new old).plant.elements at ≡ Some (with_taken_over e (Some before)) }
 {}
 
 /// So where the whole net is that of the router that runs, as it is with the text that runs, each Counter goes on from its counts, and each Switch stands as it stood.

@@ -5,16 +5,16 @@ ghost use Rattle.click_text.specs.Spelling.{longest_text};
 ghost use Rattle.click_router.specs.State.{RouterState};
 ghost use Rattle.click_text.specs.Spelling.{Spells};
 ghost use Rattle.click_router.specs.Opened as spec;
-ghost use Rattle.click_router.specs.Opened.{IsBegun, IsKnown, AreKnown, AreFresh, Begins, OpensAs, IsOpened, IsFirstFault, IsGiven, IsMemoryOr};
+ghost use Rattle.click_router.specs.Opened.{IsBegun, AreFresh, Begins, OpensAs, IsOpened, IsFirstFault, IsGiven, IsMemoryOr};
 ghost use Rattle.click_router.specs.kept.Refused.{IsUnfit, IsUnlawful, IsConfigFault};
 
 use crate::fault::{ConfigFault, FaultKind, FaultPlace};
-use crate::running::Running;
-use click_classes::{ArgFault, State, class_of, make};
+use crate::running::RunningConfig;
+use click_base::sequence::Sequence;
+use click_classes::{ArgFault, State, make};
 use click_engine::Plant;
 use click_expand::{ExpandFault, FaultKind as ExpandKind, Flat, FlatElement, flatten};
 use click_ports::{FaultKind as PortKind, PortFault, resolve};
-use click_text::sequence::Sequence;
 use click_text::syntax::{Config, FaultKind as TextKind, Span, TextFault};
 use click_text::{LONGEST_TEXT, parse};
 use std::alloc::{AllocError, Global};
@@ -24,7 +24,7 @@ use std::marker::Model;
 /// thread to thread.
 #[derive(Drop)]
 pub struct Prepared {
-    pub(crate) running: Box<Running>,
+    pub(crate) running: Box<RunningConfig>,
 }
 
 impl Model for Prepared {
@@ -65,7 +65,7 @@ fn column_at(text: &[u8], at: usize) -> usize
 }
 
 /// A fault that stands nowhere.
-fn nowhere(kind: FaultKind) -> ConfigFault
+fn fault_nowhere(kind: FaultKind) -> ConfigFault
     ensures { result ≡ spec.fault_nowhere kind }
 {
     ConfigFault {
@@ -89,9 +89,9 @@ fn at(kind: FaultKind, text: &[u8], span: Span) -> ConfigFault
 }
 
 /// A fault of the text itself.
-fn of_text(text: &[u8], fault: TextFault) -> ConfigFault
+fn of_text_fault(text: &[u8], fault: TextFault) -> ConfigFault
     requires { length text.now ≤ longest_text }
-    ensures { result ≡ spec.of_text text.now fault }
+    ensures { result ≡ spec.of_text_fault text.now fault }
 {
     match fault.kind {
         TextKind::BadByte => at(FaultKind::BadByte, text, fault.span),
@@ -99,8 +99,8 @@ fn of_text(text: &[u8], fault: TextFault) -> ConfigFault
         TextKind::UnclosedString => at(FaultKind::UnclosedString, text, fault.span),
         TextKind::Unexpected => at(FaultKind::Unexpected, text, fault.span),
         TextKind::TooDeep => at(FaultKind::TooDeep, text, fault.span),
-        TextKind::TooLarge => nowhere(FaultKind::TooLarge),
-        TextKind::NoMemory => nowhere(FaultKind::NoMemory),
+        TextKind::TooLarge => fault_nowhere(FaultKind::TooLarge),
+        TextKind::NoMemory => fault_nowhere(FaultKind::NoMemory),
     }
 }
 
@@ -119,13 +119,13 @@ fn span_place(text: &[u8], span: Option<Span>) -> FaultPlace
 }
 
 /// A fault of the flat form.
-fn of_expand(text: &[u8], fault: ExpandFault) -> ConfigFault
+fn of_expand_fault(text: &[u8], fault: ExpandFault) -> ConfigFault
     requires { length text.now ≤ longest_text }
-    ensures { result ≡ spec.of_expand text.now fault }
+    ensures { result ≡ spec.of_expand_fault text.now fault }
 {
     let kind = match fault.kind {
-        ExpandKind::NoMemory => return nowhere(FaultKind::NoMemory),
-        ExpandKind::TooMany => return nowhere(FaultKind::TooMany),
+        ExpandKind::NoMemory => return fault_nowhere(FaultKind::NoMemory),
+        ExpandKind::TooMany => return fault_nowhere(FaultKind::TooMany),
         ExpandKind::BrokenText => {
             return ConfigFault {
                 kind: FaultKind::BrokenText,
@@ -152,7 +152,7 @@ impl From<AllocError> for ConfigFault {
     ghost from_gives = { λ _ f. f ≡ fault_nowhere kind.NoMemory };
 
     fn from(_error: AllocError) -> ConfigFault {
-        nowhere(FaultKind::NoMemory)
+        fault_nowhere(FaultKind::NoMemory)
     }
 }
 
@@ -166,21 +166,21 @@ fn name_at(
 {
     match elements.get(place) {
         None => Ok(Sequence::new(alloc)),
-        Some(element) => Ok(Sequence::of(Vec::from_slice(alloc, element.name.as_slice())?)),
+        Some(element) => Sequence::copy_of(alloc, element.name.as_slice()),
     }
 }
 
 /// A fault of ports, at the element's name.
-fn of_ports(
+fn of_port_fault(
     alloc: Global,
     elements: &[FlatElement],
     fault: PortFault,
 ) -> Result<ConfigFault, AllocError>
-    ensures { IfOk result (λ f. f ≡ spec.of_ports elements.now fault) }
+    ensures { IfOk result (λ f. f ≡ spec.of_port_fault elements.now fault) }
 {
     let kind = match fault.kind {
-        PortKind::NoMemory => return Ok(nowhere(FaultKind::NoMemory)),
-        PortKind::Count => return of_count(alloc, elements, fault),
+        PortKind::NoMemory => return Ok(fault_nowhere(FaultKind::NoMemory)),
+        PortKind::Count => return of_port_count(alloc, elements, fault),
         PortKind::Unused => FaultKind::Unused,
         PortKind::Twice => FaultKind::Twice,
         PortKind::Mixed => FaultKind::Mixed,
@@ -196,7 +196,7 @@ fn of_ports(
 }
 
 /// A fault of the number of ports that an element has on a side.
-fn of_count(
+fn of_port_count(
     alloc: Global,
     elements: &[FlatElement],
     fault: PortFault,
@@ -229,40 +229,35 @@ fn argument_kind(fault: ArgFault) -> FaultKind
 }
 
 /// The fault of an element whose arguments are refused.
-fn of_arguments(
+fn of_argument_fault(
     alloc: Global,
     element: &FlatElement,
     fault: ArgFault,
 ) -> Result<ConfigFault, AllocError>
-    ensures { IfOk result (λ f. f ≡ spec.of_arguments element.now fault) }
+    ensures { IfOk result (λ f. f ≡ spec.of_argument_fault element.now fault) }
 {
     Ok(ConfigFault {
         kind: argument_kind(fault),
         place: FaultPlace::Element {
-            name: Sequence::of(Vec::from_slice(alloc, element.name.as_slice())?),
+            name: Sequence::copy_of(alloc, element.name.as_slice())?,
         },
     })
 }
 
 /// The element's first state, or what is wrong with its arguments.
 fn state_of(alloc: Global, element: &FlatElement) -> Result<State, ConfigFault>
-    requires { IsKnown element.now }
     ensures fresh { IfOk result (λ state. IsBegun element.now (Ok state)) }
-    ensures err { IfErr result (λ f. IsMemoryOr f ((fault : ArgFault) × IsBegun element.now (Err fault) × (f ≡ spec.of_arguments element.now fault))) }
+    ensures err { IfErr result (λ f. IsMemoryOr f ((fault : ArgFault) × IsBegun element.now (Err fault) × (f ≡ spec.of_argument_fault element.now fault))) }
 {
-    let Some(class) = class_of(element.class.as_slice()) else {
-        unreachable!()
-    };
-    match make(alloc, class, element.text.as_slice()) {
+    match make(alloc, element.class, element.text.as_slice()) {
         Ok(state) => Ok(state),
-        Err(ArgFault::NoMemory) => Err(nowhere(FaultKind::NoMemory)),
-        Err(fault) => Err(of_arguments(alloc, element, fault)?),
+        Err(ArgFault::NoMemory) => Err(fault_nowhere(FaultKind::NoMemory)),
+        Err(fault) => Err(of_argument_fault(alloc, element, fault)?),
     }
 }
 
 /// The first states of the elements, or the fault of the first whose arguments are refused.
 fn states_of(alloc: Global, elements: &[FlatElement]) -> Result<Vec<State>, ConfigFault>
-    requires { AreKnown elements.now }
     ensures fresh { IfOk result (λ v. AreFresh elements.now v.items) }
     ensures err { IfErr result (λ f. IsMemoryOr f (IsUnfit elements.now f)) }
 {
@@ -282,7 +277,7 @@ fn push(states: &mut Vec<State>, state: State) -> Result<(), AllocError>
 }
 
 /// What is to run, in a box.
-fn boxed(alloc: Global, running: Running) -> Result<Prepared, AllocError>
+fn box_config(alloc: Global, running: RunningConfig) -> Result<Prepared, AllocError>
     ensures { IfOk result (λ p. p ≡ running) }
 {
     Ok(Prepared {
@@ -292,17 +287,16 @@ fn boxed(alloc: Global, running: Running) -> Result<Prepared, AllocError>
 
 /// The router of a flat form, or its first fault.
 fn prepare_flat(alloc: Global, text: Sequence<u8>, flat: Flat) -> Result<Prepared, ConfigFault>
-    requires known { AreKnown flat.elements }
     ensures is { IfOk result (λ p. (p.text ≡ text) × (p.flat ≡ flat)) }
     ensures begins { IfOk result (λ p. Begins flat p.plant) }
     ensures err { IfErr result (λ f. IsMemoryOr f (IsUnfit flat.elements f ⊎ IsUnlawful flat f)) }
 {
     let states = states_of(alloc, flat.elements.as_slice())?;
     match resolve(alloc, &flat, states.as_slice()) {
-        Err(fault) => Err(of_ports(alloc, flat.elements.as_slice(), fault)?),
+        Err(fault) => Err(of_port_fault(alloc, flat.elements.as_slice(), fault)?),
         Ok(net) => {
             let plant = Plant::new(alloc, net, states)?;
-            Ok(boxed(alloc, Running { text, flat, plant })?)
+            Ok(box_config(alloc, RunningConfig { text, flat, plant })?)
         }
     }
 }
@@ -316,7 +310,7 @@ fn prepare_config(alloc: Global, config: Config) -> Result<Prepared, ConfigFault
 {
     match flatten(alloc, &config) {
         Ok(flat) => prepare_flat(alloc, config.text, flat),
-        Err(fault) => Err(of_expand(config.text.as_slice(), fault)),
+        Err(fault) => Err(of_expand_fault(config.text.as_slice(), fault)),
     }
 }
 
@@ -333,10 +327,10 @@ pub fn prepare(alloc: Global, text: &[u8]) -> Result<Prepared, ConfigFault>
 {
     // Places are counted only in a text that may be read.
     if text.len() > LONGEST_TEXT {
-        return Err(nowhere(FaultKind::TooLarge));
+        return Err(fault_nowhere(FaultKind::TooLarge));
     }
     match parse(alloc, text) {
         Ok(config) => prepare_config(alloc, config),
-        Err(fault) => Err(of_text(text, fault)),
+        Err(fault) => Err(of_text_fault(text, fault)),
     }
 }

@@ -4,8 +4,8 @@ ghost use Rattle.std.specs.Prelude.{◌≡◌, ◌∷◌, []};
 ghost use Rattle.click_router.specs.One.{arrivals, entered, worked, sent};
 
 use crate::call::Reply;
-use crate::recorded::{Kept, Recorded};
-use crate::running::Running;
+use crate::running::RunningConfig;
+use crate::stored_reply::{CompactReply, StoredReply};
 use click_engine::Plant;
 use click_packet::{Packet, PacketRoom, StoredPacket};
 
@@ -20,7 +20,7 @@ fn enter_all(plant: &mut Plant, device: &[u8], taken: &[StoredPacket])
     }
 }
 
-impl Running {
+impl RunningConfig {
     /// A packet enters from a device.
     pub(crate) fn enter(&mut self, device: &[u8], packet: &Packet) -> Reply
         ensures { entered self.old device.now (packet.now ∷ []) ≡ (self.new, result) }
@@ -33,27 +33,27 @@ impl Running {
     }
 
     /// A packet at rest enters from a device.
-    pub(crate) fn arrive(&mut self, device: &[u8], packet: &StoredPacket) -> Recorded
+    pub(crate) fn arrive(&mut self, device: &[u8], packet: &StoredPacket) -> StoredReply
         ensures { entered self.old device.now (packet.now ∷ []) ≡ (self.new, result) }
     {
         let mut whole = Packet::empty();
         packet.write_to(&mut whole);
         if self.plant.enter(device, &whole) {
-            Recorded::of(Kept::Entered(1))
+            StoredReply::of(CompactReply::Entered(1))
         } else {
-            Recorded::of(Kept::NoDevice)
+            StoredReply::of(CompactReply::NoDevice)
         }
     }
 
     /// Packets enter from a device one after another.
-    pub(crate) fn poll(&mut self, device: &[u8], taken: &[StoredPacket]) -> Recorded
+    pub(crate) fn poll(&mut self, device: &[u8], taken: &[StoredPacket]) -> StoredReply
         ensures { entered self.old device.now taken.now ≡ (self.new, result) }
     {
         if !self.plant.has_source(device) {
-            return Recorded::of(Kept::NoDevice);
+            return StoredReply::of(CompactReply::NoDevice);
         }
         enter_all(&mut self.plant, device, taken);
-        Recorded::of(Kept::Entered(taken.len() as u64))
+        StoredReply::of(CompactReply::Entered(taken.len() as u64))
     }
 
     /// Each task runs once. How many packets they gave or pulled.
@@ -74,15 +74,15 @@ impl Running {
     }
 
     /// A device takes a packet, which is kept in this room.
-    pub(crate) fn transmit_kept(&mut self, device: &[u8], room: PacketRoom) -> Recorded
+    pub(crate) fn transmit_stored(&mut self, device: &[u8], room: PacketRoom) -> StoredReply
         ensures { sent self.old device.now ≡ (self.new, result) }
     {
         if !self.plant.has_sink(device) {
-            return Recorded::of(Kept::NoDevice);
+            return StoredReply::of(CompactReply::NoDevice);
         }
         match self.plant.pull_with(device, |packet| room.keep(packet)) {
-            Some(kept) => Recorded::of(Kept::Sent(kept)),
-            None => Recorded::of(Kept::SentNone),
+            Some(kept) => StoredReply::of(CompactReply::Sent(kept)),
+            None => StoredReply::of(CompactReply::SentNone),
         }
     }
 }

@@ -3,8 +3,8 @@
 use crate::call::{Call, Reply, StepFault};
 use crate::handling::Handlers;
 use crate::opening::Prepared;
-use crate::recorded::Recorded;
-use crate::running::Running;
+use crate::running::RunningConfig;
+use crate::stored_reply::StoredReply;
 use click_packet::{Packet, PacketRoom};
 use std::alloc::Global;
 use std::marker::Model;
@@ -12,7 +12,7 @@ use std::marker::Model;
 /// A router of one thread, with the table `T` that it answers handlers through. To a contract it is its text, its elements and the plant of them.
 #[derive(Drop)]
 pub struct Router<T> {
-    running: Box<Running>,
+    running: Box<RunningConfig>,
     table: T,
 }
 
@@ -116,7 +116,7 @@ impl<T: Handlers> Router<T> {
         alloc: Global,
         call: &Call,
         room: Option<PacketRoom>,
-    ) -> Result<Recorded, StepFault>
+    ) -> Result<StoredReply, StepFault>
         requires { is_transmit call.now ≡ true → is_some room ≡ true }
         ensures answer { MatchResult result (λ reply. Answers self.old call.now self.new reply) (λ _. self.new ≡ self.old) }
         ensures refused { IfErr result (λ _. takes_memory call.now ≡ true) }

@@ -1,19 +1,19 @@
 //! What runs.
 
+use click_base::sequence::Sequence;
 use click_engine::Plant;
 use click_expand::Flat;
-use click_text::sequence::Sequence;
 use std::marker::Model;
 
 /// A lawful configuration with the plant of its elements.
 #[derive(Drop)]
-pub struct Running {
+pub struct RunningConfig {
     pub(crate) text: Sequence<u8>,
     pub(crate) flat: Flat,
     pub(crate) plant: Plant,
 }
 
-impl Model for Running {
+impl Model for RunningConfig {
     ghost use Rattle.std.specs.Prelude.{◌≡◌};
     ghost use Rattle.click_ports.specs.Net.{names_of};
     ghost use Rattle.click_router.specs.State.{RouterState};
@@ -25,7 +25,7 @@ impl Model for Running {
     ghost invariant = { λ r. r.plant.net.names ≡ names_of r.flat.elements };
 }
 
-impl Running {
+impl RunningConfig {
     ghost use Rattle.std.specs.Prelude.{◌≡◌, ◌↔◌, IsTrue, IsSome};
     ghost use Rattle.click_engine.specs.Rounds.{source_of, sink_of};
 

@@ -7,11 +7,11 @@ ghost use Rattle.click_router.specs.Swap.{taken, Swaps};
 use crate::call::StepFault;
 use crate::fault::FaultKind;
 use crate::opening::{Prepared, prepare};
-use crate::recorded::{Kept, Recorded};
-use crate::running::Running;
+use crate::running::RunningConfig;
+use crate::stored_reply::{CompactReply, StoredReply};
 use std::alloc::Global;
 
-impl Running {
+impl RunningConfig {
     ghost use Rattle.std.specs.Prelude.{◌≡◌, true, IfOk, MatchResult};
     ghost use Rattle.click_router.specs.One.{holds_memory};
     ghost use Rattle.click_router.specs.Swap.{taken, Swaps};
@@ -27,18 +27,18 @@ impl Running {
     }
 
     /// The configuration of a text takes the place of this one, or is refused. All its memory is taken before the running plant is touched; where memory runs out nothing has changed.
-    pub(crate) fn swap(&mut self, alloc: Global, text: &[u8]) -> Result<Recorded, StepFault>
+    pub(crate) fn swap(&mut self, alloc: Global, text: &[u8]) -> Result<StoredReply, StepFault>
         ensures swaps { MatchResult result (λ reply. Swaps self.old text.now self.new reply) (λ _. self.new ≡ self.old) }
         ensures light { IfOk result (λ reply. holds_memory reply ≡ true → self.new ≡ self.old) }
     {
         match prepare(alloc, text) {
             Ok(prepared) => {
                 self.install(prepared);
-                Ok(Recorded::of(Kept::Done))
+                Ok(StoredReply::of(CompactReply::Done))
             }
             Err(fault) => match fault.kind {
                 FaultKind::NoMemory => Err(StepFault::NoMemory),
-                _ => match Recorded::faulty(alloc, fault) {
+                _ => match StoredReply::faulty(alloc, fault) {
                     Ok(reply) => Ok(reply),
                     Err(_) => Err(StepFault::NoMemory),
                 },

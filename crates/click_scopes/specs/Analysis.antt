@@ -3,9 +3,9 @@ use Rattle.std.specs.Prelude.{Option, Some, None}
 use Rattle.click_text.specs.declared.syntax.Config.{Config}
 use Rattle.click_scopes.specs.kept.FirstFault.{AreShort}
 use Rattle.click_scopes.specs.kept.Scoped.{AreScopes, AreSynonyms}
-use Rattle.click_scopes.specs.kept.ScopeElements.{AreAllLocals, AreAllStrings}
+use Rattle.click_scopes.specs.kept.ScopeElements.{AreAllScopeElements, AreAllStrings}
 use Rattle.click_scopes.specs.kept.CompoundArguments.{AreAllArguments}
-use Rattle.click_scopes.specs.kept.WrittenConnections.{AreAllJoints}
+use Rattle.click_scopes.specs.kept.WrittenConnections.{AreAllWrittenConnections}
 use Rattle.click_scopes.specs.Faults.{IsFirstWrong, IsFaultless}
 use Rattle.click_scopes.specs.declared.first_fault.TokenFault.{TokenFault}
 use Rattle.click_scopes.specs.declared.analysis.Tables.{Tables}
@@ -17,10 +17,10 @@ pub record AreTables (c : Config) (t : Tables) : Type 0 where
   pub short : AreShort c.bodies
   pub scopes : AreScopes c t.scopes.entries.items t.scopes.scopes.items
   pub synonyms : AreSynonyms c t.scopes.entries.items
-  pub locals : AreAllLocals c t.locals.items
-  pub strings : AreAllStrings c t.locals.items
+  pub scope_elements : AreAllScopeElements c t.scope_elements.items
+  pub strings : AreAllStrings c t.scope_elements.items
   pub arguments : AreAllArguments c t.arguments.items
-  pub joints : AreAllJoints c t.joints.items
+  pub written_connections : AreAllWrittenConnections c t.written_connections.items
 
 -- the first wrong use, or none
 abbrev pub IsFirst : Config → Option TokenFault → Type 0

@@ -3,8 +3,8 @@ use Rattle.std.specs.Prelude.{ℕ, ◌+◌, List, [], ◌∷◌, ◌++◌, map, 
 use Rattle.std.specs.List.{list_any}
 use Rattle.std.specs.Str.{bytes_eq}
 use Rattle.click_text.specs.declared.syntax.Span.{Span}
-use Rattle.click_text.specs.declared.syntax.Class.{Class}
-use Rattle.click_text.specs.declared.syntax.Class.TheVariants as class
+use Rattle.click_text.specs.declared.syntax.ClassReference.{ClassReference}
+use Rattle.click_text.specs.declared.syntax.ClassReference.TheVariants as class
 use Rattle.click_text.specs.declared.syntax.Head.{Head}
 use Rattle.click_text.specs.declared.syntax.Head.TheVariants as head
 use Rattle.click_text.specs.declared.syntax.Element.{Element}
@@ -97,7 +97,7 @@ count_with refers n = n
 count_with pseudo n = n
 
 -- the class of an element that makes one
-abbrev pub head_class : Head → Class
+abbrev pub head_class : Head → ClassReference
 head_class (head.Word s) = class.Named s
 head_class (head.Declared s c) = c
 head_class (head.Compound b) = class.Body b
@@ -106,7 +106,7 @@ abbrev pub element_meaning : List ℕ → Placed → Option Meaning
 element_meaning text p = class_meaning text p.visible (head_class p.element.head)
 
 -- An element of a scope: its local name, its class, its configuration string as written, and what it begins with.
-pub record Local : Type 0 where
+pub record ScopeElement : Type 0 where
   pub name : List ℕ
   pub meaning : Option Meaning
   pub text : List ℕ
@@ -116,22 +116,22 @@ abbrev pub string_or_empty : List ℕ → Option Span → List ℕ
 string_or_empty text None = []
 string_or_empty text (Some s) = string_text text s
 
-abbrev pub local : List ℕ → ℕ → Placed → Local
-local text n p = record {
+abbrev pub scope_element : List ℕ → ℕ → Placed → ScopeElement
+scope_element text n p = record {
   name = made_name text n p.element.head;
   meaning = element_meaning text p;
   text = string_or_empty text p.element.text;
   head = p.element.head;
 }
 
-abbrev pub local_by : Role → Local → List Local → List Local
-local_by makes l ls = l ∷ ls
-local_by refers l ls = ls
-local_by pseudo l ls = ls
+abbrev pub scope_element_by : Role → ScopeElement → List ScopeElement → List ScopeElement
+scope_element_by makes l ls = l ∷ ls
+scope_element_by refers l ls = ls
+scope_element_by pseudo l ls = ls
 
 -- the elements that these make, where n stand before them
-unfoldable pub locals_from : List ℕ → Bool → List (List ℕ) → ℕ → List Placed → List Local
-locals_from text in_body declared n [] = []
-locals_from text in_body declared n (p ∷ ps) =
+unfoldable pub scope_elements_from : List ℕ → Bool → List (List ℕ) → ℕ → List Placed → List ScopeElement
+scope_elements_from text in_body declared n [] = []
+scope_elements_from text in_body declared n (p ∷ ps) =
     let r = role text in_body declared p.element in
-    local_by r (local text n p) (locals_from text in_body declared (count_with r n) ps)
+    scope_element_by r (scope_element text n p) (scope_elements_from text in_body declared (count_with r n) ps)

@@ -2,8 +2,8 @@
 use Rattle.std.specs.Prelude.{◌≡◌, ◌≢◌, ◌⊎◌, ℕ, ◌+◌, ◌<◌, ◌≤◌, max, List, [], ◌∷◌, ◌++◌, reverse, length, map, slice_get, Contains, Bool, true, false, Option, Some, None, if◌then◌else◌}
 use Rattle.std.specs.Str.{bytes_eq}
 use Rattle.click_text.specs.declared.syntax.Span.{Span}
-use Rattle.click_text.specs.declared.syntax.Port.{Port}
-use Rattle.click_text.specs.declared.syntax.Class.TheVariants as class
+use Rattle.click_text.specs.declared.syntax.WrittenPort.{WrittenPort}
+use Rattle.click_text.specs.declared.syntax.ClassReference.TheVariants as class
 use Rattle.click_text.specs.declared.syntax.Head.{Head}
 use Rattle.click_text.specs.declared.syntax.Head.TheVariants as head
 use Rattle.click_text.specs.declared.syntax.Link.{Link}
@@ -16,7 +16,7 @@ use Rattle.click_text.specs.Pieces.{span}
 use Rattle.click_text.specs.Arguments.{AreArguments}
 use Rattle.click_scopes.specs.Scopes.{Scope, inside, is_body, statements_of, formals_of, Stands, statement_elements}
 use Rattle.click_scopes.specs.Classes.{Meaning, compound, meaning}
-use Rattle.click_scopes.specs.Elements.{Placed, place, placed, head_name, declared_names, has_name, input_name, output_name, is_port_name, Role, pseudo, refers, makes, role, made_name, name_by, count_with, element_meaning, Local, locals_from, string_or_empty}
+use Rattle.click_scopes.specs.Elements.{Placed, place, placed, head_name, declared_names, has_name, input_name, output_name, is_port_name, Role, pseudo, refers, makes, role, made_name, name_by, count_with, element_meaning, ScopeElement, scope_elements_from, string_or_empty}
 use Rattle.click_scopes.specs.declared.fault.WrongUse.{WrongUse}
 use Rattle.click_scopes.specs.declared.fault.WrongUse.TheVariants as kind
 
@@ -28,8 +28,8 @@ abbrev pub scope_declared : Config → Scope → List Statement → List (List �
 scope_declared c s visible = declared_names c.text (scope_placed c s visible)
 
 -- the elements of the scope
-abbrev pub scope_locals : Config → Scope → List Statement → List Local
-scope_locals c s visible = locals_from c.text (is_body s) (scope_declared c s visible) 0 (scope_placed c s visible)
+abbrev pub elements_of_scope : Config → Scope → List Statement → List ScopeElement
+elements_of_scope c s visible = scope_elements_from c.text (is_body s) (scope_declared c s visible) 0 (scope_placed c s visible)
 
 abbrev pub role_in : Config → Scope → List Statement → Placed → Role
 role_in c s visible p = role c.text (is_body s) (scope_declared c s visible) p.element
@@ -98,41 +98,41 @@ pub record WrittenConnection : Type 0 where
   pub in_port : ℕ
 
 -- a port that is not written is 0
-abbrev pub port_number : Option Port → ℕ
+abbrev pub port_number : Option WrittenPort → ℕ
 port_number None = 0
 port_number (Some p) = p.number
 
-abbrev pub joint : End → Link → End → WrittenConnection
-joint a l b = record { from = a; out_port = port_number l.from; to = b; in_port = port_number l.to }
+abbrev pub written_connection : End → Link → End → WrittenConnection
+written_connection a l b = record { from = a; out_port = port_number l.from; to = b; in_port = port_number l.to }
 
 -- how many elements stand after one as written
 abbrev pub number_behind : Config → ScopeNames → ℕ → Placed → ℕ
 number_behind c names n p = count_with (role c.text names.in_body names.declared p.element) n
 
-unfoldable pub joints_behind : Config → ScopeNames → List Statement → ℕ → End → List Link → List WrittenConnection
-joints_behind c names visible n a [] = []
-joints_behind c names visible n a (l ∷ ls) =
+unfoldable pub written_connections_behind : Config → ScopeNames → List Statement → ℕ → End → List Link → List WrittenConnection
+written_connections_behind c names visible n a [] = []
+written_connections_behind c names visible n a (l ∷ ls) =
     let b = written_end c names n (place visible l.element) in
-    joint a l b ∷ joints_behind c names visible (number_behind c names n (place visible l.element)) b ls
+    written_connection a l b ∷ written_connections_behind c names visible (number_behind c names n (place visible l.element)) b ls
 
 unfoldable pub number_after_all : Config → ScopeNames → ℕ → List Placed → ℕ
 number_after_all c names n [] = n
 number_after_all c names n (p ∷ ps) = number_after_all c names (number_behind c names n p) ps
 
-abbrev pub statement_joints : Config → ScopeNames → List Statement → ℕ → Statement → List WrittenConnection
-statement_joints c names visible n (statement.Chain k) =
-    joints_behind c names visible (number_behind c names n (place visible k.first)) (written_end c names n (place visible k.first)) k.links
-statement_joints c names visible n _ = []
+abbrev pub statement_connections : Config → ScopeNames → List Statement → ℕ → Statement → List WrittenConnection
+statement_connections c names visible n (statement.Chain k) =
+    written_connections_behind c names visible (number_behind c names n (place visible k.first)) (written_end c names n (place visible k.first)) k.links
+statement_connections c names visible n _ = []
 
-unfoldable pub joints_from : Config → ScopeNames → List Statement → ℕ → List Statement → List WrittenConnection
-joints_from c names visible n [] = []
-joints_from c names visible n (st ∷ ss) =
-    statement_joints c names visible n st
-    ++ joints_from c names (st ∷ visible) (number_after_all c names n (map (place visible) (statement_elements st))) ss
+unfoldable pub written_connections_from : Config → ScopeNames → List Statement → ℕ → List Statement → List WrittenConnection
+written_connections_from c names visible n [] = []
+written_connections_from c names visible n (st ∷ ss) =
+    statement_connections c names visible n st
+    ++ written_connections_from c names (st ∷ visible) (number_after_all c names n (map (place visible) (statement_elements st))) ss
 
 -- the connections of a scope as written
-abbrev pub scope_joints : Config → Scope → List Statement → List WrittenConnection
-scope_joints c s visible = joints_from c (scope_names c s visible) visible 0 (statements_of c s)
+abbrev pub scope_connections : Config → Scope → List Statement → List WrittenConnection
+scope_connections c s visible = written_connections_from c (scope_names c s visible) visible 0 (statements_of c s)
 
 -- the ports of `input` that stand as sources, and those of `output` that stand as targets
 abbrev pub is_pseudo : List ℕ → End → Bool
@@ -153,59 +153,59 @@ port_count (p ∷ ps) = max (p + 1) (port_count ps)
 
 -- The roles and names of a body's ends do not depend on what is visible before it.
 abbrev pub inputs_of : Config → ℕ → List ℕ
-inputs_of c b = input_ports (scope_joints c (inside b) [])
+inputs_of c b = input_ports (scope_connections c (inside b) [])
 
 abbrev pub outputs_of : Config → ℕ → List ℕ
-outputs_of c b = output_ports (scope_joints c (inside b) [])
+outputs_of c b = output_ports (scope_connections c (inside b) [])
 
 -- A wrong use, of that kind, at the token of that span.
 pub data IsWrong (c : Config) : WrongUse → Span → Type 0 where
   -- a bare word that names no element and no class
-  unknown_name : (s : Scope) (visible : List Statement) (around : List Scope) (front back : List Placed) (p : Placed) (w : Span) → Stands c s visible around →
+  unknown_name : (s : Scope) (visible : List Statement) (enclosing : List Scope) (front back : List Placed) (p : Placed) (w : Span) → Stands c s visible enclosing →
       scope_placed c s visible ≡ front ++ p ∷ back → role_in c s visible p ≡ makes → p.element.head ≡ head.Word w → p.element.text ≡ None →
       element_meaning c.text p ≡ None → IsWrong c kind.UnknownName w
   -- a word that stands for a class and names none
-  unknown_class : (s : Scope) (visible : List Statement) (around : List Scope) (front back : List Placed) (p : Placed) (w string : Span) → Stands c s visible around →
+  unknown_class : (s : Scope) (visible : List Statement) (enclosing : List Scope) (front back : List Placed) (p : Placed) (w string : Span) → Stands c s visible enclosing →
       scope_placed c s visible ≡ front ++ p ∷ back → p.element.head ≡ head.Word w → p.element.text ≡ Some string →
       element_meaning c.text p ≡ None → IsWrong c kind.UnknownClass w
-  unknown_declared : (s : Scope) (visible : List Statement) (around : List Scope) (front back : List Placed) (p : Placed) (n w : Span) → Stands c s visible around →
+  unknown_declared : (s : Scope) (visible : List Statement) (enclosing : List Scope) (front back : List Placed) (p : Placed) (n w : Span) → Stands c s visible enclosing →
       scope_placed c s visible ≡ front ++ p ∷ back → p.element.head ≡ head.Declared n (class.Named w) →
       element_meaning c.text p ≡ None → IsWrong c kind.UnknownClass w
-  unknown_original : (s : Scope) (visible : List Statement) (around : List Scope) (before after : List Statement) (n w : Span) → Stands c s visible around →
+  unknown_original : (s : Scope) (visible : List Statement) (enclosing : List Scope) (before after : List Statement) (n w : Span) → Stands c s visible enclosing →
       statements_of c s ≡ before ++ statement.Synonym n w ∷ after → meaning c.text (reverse before ++ visible) (bytes_at c.text w) ≡ None →
       IsWrong c kind.UnknownClass w
   -- an element whose name an earlier one of its scope has; that of an unknown class used as an element is not known
-  named_twice : (s : Scope) (visible : List Statement) (around : List Scope) (front back : List Placed) (p : Placed) → Stands c s visible around →
+  named_twice : (s : Scope) (visible : List Statement) (enclosing : List Scope) (front back : List Placed) (p : Placed) → Stands c s visible enclosing →
       scope_placed c s visible ≡ front ++ p ∷ back → role_in c s visible p ≡ makes →
       ((n : Span) × (d : _) × (p.element.head ≡ head.Declared n d)) ⊎ (element_meaning c.text p ≢ None) →
-      (let earlier = locals_from c.text (is_body s) (scope_declared c s visible) 0 front in
+      (let earlier = scope_elements_from c.text (is_body s) (scope_declared c s visible) 0 front in
       has_name (made_name c.text (length earlier) p.element.head) (map (λ l. l.name) earlier) ≡ true) →
       IsWrong c kind.DeclaredTwice (first_token c p.element.head)
   -- `input` or `output` declared in a body
-  port_declared : (b : ℕ) (visible : List Statement) (around : List Scope) (front back : List Placed) (p : Placed) (n : Span) (d : _) → Stands c (inside b) visible around →
+  port_declared : (b : ℕ) (visible : List Statement) (enclosing : List Scope) (front back : List Placed) (p : Placed) (n : Span) (d : _) → Stands c (inside b) visible enclosing →
       scope_placed c (inside b) visible ≡ front ++ p ∷ back → p.element.head ≡ head.Declared n d → is_port_name (bytes_at c.text n) ≡ true →
       IsWrong c kind.DeclaredTwice n
   -- two parameters of one name
-  formal_twice : (b : ℕ) (visible : List Statement) (around : List Scope) (front back : List Span) (f : Span) → Stands c (inside b) visible around →
+  formal_twice : (b : ℕ) (visible : List Statement) (enclosing : List Scope) (front back : List Span) (f : Span) → Stands c (inside b) visible enclosing →
       formals_of c (inside b) ≡ front ++ f ∷ back → has_name (bytes_at c.text f) (map (bytes_at c.text) front) ≡ true → IsWrong c kind.DeclaredTwice f
   -- a compound's element with more or fewer arguments than it has parameters
-  wrong_parameters : (s : Scope) (visible : List Statement) (around : List Scope) (front back : List Placed) (p : Placed) (b : ℕ) (arguments : List Span) → Stands c s visible around →
+  wrong_parameters : (s : Scope) (visible : List Statement) (enclosing : List Scope) (front back : List Placed) (p : Placed) (b : ℕ) (arguments : List Span) → Stands c s visible enclosing →
       scope_placed c s visible ≡ front ++ p ∷ back → role_in c s visible p ≡ makes → element_meaning c.text p ≡ Some (compound b) →
       AreArguments (string_or_empty c.text p.element.text) arguments → length arguments ≢ length (formals_of c (inside b)) →
       IsWrong c kind.WrongParameters (first_token c p.element.head)
   -- a port that the element's compound lacks; `output` as a source, and `input` as a target
-  no_output : (s : Scope) (visible : List Statement) (around : List Scope) (j : WrittenConnection) (b : ℕ) → Stands c s visible around → Contains (scope_joints c s visible) j →
+  no_output : (s : Scope) (visible : List Statement) (enclosing : List Scope) (j : WrittenConnection) (b : ℕ) → Stands c s visible enclosing → Contains (scope_connections c s visible) j →
       j.from.role ≢ pseudo → j.from.meaning ≡ Some (compound b) → port_count (outputs_of c b) ≤ j.out_port → IsWrong c kind.CompoundPort j.from.first
-  no_input : (s : Scope) (visible : List Statement) (around : List Scope) (j : WrittenConnection) (b : ℕ) → Stands c s visible around → Contains (scope_joints c s visible) j →
+  no_input : (s : Scope) (visible : List Statement) (enclosing : List Scope) (j : WrittenConnection) (b : ℕ) → Stands c s visible enclosing → Contains (scope_connections c s visible) j →
       j.to.role ≢ pseudo → j.to.meaning ≡ Some (compound b) → port_count (inputs_of c b) ≤ j.in_port → IsWrong c kind.CompoundPort j.to.first
-  output_as_source : (s : Scope) (visible : List Statement) (around : List Scope) (j : WrittenConnection) → Stands c s visible around → Contains (scope_joints c s visible) j →
+  output_as_source : (s : Scope) (visible : List Statement) (enclosing : List Scope) (j : WrittenConnection) → Stands c s visible enclosing → Contains (scope_connections c s visible) j →
       is_pseudo output_name j.from ≡ true → IsWrong c kind.CompoundPort j.from.first
-  input_as_target : (s : Scope) (visible : List Statement) (around : List Scope) (j : WrittenConnection) → Stands c s visible around → Contains (scope_joints c s visible) j →
+  input_as_target : (s : Scope) (visible : List Statement) (enclosing : List Scope) (j : WrittenConnection) → Stands c s visible enclosing → Contains (scope_connections c s visible) j →
       is_pseudo input_name j.to ≡ true → IsWrong c kind.CompoundPort j.to.first
   -- a port of a body below its highest one that is not in use
-  input_gap : (b : ℕ) (visible : List Statement) (around : List Scope) (p : ℕ) → Stands c (inside b) visible around →
+  input_gap : (b : ℕ) (visible : List Statement) (enclosing : List Scope) (p : ℕ) → Stands c (inside b) visible enclosing →
       p < port_count (inputs_of c b) → (Contains (inputs_of c b) p → ⊥) → IsWrong c kind.CompoundPort (brace_of c b)
-  output_gap : (b : ℕ) (visible : List Statement) (around : List Scope) (p : ℕ) → Stands c (inside b) visible around →
+  output_gap : (b : ℕ) (visible : List Statement) (enclosing : List Scope) (p : ℕ) → Stands c (inside b) visible enclosing →
       p < port_count (outputs_of c b) → (Contains (outputs_of c b) p → ⊥) → IsWrong c kind.CompoundPort (brace_of c b)
 
 abbrev pub fault_number : WrongUse → ℕ

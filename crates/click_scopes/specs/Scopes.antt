@@ -1,8 +1,8 @@
 -- The scopes of a configuration (Click manual, "Compound elements"): the whole text, and each body.
 use Rattle.std.specs.Prelude.{◌≡◌, ℕ, List, [], ◌∷◌, ◌++◌, reverse, map, slice_get, Contains, Bool, true, false, Option, Some, None}
 use Rattle.click_text.specs.declared.syntax.Span.{Span}
-use Rattle.click_text.specs.declared.syntax.Class.{Class}
-use Rattle.click_text.specs.declared.syntax.Class.TheVariants as class
+use Rattle.click_text.specs.declared.syntax.ClassReference.{ClassReference}
+use Rattle.click_text.specs.declared.syntax.ClassReference.TheVariants as class
 use Rattle.click_text.specs.declared.syntax.Head.{Head}
 use Rattle.click_text.specs.declared.syntax.Head.TheVariants as head
 use Rattle.click_text.specs.declared.syntax.Element.{Element}
@@ -46,7 +46,7 @@ statement_elements (statement.Definition n b) = []
 statement_elements (statement.Synonym n c) = []
 statement_elements (statement.Requirement t) = []
 
-abbrev pub class_bodies : Class → List ℕ
+abbrev pub class_bodies : ClassReference → List ℕ
 class_bodies (class.Named s) = []
 class_bodies (class.Body b) = b ∷ []
 
@@ -67,9 +67,9 @@ bodies_in (statement.Definition n b) = b ∷ []
 bodies_in (statement.Synonym n c) = []
 bodies_in (statement.Requirement t) = []
 
--- After these statements, the last first, a scope begins: those before it in the scopes around it. `around` are these scopes, the nearest first.
+-- After these statements, the last first, a scope begins: those before it in the scopes around it. `enclosing` are these scopes, the nearest first.
 pub data Stands (c : Config) : Scope → List Statement → List Scope → Type 0 where
   at_top : Stands c whole [] []
-  nested : (s : Scope) (visible : List Statement) (around : List Scope) (before after : List Statement) (st : Statement) (b : ℕ) →
-      Stands c s visible around → statements_of c s ≡ before ++ st ∷ after → Contains (bodies_in st) b →
-      Stands c (inside b) (reverse before ++ visible) (s ∷ around)
+  nested : (s : Scope) (visible : List Statement) (enclosing : List Scope) (before after : List Statement) (st : Statement) (b : ℕ) →
+      Stands c s visible enclosing → statements_of c s ≡ before ++ st ∷ after → Contains (bodies_in st) b →
+      Stands c (inside b) (reverse before ++ visible) (s ∷ enclosing)

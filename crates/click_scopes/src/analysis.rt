@@ -11,10 +11,10 @@ use crate::compound_arguments::all_arguments;
 use crate::compound_faults::first_compound_fault;
 use crate::first_fault::{TokenFault, first_of};
 use crate::name_faults::first_name_fault;
-use crate::scope_elements::{Local, all_locals};
+use crate::scope_elements::{ScopeElement, all_scope_elements};
 use crate::scopes::{Scopes, scopes_of};
-use crate::written_connections::{WrittenConnection, all_joints};
-use click_text::sequence::Sequence;
+use crate::written_connections::{WrittenConnection, all_written_connections};
+use click_base::sequence::Sequence;
 use click_text::syntax::{Config, Span};
 use std::alloc::{AllocError, Global};
 
@@ -23,11 +23,11 @@ use std::alloc::{AllocError, Global};
 pub struct Tables {
     pub scopes: Scopes,
     /// The elements of each scope.
-    pub locals: Vec<Vec<Local>>,
+    pub scope_elements: Vec<Vec<ScopeElement>>,
     /// For each element that is a compound, where its arguments stand in its configuration string; for others nothing.
     pub arguments: Vec<Sequence<Sequence<Span>>>,
     /// The connections of each scope as written.
-    pub joints: Vec<Sequence<WrittenConnection>>,
+    pub written_connections: Vec<Sequence<WrittenConnection>>,
 }
 
 /// Why there is nothing to be found.
@@ -56,14 +56,14 @@ fn tables_of(alloc: Global, config: &Config) -> Result<Tables, AllocError>
     ensures { IfOk result (AreTables config.now) }
 {
     let scopes = scopes_of(alloc, config)?;
-    let locals = all_locals(alloc, config, &scopes)?;
-    let arguments = all_arguments(alloc, config, locals.as_slice())?;
-    let joints = all_joints(alloc, config, &scopes)?;
+    let scope_elements = all_scope_elements(alloc, config, &scopes)?;
+    let arguments = all_arguments(alloc, config, scope_elements.as_slice())?;
+    let written_connections = all_written_connections(alloc, config, &scopes)?;
     Ok(Tables {
         scopes,
-        locals,
+        scope_elements,
         arguments,
-        joints,
+        written_connections,
     })
 }
 
@@ -77,11 +77,17 @@ fn first_wrong(
     requires tables { AreTables config.now tables.now }
     ensures { IfOk result (IsFirst config.now) }
 {
-    let locals = tables.locals.as_slice();
+    let scope_elements = tables.scope_elements.as_slice();
     let arguments = tables.arguments.as_slice();
-    let joints = tables.joints.as_slice();
-    let name_fault = first_name_fault(alloc, config, &tables.scopes, locals)?;
-    let compound_fault = first_compound_fault(alloc, config, locals, arguments, joints)?;
+    let written_connections = tables.written_connections.as_slice();
+    let name_fault = first_name_fault(alloc, config, &tables.scopes, scope_elements)?;
+    let compound_fault = first_compound_fault(
+        alloc,
+        config,
+        scope_elements,
+        arguments,
+        written_connections,
+    )?;
     Ok(first_of(name_fault, compound_fault))
 }
 

@@ -4,14 +4,14 @@ ghost use Rattle.std.specs.Prelude.{◌≡◌, ℕ, map, Some, IfOk, OnOk, ◌++
 ghost use Rattle.click_text.specs.Arguments.{AreArguments};
 ghost use Rattle.click_scopes.specs.Classes.{compound};
 ghost use Rattle.click_scopes.specs.Elements.{string_or_empty};
-ghost use Rattle.click_scopes.specs.kept.Tables.{meaning_by, local_of};
+ghost use Rattle.click_scopes.specs.kept.Tables.{meaning_by, scope_element_of};
 ghost use Rattle.click_scopes.specs.kept.CompoundArguments.{AreArgumentsOf, AreAllArguments};
-ghost use Rattle.click_scopes.specs.kept.ScopeElements.{AreAllLocals};
+ghost use Rattle.click_scopes.specs.kept.ScopeElements.{AreAllScopeElements};
 
-use crate::classes::ClassOf;
-use crate::scope_elements::Local;
+use crate::classes::ResolvedClass;
+use crate::scope_elements::ScopeElement;
+use click_base::sequence::Sequence;
 use click_text::arguments;
-use click_text::sequence::Sequence;
 use click_text::syntax::{Config, Span};
 use std::alloc::{AllocError, Global};
 
@@ -26,11 +26,15 @@ pub fn string_inside<'a>(text: &'a [u8], string: Option<Span>) -> &'a [u8]
 }
 
 /// Where the arguments of a compound's element stand in its configuration string. Other elements have none.
-fn arguments_of(alloc: Global, text: &[u8], local: &Local) -> Result<Sequence<Span>, AllocError>
-    ensures { IfOk result (λ spans. (b : ℕ) → meaning_by text.now local.now.class ≡ Some (compound b) → AreArguments (string_or_empty text.now local.now.text) spans) }
+fn arguments_of(
+    alloc: Global,
+    text: &[u8],
+    scope_element: &ScopeElement,
+) -> Result<Sequence<Span>, AllocError>
+    ensures { IfOk result (λ spans. (b : ℕ) → meaning_by scope_element.now.class ≡ Some (compound b) → AreArguments (string_or_empty text.now scope_element.now.text) spans) }
 {
-    if let Some(ClassOf::Compound(_)) = local.class {
-        let Ok(spans) = arguments(alloc, string_inside(text, local.text)) else {
+    if let Some(ResolvedClass::Compound(_)) = scope_element.class {
+        let Ok(spans) = arguments(alloc, string_inside(text, scope_element.text)) else {
             return Err(AllocError);
         };
         return Ok(Sequence::of(spans));
@@ -42,13 +46,13 @@ fn arguments_of(alloc: Global, text: &[u8], local: &Local) -> Result<Sequence<Sp
 fn arguments_in(
     alloc: Global,
     text: &[u8],
-    locals: &[Local],
+    scope_elements: &[ScopeElement],
 ) -> Result<Sequence<Sequence<Span>>, AllocError>
-    ensures { IfOk result (λ all. AreArgumentsOf (map (local_of text.now) locals.now) all) }
+    ensures { IfOk result (λ all. AreArgumentsOf (map (scope_element_of text.now) scope_elements.now) all) }
 {
     let mut all = Sequence::new(alloc);
-    for local in locals {
-        all.push(arguments_of(alloc, text, local)?)?;
+    for scope_element in scope_elements {
+        all.push(arguments_of(alloc, text, scope_element)?)?;
     }
     Ok(all)
 }
@@ -68,14 +72,14 @@ fn push_arguments(
 pub fn all_arguments(
     alloc: Global,
     config: &Config,
-    locals: &[Vec<Local>],
+    scope_elements: &[Vec<ScopeElement>],
 ) -> Result<Vec<Sequence<Sequence<Span>>>, AllocError>
-    requires { AreAllLocals config.now locals.now }
+    requires { AreAllScopeElements config.now scope_elements.now }
     ensures { IfOk result (λ all. AreAllArguments config.now all.items) }
 {
     let text = config.text.as_slice();
     let mut all = Vec::new(alloc);
-    for one in locals {
+    for one in scope_elements {
         let found = arguments_in(alloc, text, one.as_slice())?;
         push_arguments(&mut all, found)?;
     }

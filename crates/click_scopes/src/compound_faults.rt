@@ -1,30 +1,30 @@
 //! Wrong numbers of arguments and ports that a compound lacks: the first in the text.
 
 ghost use Rattle.std.specs.Prelude.{◌≡◌, length, slice_get, IfOk};
-ghost use Rattle.click_scopes.specs.kept.ScopeElements.{AreAllLocals};
+ghost use Rattle.click_scopes.specs.kept.ScopeElements.{AreAllScopeElements};
 ghost use Rattle.click_scopes.specs.kept.CompoundArguments.{AreAllArguments};
-ghost use Rattle.click_scopes.specs.kept.WrittenConnections.{AreAllJoints};
+ghost use Rattle.click_scopes.specs.kept.WrittenConnections.{AreAllWrittenConnections};
 ghost use Rattle.click_scopes.specs.kept.Nesting.{IsNested};
 ghost use Rattle.click_scopes.specs.Scopes.{body_formals};
 ghost use Rattle.click_scopes.specs.kept.FirstFault.{AreShort, IsLeast, IsCompoundFault};
 ghost use Rattle.click_scopes.specs.kept.CompoundFaults as spec;
-ghost use Rattle.click_scopes.specs.kept.CompoundFaults.{compound_by, call_fault_at, lacking, source_by, target_by, list_or_empty, items_of, Among, IsWrongCall, IsWrongJoint, IsWrongIn, IsCompoundFaultOfBody};
+ghost use Rattle.click_scopes.specs.kept.CompoundFaults.{compound_by, call_fault_at, lacking, source_by, target_by, list_or_empty, items_of, Among, IsWrongCall, IsWrongWrittenConnection, IsWrongIn, IsCompoundFaultOfBody};
 
-use crate::classes::ClassOf;
+use crate::classes::ResolvedClass;
 use crate::fault::WrongUse;
 use crate::first_fault::{TokenFault, first_of, first_token, wrong_if};
-use crate::ports::{Ports, all_ports, joints_at, ports_at};
-use crate::scope_elements::Local;
+use crate::ports::{Ports, all_ports, ports_at, written_connections_at};
+use crate::scope_elements::ScopeElement;
 use crate::written_connections::{Owner, WrittenConnection};
-use click_text::sequence::Sequence;
+use click_base::sequence::Sequence;
 use click_text::syntax::{Body, Config, Head, Span};
 use std::alloc::{AllocError, Global};
 
 /// The elements of the scope at a place.
-fn locals_at(locals: &[Vec<Local>], place: usize) -> &[Local]
-    ensures { result.now ≡ items_of (slice_get locals.now place) }
+fn scope_elements_at(scope_elements: &[Vec<ScopeElement>], place: usize) -> &[ScopeElement]
+    ensures { result.now ≡ items_of (slice_get scope_elements.now place) }
 {
-    match locals.get(place) {
+    match scope_elements.get(place) {
         Some(row) => row.as_slice(),
         None => &[],
     }
@@ -41,21 +41,21 @@ fn arguments_at(arguments: &[Sequence<Sequence<Span>>], place: usize) -> &[Seque
 }
 
 /// The compound that a class is.
-fn compound_of(class: Option<ClassOf>) -> Option<usize>
+fn compound_of(class: Option<ResolvedClass>) -> Option<usize>
     ensures { result ≡ compound_by class }
 {
     match class {
-        Some(ClassOf::Compound(body)) => Some(body),
+        Some(ResolvedClass::Compound(body)) => Some(body),
         _ => None,
     }
 }
 
 /// The compound that the element at a place is.
-fn compound_in(locals: &[Local], place: usize) -> Option<usize>
-    ensures { result ≡ spec.compound_in (slice_get locals.now place) }
+fn compound_in(scope_elements: &[ScopeElement], place: usize) -> Option<usize>
+    ensures { result ≡ spec.compound_in (slice_get scope_elements.now place) }
 {
-    match locals.get(place) {
-        Some(local) => compound_of(local.class),
+    match scope_elements.get(place) {
+        Some(scope_element) => compound_of(scope_element.class),
         None => None,
     }
 }
@@ -73,31 +73,35 @@ fn formals_count(bodies: &[Body], body: usize) -> usize
 /// An element with more or fewer arguments than its compound has parameters.
 fn wrong_call(
     bodies: &[Body],
-    local: &Local,
+    scope_element: &ScopeElement,
     arguments: &[Sequence<Span>],
     place: usize,
 ) -> Option<TokenFault>
     requires { AreShort bodies.now }
-    ensures { result ≡ call_fault_at bodies.now local.now (slice_get arguments.now place) }
+    ensures { result ≡ call_fault_at bodies.now scope_element.now (slice_get arguments.now place) }
 {
-    match (compound_of(local.class), arguments.get(place)) {
+    match (compound_of(scope_element.class), arguments.get(place)) {
         (Some(body), Some(spans)) => wrong_if(
             spans.len() != formals_count(bodies, body),
             WrongUse::WrongParameters,
-            first_token(bodies, local.head),
+            first_token(bodies, scope_element.head),
         ),
         _ => None,
     }
 }
 
 /// The first element of a scope with a wrong number of arguments.
-fn in_calls(bodies: &[Body], locals: &[Local], arguments: &[Sequence<Span>]) -> Option<TokenFault>
+fn in_calls(
+    bodies: &[Body],
+    scope_elements: &[ScopeElement],
+    arguments: &[Sequence<Span>],
+) -> Option<TokenFault>
     requires { AreShort bodies.now }
-    ensures { IsLeast (Among (IsWrongCall bodies.now locals.now arguments.now) (length locals.now)) result }
+    ensures { IsLeast (Among (IsWrongCall bodies.now scope_elements.now arguments.now) (length scope_elements.now)) result }
 {
     let mut first = None;
-    for (place, local) in locals.iter().enumerate() {
-        first = first_of(first, wrong_call(bodies, local, arguments, place));
+    for (place, scope_element) in scope_elements.iter().enumerate() {
+        first = first_of(first, wrong_call(bodies, scope_element, arguments, place));
     }
     first
 }
@@ -113,43 +117,63 @@ fn lacking_port(count: Option<usize>, port: u8, first: Span) -> Option<TokenFaul
 }
 
 /// What is wrong with a connection as written where it begins.
-fn wrong_source(locals: &[Local], ports: &[Ports], joint: &WrittenConnection) -> Option<TokenFault>
-    ensures { result ≡ source_by locals.now ports.now joint.now.from.owner joint.now.out_port joint.now.from.first }
+fn wrong_source(
+    scope_elements: &[ScopeElement],
+    ports: &[Ports],
+    written_connection: &WrittenConnection,
+) -> Option<TokenFault>
+    ensures { result ≡ source_by scope_elements.now ports.now written_connection.now.from.owner written_connection.now.out_port written_connection.now.from.first }
 {
-    let first = joint.from.first;
-    match joint.from.owner {
+    let first = written_connection.from.first;
+    match written_connection.from.owner {
         Owner::Input => None,
         Owner::Output => wrong_if(true, WrongUse::CompoundPort, first),
-        Owner::Element(place) => match compound_in(locals, place) {
-            Some(body) => lacking_port(Some(ports_at(ports, body).outputs), joint.out_port, first),
+        Owner::Element(place) => match compound_in(scope_elements, place) {
+            Some(body) => lacking_port(
+                Some(ports_at(ports, body).outputs),
+                written_connection.out_port,
+                first,
+            ),
             None => None,
         },
     }
 }
 
 /// What is wrong with it where it ends.
-fn wrong_target(locals: &[Local], ports: &[Ports], joint: &WrittenConnection) -> Option<TokenFault>
-    ensures { result ≡ target_by locals.now ports.now joint.now.to.owner joint.now.in_port joint.now.to.first }
+fn wrong_target(
+    scope_elements: &[ScopeElement],
+    ports: &[Ports],
+    written_connection: &WrittenConnection,
+) -> Option<TokenFault>
+    ensures { result ≡ target_by scope_elements.now ports.now written_connection.now.to.owner written_connection.now.in_port written_connection.now.to.first }
 {
-    let first = joint.to.first;
-    match joint.to.owner {
+    let first = written_connection.to.first;
+    match written_connection.to.owner {
         Owner::Input => wrong_if(true, WrongUse::CompoundPort, first),
         Owner::Output => None,
-        Owner::Element(place) => match compound_in(locals, place) {
-            Some(body) => lacking_port(Some(ports_at(ports, body).inputs), joint.in_port, first),
+        Owner::Element(place) => match compound_in(scope_elements, place) {
+            Some(body) => lacking_port(
+                Some(ports_at(ports, body).inputs),
+                written_connection.in_port,
+                first,
+            ),
             None => None,
         },
     }
 }
 
 /// The first wrong end of a connection of a scope.
-fn in_joints(locals: &[Local], ports: &[Ports], joints: &[WrittenConnection]) -> Option<TokenFault>
-    ensures { IsLeast (Among (IsWrongJoint locals.now ports.now joints.now) (length joints.now)) result }
+fn in_written_connections(
+    scope_elements: &[ScopeElement],
+    ports: &[Ports],
+    written_connections: &[WrittenConnection],
+) -> Option<TokenFault>
+    ensures { IsLeast (Among (IsWrongWrittenConnection scope_elements.now ports.now written_connections.now) (length written_connections.now)) result }
 {
     let mut first = None;
-    for joint in joints {
-        let source = wrong_source(locals, ports, joint);
-        let target = wrong_target(locals, ports, joint);
+    for written_connection in written_connections {
+        let source = wrong_source(scope_elements, ports, written_connection);
+        let target = wrong_target(scope_elements, ports, written_connection);
         first = first_of(first, first_of(source, target));
     }
     first
@@ -158,19 +182,23 @@ fn in_joints(locals: &[Local], ports: &[Ports], joints: &[WrittenConnection]) ->
 /// The first wrong use in the scope at a place.
 fn in_scope(
     bodies: &[Body],
-    locals: &[Vec<Local>],
+    scope_elements: &[Vec<ScopeElement>],
     arguments: &[Sequence<Sequence<Span>>],
-    joints: &[Sequence<WrittenConnection>],
+    written_connections: &[Sequence<WrittenConnection>],
     ports: &[Ports],
     place: usize,
 ) -> Option<TokenFault>
     requires { AreShort bodies.now }
-    ensures { IsLeast (IsWrongIn bodies.now locals.now arguments.now joints.now ports.now place) result }
+    ensures { IsLeast (IsWrongIn bodies.now scope_elements.now arguments.now written_connections.now ports.now place) result }
 {
-    let elements = locals_at(locals, place);
+    let elements = scope_elements_at(scope_elements, place);
     let call = in_calls(bodies, elements, arguments_at(arguments, place));
-    let joint = in_joints(elements, ports, joints_at(joints, place));
-    first_of(call, joint)
+    let written_connection = in_written_connections(
+        elements,
+        ports,
+        written_connections_at(written_connections, place),
+    );
+    first_of(call, written_connection)
 }
 
 /// A body with a port below its highest one that is not in use.
@@ -188,17 +216,24 @@ fn wrong_ports(bodies: &[Body], ports: &[Ports], place: usize) -> Option<TokenFa
 /// The first wrong use in any body.
 fn in_bodies(
     bodies: &[Body],
-    locals: &[Vec<Local>],
+    scope_elements: &[Vec<ScopeElement>],
     arguments: &[Sequence<Sequence<Span>>],
-    joints: &[Sequence<WrittenConnection>],
+    written_connections: &[Sequence<WrittenConnection>],
     ports: &[Ports],
 ) -> Option<TokenFault>
     requires { AreShort bodies.now }
-    ensures { IsLeast (Among (IsCompoundFaultOfBody bodies.now locals.now arguments.now joints.now ports.now) (length bodies.now)) result }
+    ensures { IsLeast (Among (IsCompoundFaultOfBody bodies.now scope_elements.now arguments.now written_connections.now ports.now) (length bodies.now)) result }
 {
     let mut first = None;
     for place in 0..bodies.len() {
-        let inside = in_scope(bodies, locals, arguments, joints, ports, place);
+        let inside = in_scope(
+            bodies,
+            scope_elements,
+            arguments,
+            written_connections,
+            ports,
+            place,
+        );
         let gap = wrong_ports(bodies, ports, place);
         first = first_of(first, first_of(inside, gap));
     }
@@ -209,27 +244,33 @@ fn in_bodies(
 pub fn first_compound_fault(
     alloc: Global,
     config: &Config,
-    locals: &[Vec<Local>],
+    scope_elements: &[Vec<ScopeElement>],
     arguments: &[Sequence<Sequence<Span>>],
-    joints: &[Sequence<WrittenConnection>],
+    written_connections: &[Sequence<WrittenConnection>],
 ) -> Result<Option<TokenFault>, AllocError>
     requires nested { IsNested config.now }
     requires short { AreShort config.now.bodies }
-    requires locals { AreAllLocals config.now locals.now }
+    requires scope_elements { AreAllScopeElements config.now scope_elements.now }
     requires arguments { AreAllArguments config.now arguments.now }
-    requires joined { AreAllJoints config.now joints.now }
+    requires joined { AreAllWrittenConnections config.now written_connections.now }
     ensures { IfOk result (IsLeast (IsCompoundFault config.now)) }
 {
     let bodies = config.bodies.as_slice();
-    let ports = all_ports(alloc, config, joints)?;
-    let inside = in_bodies(bodies, locals, arguments, joints, ports.as_slice());
-    let around = in_scope(
+    let ports = all_ports(alloc, config, written_connections)?;
+    let inside = in_bodies(
         bodies,
-        locals,
+        scope_elements,
         arguments,
-        joints,
+        written_connections,
+        ports.as_slice(),
+    );
+    let enclosing = in_scope(
+        bodies,
+        scope_elements,
+        arguments,
+        written_connections,
         ports.as_slice(),
         bodies.len(),
     );
-    Ok(first_of(inside, around))
+    Ok(first_of(inside, enclosing))
 }

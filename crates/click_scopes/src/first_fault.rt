@@ -4,13 +4,13 @@ ghost use Rattle.std.specs.Prelude.{◌≡◌, length, IfOk};
 ghost use Rattle.click_scopes.specs.Elements.{has_name};
 ghost use Rattle.click_scopes.specs.Faults.{fault_number};
 ghost use Rattle.click_scopes.specs.kept.FirstFault as spec;
-ghost use Rattle.click_scopes.specs.kept.FirstFault.{unknown_at, port_at, twice_at, first_in, local_at, AreShort, IsLeast, IsWrongLocal, IsWrongFormal};
+ghost use Rattle.click_scopes.specs.kept.FirstFault.{unknown_at, port_at, twice_at, first_in, scope_element_at, AreShort, IsLeast, IsWrongScopeElement, IsWrongFormal};
 
-use crate::classes::ClassOf;
+use crate::classes::ResolvedClass;
 use crate::fault::WrongUse;
 use crate::names::Names;
-use crate::scope_elements::{Local, is_port_name};
-use click_text::syntax::{Body, Class, Head, Span};
+use crate::scope_elements::{ScopeElement, is_port_name};
+use click_text::syntax::{Body, ClassReference, Head, Span};
 use std::alloc::{AllocError, Global};
 
 /// A wrong use.
@@ -67,17 +67,17 @@ pub(crate) fn wrong_if(test: bool, kind: WrongUse, span: Span) -> Option<TokenFa
 }
 
 /// An element's word that names no class.
-fn unknown(head: Head, text: Option<Span>, class: Option<ClassOf>) -> Option<TokenFault>
+fn unknown(head: Head, text: Option<Span>, class: Option<ResolvedClass>) -> Option<TokenFault>
     ensures { result ≡ unknown_at head text class }
 {
     match (class, head, text) {
         (Some(_), _, _) => None,
         (None, Head::Word(word), None) => wrong_if(true, WrongUse::UnknownName, word),
         (None, Head::Word(word), Some(_)) => wrong_if(true, WrongUse::UnknownClass, word),
-        (None, Head::Declared(_, Class::Named(word)), _) => {
+        (None, Head::Declared(_, ClassReference::Named(word)), _) => {
             wrong_if(true, WrongUse::UnknownClass, word)
         }
-        (None, Head::Declared(_, Class::Body(_)), _) => None,
+        (None, Head::Declared(_, ClassReference::Body(_)), _) => None,
         (None, Head::Compound(_), _) => None,
     }
 }
@@ -97,7 +97,12 @@ fn port_declared(text: &[u8], in_body: bool, head: Head) -> Option<TokenFault>
 }
 
 /// An element whose name an earlier one has. That of an unknown class used as an element is not known.
-fn named_twice(taken: bool, head: Head, class: Option<ClassOf>, first: Span) -> Option<TokenFault>
+fn named_twice(
+    taken: bool,
+    head: Head,
+    class: Option<ResolvedClass>,
+    first: Span,
+) -> Option<TokenFault>
     ensures { result ≡ twice_at taken head class first }
 {
     match (head, class) {
@@ -126,40 +131,43 @@ pub fn first_token(bodies: &[Body], head: Head) -> Span
 }
 
 /// What is wrong with the name, the class or the declaration of an element after those of these names.
-fn in_local(
+fn in_scope_element(
     text: &[u8],
     bodies: &[Body],
     in_body: bool,
     names: &Names,
-    local: &Local,
+    scope_element: &ScopeElement,
 ) -> Option<TokenFault>
     requires { AreShort bodies.now }
-    ensures { result ≡ local_at text.now bodies.now in_body (has_name local.now.name.items names.now) local.now }
+    ensures { result ≡ scope_element_at text.now bodies.now in_body (has_name scope_element.now.name.items names.now) scope_element.now }
 {
-    let taken = names.has(local.name.as_slice());
-    let first = first_token(bodies, local.head);
-    let unknown = unknown(local.head, local.text, local.class);
-    let twice = named_twice(taken, local.head, local.class, first);
-    let port = port_declared(text, in_body, local.head);
+    let taken = names.has(scope_element.name.as_slice());
+    let first = first_token(bodies, scope_element.head);
+    let unknown = unknown(scope_element.head, scope_element.text, scope_element.class);
+    let twice = named_twice(taken, scope_element.head, scope_element.class, first);
+    let port = port_declared(text, in_body, scope_element.head);
     first_of(first_of(unknown, twice), port)
 }
 
 /// The first wrong name, class or declaration of a scope's elements.
-pub fn in_locals(
+pub fn in_scope_elements(
     alloc: Global,
     text: &[u8],
     bodies: &[Body],
     in_body: bool,
-    locals: &[Local],
+    scope_elements: &[ScopeElement],
 ) -> Result<Option<TokenFault>, AllocError>
     requires { AreShort bodies.now }
-    ensures { IfOk result (IsLeast (IsWrongLocal text.now bodies.now in_body locals.now (length locals.now))) }
+    ensures { IfOk result (IsLeast (IsWrongScopeElement text.now bodies.now in_body scope_elements.now (length scope_elements.now))) }
 {
     let mut first = None;
     let mut names = Names::new(alloc);
-    for local in locals {
-        first = first_of(first, in_local(text, bodies, in_body, &names, local));
-        names.add(alloc, local.name.as_slice())?;
+    for scope_element in scope_elements {
+        first = first_of(
+            first,
+            in_scope_element(text, bodies, in_body, &names, scope_element),
+        );
+        names.add(alloc, scope_element.name.as_slice())?;
     }
     Ok(first)
 }

@@ -15,11 +15,11 @@ mod scopes;
 mod written_connections;
 
 pub use analysis::{ScopeFault, Tables, analyze};
-pub use classes::{ClassEntry, ClassOf};
+pub use classes::{ClassEntry, ResolvedClass};
 pub use compound_arguments::string_inside;
 pub use fault::WrongUse;
 pub use first_fault::{TokenFault, first_token};
 pub use names::Names;
-pub use scope_elements::Local;
+pub use scope_elements::ScopeElement;
 pub use scopes::{Scope, Scopes, WrittenElement};
 pub use written_connections::{End, Owner, WrittenConnection};

@@ -1,12 +1,12 @@
 //! The ports of bodies.
 
 ghost use Rattle.std.specs.Prelude.{◌≡◌, ◌≤◌, ◌↔◌, ℕ, List, [], ◌∷◌, ◌++◌, length, slice_get, IsTrue, IfOk, OnOk};
-ghost use Rattle.click_scopes.specs.kept.WrittenConnections.{AreAllJoints};
+ghost use Rattle.click_scopes.specs.kept.WrittenConnections.{AreAllWrittenConnections};
 ghost use Rattle.click_scopes.specs.kept.Nesting.{IsNested};
 ghost use Rattle.click_scopes.specs.kept.CompoundFaults.{inputs_kept, outputs_kept, ports_or, list_or_empty, HasGap, IsUsed, IsPorts, ArePorts};
 
 use crate::written_connections::{Owner, WrittenConnection};
-use click_text::sequence::Sequence;
+use click_base::sequence::Sequence;
 use click_text::syntax::Config;
 use std::alloc::{AllocError, Global};
 
@@ -60,37 +60,37 @@ impl PortsInUse {
 }
 
 /// The inputs of a body that its connections name.
-fn inputs_used(joints: &[WrittenConnection]) -> PortsInUse
-    ensures { IsUsed (inputs_kept joints.now) result.count result.ports }
+fn inputs_used(written_connections: &[WrittenConnection]) -> PortsInUse
+    ensures { IsUsed (inputs_kept written_connections.now) result.count result.ports }
 {
     let mut used = PortsInUse::none();
-    for joint in joints {
-        if let Owner::Input = joint.from.owner {
-            used.add(joint.out_port);
+    for written_connection in written_connections {
+        if let Owner::Input = written_connection.from.owner {
+            used.add(written_connection.out_port);
         }
     }
     used
 }
 
 /// The outputs of a body that its connections name.
-fn outputs_used(joints: &[WrittenConnection]) -> PortsInUse
-    ensures { IsUsed (outputs_kept joints.now) result.count result.ports }
+fn outputs_used(written_connections: &[WrittenConnection]) -> PortsInUse
+    ensures { IsUsed (outputs_kept written_connections.now) result.count result.ports }
 {
     let mut used = PortsInUse::none();
-    for joint in joints {
-        if let Owner::Output = joint.to.owner {
-            used.add(joint.in_port);
+    for written_connection in written_connections {
+        if let Owner::Output = written_connection.to.owner {
+            used.add(written_connection.in_port);
         }
     }
     used
 }
 
 /// The ports of a body with these connections.
-fn ports_by(joints: &[WrittenConnection]) -> Ports
-    ensures { IsPorts (inputs_kept joints.now) (outputs_kept joints.now) result }
+fn ports_by(written_connections: &[WrittenConnection]) -> Ports
+    ensures { IsPorts (inputs_kept written_connections.now) (outputs_kept written_connections.now) result }
 {
-    let inputs = inputs_used(joints);
-    let outputs = outputs_used(joints);
+    let inputs = inputs_used(written_connections);
+    let outputs = outputs_used(written_connections);
     Ports {
         inputs: inputs.count,
         outputs: outputs.count,
@@ -99,13 +99,13 @@ fn ports_by(joints: &[WrittenConnection]) -> Ports
 }
 
 /// The connections of the scope at a place.
-pub(crate) fn joints_at(
-    joints: &[Sequence<WrittenConnection>],
+pub(crate) fn written_connections_at(
+    written_connections: &[Sequence<WrittenConnection>],
     place: usize,
 ) -> &[WrittenConnection]
-    ensures { result.now ≡ list_or_empty (slice_get joints.now place) }
+    ensures { result.now ≡ list_or_empty (slice_get written_connections.now place) }
 {
-    match joints.get(place) {
+    match written_connections.get(place) {
         Some(row) => row.as_slice(),
         None => &[],
     }
@@ -115,15 +115,15 @@ pub(crate) fn joints_at(
 pub(crate) fn all_ports(
     alloc: Global,
     config: &Config,
-    joints: &[Sequence<WrittenConnection>],
+    written_connections: &[Sequence<WrittenConnection>],
 ) -> Result<Vec<Ports>, AllocError>
     requires nested { IsNested config.now }
-    requires joined { AreAllJoints config.now joints.now }
+    requires joined { AreAllWrittenConnections config.now written_connections.now }
     ensures { IfOk result (λ ports. ArePorts config.now ports.items) }
 {
     let mut ports = Vec::new(alloc);
     for place in 0..config.bodies.len() {
-        ports.push(ports_by(joints_at(joints, place)))?;
+        ports.push(ports_by(written_connections_at(written_connections, place)))?;
     }
     Ok(ports)
 }

@@ -2,16 +2,16 @@
 
 ghost use Rattle.std.specs.Prelude.{◌≡◌, ◌<◌, ℕ, List, [], ◌∷◌, ◌++◌, map, IfOk, OnOk};
 ghost use Rattle.click_scopes.specs.Elements as spec;
-ghost use Rattle.click_scopes.specs.Elements.{Placed, has_name, locals_from};
+ghost use Rattle.click_scopes.specs.Elements.{Placed, has_name, scope_elements_from};
 ghost use Rattle.click_scopes.specs.kept.Nesting.{IsNested};
 ghost use Rattle.click_scopes.specs.kept.Scoped.{AreScopes};
-ghost use Rattle.click_scopes.specs.kept.ScopeElements.{AreLocalsOf, AreStringsOf, AreAllLocals, AreAllStrings, strings_of, strings_made};
-ghost use Rattle.click_scopes.specs.kept.Tables.{IsWrittenElement, AreWritten, elements_of, names_declared, numbers_from, role_kept, local_of};
+ghost use Rattle.click_scopes.specs.kept.ScopeElements.{AreScopeElementsOf, AreStringsOf, AreAllScopeElements, AreAllStrings, strings_of, strings_made};
+ghost use Rattle.click_scopes.specs.kept.Tables.{IsWrittenElement, AreWritten, elements_of, names_declared, numbers_from, role_kept, scope_element_of};
 
-use crate::classes::{ClassEntry, ClassOf, class_at};
+use crate::classes::{ClassEntry, ResolvedClass, class_at};
 use crate::names::Names;
 use crate::scopes::{Scopes, WrittenElement};
-use click_text::syntax::{Class, Config, Element, Head, Span};
+use click_text::syntax::{ClassReference, Config, Element, Head, Span};
 use itoa::Buffer;
 use std::alloc::{AllocError, Global};
 
@@ -28,9 +28,9 @@ pub enum Role {
 
 /// An element of a scope.
 #[derive(Drop)]
-pub struct Local {
+pub struct ScopeElement {
     pub name: Vec<u8>,
-    pub class: Option<ClassOf>,
+    pub class: Option<ResolvedClass>,
     pub text: Option<Span>,
     pub head: Head,
 }
@@ -104,13 +104,13 @@ fn made_name(alloc: Global, text: &[u8], before: usize, head: Head) -> Result<Ve
 }
 
 /// The class of an element that makes one.
-fn head_class(head: Head) -> Class
+fn head_class(head: Head) -> ClassReference
     ensures { result ≡ spec.head_class head }
 {
     match head {
-        Head::Word(word) => Class::Named(word),
+        Head::Word(word) => ClassReference::Named(word),
         Head::Declared(_, class) => class,
-        Head::Compound(body) => Class::Body(body),
+        Head::Compound(body) => ClassReference::Body(body),
     }
 }
 
@@ -121,12 +121,12 @@ fn made(
     entries: &[ClassEntry],
     before: usize,
     one: WrittenElement,
-) -> Result<Local, AllocError>
+) -> Result<ScopeElement, AllocError>
     requires { before < usize.MAX }
-    ensures local { IfOk result (λ l. (p : Placed) → IsWrittenElement text.now entries.now one p → local_of text.now l ≡ spec.local text.now before p) }
+    ensures scope_element { IfOk result (λ l. (p : Placed) → IsWrittenElement text.now entries.now one p → scope_element_of text.now l ≡ spec.scope_element text.now before p) }
     ensures string { IfOk result (λ l. l.text ≡ one.element.text) }
 {
-    Ok(Local {
+    Ok(ScopeElement {
         name: made_name(alloc, text, before, one.element.head)?,
         class: class_at(text, entries, one.top, head_class(one.element.head)),
         text: one.element.text,
@@ -135,33 +135,36 @@ fn made(
 }
 
 /// Adds an element at the end.
-fn push(locals: &mut Vec<Local>, local: Local) -> Result<(), AllocError>
-    ensures { OnOk result (locals.new.items ≡ locals.old.items ++ local ∷ []) }
+fn push(
+    scope_elements: &mut Vec<ScopeElement>,
+    scope_element: ScopeElement,
+) -> Result<(), AllocError>
+    ensures { OnOk result (scope_elements.new.items ≡ scope_elements.old.items ++ scope_element ∷ []) }
 {
-    locals.push(local)?;
+    scope_elements.push(scope_element)?;
     Ok(())
 }
 
 /// The elements of a scope.
-fn locals_of(
+fn scope_elements_of(
     alloc: Global,
     text: &[u8],
     entries: &[ClassEntry],
     in_body: bool,
     declared: &Names,
     written: &[WrittenElement],
-) -> Result<Vec<Local>, AllocError>
-    ensures locals { IfOk result (λ ls. (ps : List Placed) → AreWritten text.now entries.now written.now ps → map (local_of text.now) ls.items ≡ locals_from text.now in_body declared.now 0 ps) }
+) -> Result<Vec<ScopeElement>, AllocError>
+    ensures scope_elements { IfOk result (λ ls. (ps : List Placed) → AreWritten text.now entries.now written.now ps → map (scope_element_of text.now) ls.items ≡ scope_elements_from text.now in_body declared.now 0 ps) }
     ensures strings { IfOk result (λ ls. strings_of ls.items ≡ strings_made text.now in_body declared.now (elements_of written.now)) }
 {
-    let mut locals = Vec::new(alloc);
+    let mut scope_elements = Vec::new(alloc);
     for one in written {
         if let Role::Makes = role_of(text, in_body, declared, one.element) {
-            let local = made(alloc, text, entries, locals.len(), *one)?;
-            push(&mut locals, local)?;
+            let scope_element = made(alloc, text, entries, scope_elements.len(), *one)?;
+            push(&mut scope_elements, scope_element)?;
         }
     }
-    Ok(locals)
+    Ok(scope_elements)
 }
 
 /// For each element as written, the number of elements before it.
@@ -186,38 +189,41 @@ pub(crate) fn numbers_of(
 }
 
 /// The elements of a scope, whichever names it declares.
-fn locals_in(
+fn scope_elements_in(
     alloc: Global,
     text: &[u8],
     entries: &[ClassEntry],
     in_body: bool,
     written: &[WrittenElement],
-) -> Result<Vec<Local>, AllocError>
-    ensures locals { IfOk result (λ ls. AreLocalsOf text.now entries.now in_body written.now ls.items) }
+) -> Result<Vec<ScopeElement>, AllocError>
+    ensures scope_elements { IfOk result (λ ls. AreScopeElementsOf text.now entries.now in_body written.now ls.items) }
     ensures strings { IfOk result (λ ls. AreStringsOf text.now in_body written.now ls.items) }
 {
     let declared = declared_of(alloc, text, written)?;
-    let locals = locals_of(alloc, text, entries, in_body, &declared, written)?;
-    Ok(locals)
+    let scope_elements = scope_elements_of(alloc, text, entries, in_body, &declared, written)?;
+    Ok(scope_elements)
 }
 
 /// Adds the elements of a scope at the end.
-fn push_locals(all: &mut Vec<Vec<Local>>, locals: Vec<Local>) -> Result<(), AllocError>
-    ensures { OnOk result (all.new.items ≡ all.old.items ++ locals ∷ []) }
+fn push_scope_elements(
+    all: &mut Vec<Vec<ScopeElement>>,
+    scope_elements: Vec<ScopeElement>,
+) -> Result<(), AllocError>
+    ensures { OnOk result (all.new.items ≡ all.old.items ++ scope_elements ∷ []) }
 {
-    all.push(locals)?;
+    all.push(scope_elements)?;
     Ok(())
 }
 
 /// The elements of each scope of a configuration.
-pub fn all_locals(
+pub fn all_scope_elements(
     alloc: Global,
     config: &Config,
     scopes: &Scopes,
-) -> Result<Vec<Vec<Local>>, AllocError>
+) -> Result<Vec<Vec<ScopeElement>>, AllocError>
     requires nested { IsNested config.now }
     requires scoped { AreScopes config.now scopes.now.entries.items scopes.now.scopes.items }
-    ensures locals { IfOk result (λ all. AreAllLocals config.now all.items) }
+    ensures scope_elements { IfOk result (λ all. AreAllScopeElements config.now all.items) }
     ensures strings { IfOk result (λ all. AreAllStrings config.now all.items) }
 {
     let text = config.text.as_slice();
@@ -225,14 +231,14 @@ pub fn all_locals(
     let entries = scopes.entries.as_slice();
     let mut all = Vec::new(alloc);
     for (place, scope) in scopes.scopes.as_slice().iter().enumerate() {
-        let locals = locals_in(
+        let scope_elements = scope_elements_in(
             alloc,
             text,
             entries,
             place < count,
             scope.written.as_slice(),
         )?;
-        push_locals(&mut all, locals)?;
+        push_scope_elements(&mut all, scope_elements)?;
     }
     Ok(all)
 }

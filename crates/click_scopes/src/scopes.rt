@@ -8,11 +8,11 @@ ghost use Rattle.click_scopes.specs.Faults as faults;
 ghost use Rattle.click_scopes.specs.kept.Tables.{Shows, AreWritten, IsMore, IsEntry};
 ghost use Rattle.click_scopes.specs.kept.Nesting.{IsNested};
 ghost use Rattle.click_scopes.specs.kept.Scoped.{AreScopes, AreSynonyms, ports_in};
-ghost use Rattle.click_scopes.specs.kept.Standing.{kept_link, kept_name, kept_elements, root, AreRoots, written_ports, IsDefined, AddsSynonyms};
+ghost use Rattle.click_scopes.specs.kept.Standing.{kept_link, kept_name, kept_elements, nested_body, AreNestedBodies, written_ports, IsDefined, AddsSynonyms};
 
-use crate::classes::{ClassEntry, ClassOf, find};
+use crate::classes::{ClassEntry, ResolvedClass, find};
 use click_text::syntax::{
-    Body, Chain, Class, Config, Declaration, Element, Head, Link, Port, Statement,
+    Body, Chain, ClassReference, Config, Declaration, Element, Head, Link, Statement, WrittenPort,
 };
 use std::alloc::{AllocError, Global};
 
@@ -26,7 +26,7 @@ pub struct WrittenElement {
 
 /// A body, the place of the scope that it stands in, and the last definition that is visible there.
 #[derive(Clone, Copy)]
-pub struct Root {
+pub struct NestedBody {
     pub body: usize,
     pub outer: usize,
     pub top: Option<usize>,
@@ -47,7 +47,7 @@ pub struct Scopes {
 }
 
 /// The number of a port. One that is not written is 0.
-fn port_number(port: Option<Port>) -> u8
+fn port_number(port: Option<WrittenPort>) -> u8
     ensures { result ≡ faults.port_number port }
 {
     match port {
@@ -127,88 +127,93 @@ fn push_elements(
 }
 
 /// Adds a body that stands in a scope.
-fn push_root(
-    roots: &mut Vec<Root>,
+fn push_nested_body(
+    nested_bodies: &mut Vec<NestedBody>,
     body: usize,
     outer: usize,
     top: Option<usize>,
 ) -> Result<(), AllocError>
-    ensures { OnOk result (roots.new.items ≡ roots.old.items ++ map (root outer top) (body ∷ [])) }
+    ensures { OnOk result (nested_bodies.new.items ≡ nested_bodies.old.items ++ map (nested_body outer top) (body ∷ [])) }
 {
-    roots.push(Root { body, outer, top })?;
+    nested_bodies.push(NestedBody { body, outer, top })?;
     Ok(())
 }
 
-fn push_class_root(
-    roots: &mut Vec<Root>,
-    class: Class,
+fn push_class_nested_body(
+    nested_bodies: &mut Vec<NestedBody>,
+    class: ClassReference,
     outer: usize,
     top: Option<usize>,
 ) -> Result<(), AllocError>
-    ensures { OnOk result (roots.new.items ≡ roots.old.items ++ map (root outer top) (class_bodies class)) }
+    ensures { OnOk result (nested_bodies.new.items ≡ nested_bodies.old.items ++ map (nested_body outer top) (class_bodies class)) }
 {
     match class {
-        Class::Named(_) => Ok(()),
-        Class::Body(body) => push_root(roots, body, outer, top),
+        ClassReference::Named(_) => Ok(()),
+        ClassReference::Body(body) => push_nested_body(nested_bodies, body, outer, top),
     }
 }
 
-fn push_head_root(
-    roots: &mut Vec<Root>,
+fn push_head_nested_body(
+    nested_bodies: &mut Vec<NestedBody>,
     head: Head,
     outer: usize,
     top: Option<usize>,
 ) -> Result<(), AllocError>
-    ensures { OnOk result (roots.new.items ≡ roots.old.items ++ map (root outer top) (head_bodies head)) }
+    ensures { OnOk result (nested_bodies.new.items ≡ nested_bodies.old.items ++ map (nested_body outer top) (head_bodies head)) }
 {
     match head {
         Head::Word(_) => Ok(()),
-        Head::Declared(_, class) => push_class_root(roots, class, outer, top),
-        Head::Compound(body) => push_root(roots, body, outer, top),
+        Head::Declared(_, class) => push_class_nested_body(nested_bodies, class, outer, top),
+        Head::Compound(body) => push_nested_body(nested_bodies, body, outer, top),
     }
 }
 
-fn push_link_roots(
-    roots: &mut Vec<Root>,
+fn push_link_nested_bodies(
+    nested_bodies: &mut Vec<NestedBody>,
     links: &[Link],
     outer: usize,
     top: Option<usize>,
 ) -> Result<(), AllocError>
-    ensures { OnOk result (roots.new.items ≡ roots.old.items ++ map (root outer top) (link_bodies links.now)) }
+    ensures { OnOk result (nested_bodies.new.items ≡ nested_bodies.old.items ++ map (nested_body outer top) (link_bodies links.now)) }
 {
     for link in links {
-        push_head_root(roots, link.element.head, outer, top)?;
+        push_head_nested_body(nested_bodies, link.element.head, outer, top)?;
     }
     Ok(())
 }
 
-fn push_chain_roots(
-    roots: &mut Vec<Root>,
+fn push_chain_nested_bodies(
+    nested_bodies: &mut Vec<NestedBody>,
     chain: &Chain,
     outer: usize,
     top: Option<usize>,
 ) -> Result<(), AllocError>
-    ensures { OnOk result (roots.new.items ≡ roots.old.items ++ map (root outer top) (bodies_in (Statement.Chain chain.now))) }
+    ensures { OnOk result (nested_bodies.new.items ≡ nested_bodies.old.items ++ map (nested_body outer top) (bodies_in (Statement.Chain chain.now))) }
 {
-    push_head_root(roots, chain.first.head, outer, top)?;
-    push_link_roots(roots, chain.links.as_slice(), outer, top)
+    push_head_nested_body(nested_bodies, chain.first.head, outer, top)?;
+    push_link_nested_bodies(nested_bodies, chain.links.as_slice(), outer, top)
 }
 
 /// Adds the bodies that stand in a statement.
-fn push_roots(
-    roots: &mut Vec<Root>,
+fn push_nested_bodies(
+    nested_bodies: &mut Vec<NestedBody>,
     statement: &Statement,
     outer: usize,
     top: Option<usize>,
 ) -> Result<(), AllocError>
-    ensures { OnOk result (roots.new.items ≡ roots.old.items ++ map (root outer top) (bodies_in statement.now)) }
+    ensures { OnOk result (nested_bodies.new.items ≡ nested_bodies.old.items ++ map (nested_body outer top) (bodies_in statement.now)) }
 {
     match statement {
-        Statement::Chain(chain) => push_chain_roots(roots, chain, outer, top),
+        Statement::Chain(chain) => push_chain_nested_bodies(nested_bodies, chain, outer, top),
         Statement::Declaration(declaration) => {
-            push_class_root(roots, declaration.class, outer, top)
+            push_class_nested_body(nested_bodies, declaration.class, outer, top)
         }
-        Statement::Definition { name: _, body } => push_root(roots, *body, outer, top),
+        Statement::Definition { name: _, body } => push_nested_body(
+            nested_bodies,
+            *body,
+            outer,
+            top,
+        ),
         _ => Ok(()),
     }
 }
@@ -225,7 +230,7 @@ fn entry_of(
     match statement {
         Statement::Definition { name, body } => Some(ClassEntry {
             name: *name,
-            class: Some(ClassOf::Compound(*body)),
+            class: Some(ResolvedClass::Compound(*body)),
             older: top,
             original: None,
         }),
@@ -266,13 +271,13 @@ fn written_of(
     text: &[u8],
     statements: &[Statement],
     entries: &mut Vec<ClassEntry>,
-    roots: &mut Vec<Root>,
+    nested_bodies: &mut Vec<NestedBody>,
     scope: usize,
     outside: Option<usize>,
 ) -> Result<Vec<WrittenElement>, AllocError>
     ensures grows { IsMore entries.old.items entries.new.items }
     ensures written { IfOk result (λ ws. (visible : List Stated) → Shows text.now entries.old.items outside visible → AreWritten text.now entries.new.items ws.items (placed visible statements.now)) }
-    ensures roots { OnOk result ((visible : List Stated) → Shows text.now entries.old.items outside visible → AreRoots text.now entries.new.items scope visible statements.now roots.old.items roots.new.items) }
+    ensures nested_bodies { OnOk result ((visible : List Stated) → Shows text.now entries.old.items outside visible → AreNestedBodies text.now entries.new.items scope visible statements.now nested_bodies.old.items nested_bodies.new.items) }
     ensures ports { IfOk result (λ ws. written_ports ws.items ≡ ports_in statements.now) }
     ensures synonyms { OnOk result ((visible : List Stated) → Shows text.now entries.old.items outside visible → AddsSynonyms text.now visible statements.now entries.old.items entries.new.items) }
 {
@@ -280,7 +285,7 @@ fn written_of(
     let mut top = outside;
     for statement in statements {
         push_elements(&mut written, statement, top)?;
-        push_roots(roots, statement, scope, top)?;
+        push_nested_bodies(nested_bodies, statement, scope, top)?;
         top = define(text, entries, statement, top)?;
     }
     Ok(written)
@@ -315,14 +320,14 @@ pub fn scopes_of(alloc: Global, config: &Config) -> Result<Scopes, AllocError>
     let statements = config.statements.as_slice();
     let count = bodies.len();
     let mut entries = Vec::new(alloc);
-    let mut roots = Vec::new(alloc);
+    let mut nested_bodies = Vec::new(alloc);
     let mut scopes = Vec::new(alloc);
     let written = written_of(
         alloc,
         text,
         statements,
         &mut entries,
-        &mut roots,
+        &mut nested_bodies,
         count,
         None,
     )?;
@@ -333,22 +338,22 @@ pub fn scopes_of(alloc: Global, config: &Config) -> Result<Scopes, AllocError>
             outer: count,
         },
     )?;
-    while let Some(root) = roots.pop() {
-        let inner = statements_at(bodies, root.body);
+    while let Some(nested_body) = nested_bodies.pop() {
+        let inner = statements_at(bodies, nested_body.body);
         let written = written_of(
             alloc,
             text,
             inner,
             &mut entries,
-            &mut roots,
-            root.body,
-            root.top,
+            &mut nested_bodies,
+            nested_body.body,
+            nested_body.top,
         )?;
         push_scope(
             &mut scopes,
             Scope {
                 written,
-                outer: root.outer,
+                outer: nested_body.outer,
             },
         )?;
     }

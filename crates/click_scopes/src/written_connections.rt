@@ -5,12 +5,12 @@ ghost use Rattle.std.specs.Str.{bytes_eq};
 ghost use Rattle.click_text.specs.declared.syntax.Statement.{Statement as Stated};
 ghost use Rattle.click_text.specs.declared.syntax.Config.{Config as Configured};
 ghost use Rattle.click_scopes.specs.Elements as spec;
-ghost use Rattle.click_scopes.specs.Elements.{Placed, Local, placed, has_name};
-ghost use Rattle.click_scopes.specs.Faults.{ScopeNames as NamesSaid, written_end, joints_from};
+ghost use Rattle.click_scopes.specs.Elements.{Placed, ScopeElement, placed, has_name};
+ghost use Rattle.click_scopes.specs.Faults.{ScopeNames as NamesSaid, written_end, written_connections_from};
 ghost use Rattle.click_scopes.specs.kept.Nesting.{IsNested};
 ghost use Rattle.click_scopes.specs.kept.Scoped.{AreScopes, ports_in};
-ghost use Rattle.click_scopes.specs.kept.WrittenConnections.{IsOwner, IsEndKept, AreJoints, AreAllJoints};
-ghost use Rattle.click_scopes.specs.kept.ConnectionEnds.{at, names_among, locals_in, placed_elements, AreDeclared, AreNamesKnown, IsHere, AreEndsKept, AreJointsOf, joint_by};
+ghost use Rattle.click_scopes.specs.kept.WrittenConnections.{IsOwner, IsEndKept, AreWrittenConnections, AreAllWrittenConnections};
+ghost use Rattle.click_scopes.specs.kept.ConnectionEnds.{at, names_among, scope_elements_in, placed_elements, AreDeclared, AreNamesKnown, IsHere, AreEndsKept, AreWrittenConnectionsOf, written_connection_by};
 ghost use Rattle.click_scopes.specs.kept.Tables.{elements_of, names_declared};
 ghost use Rattle.click_scopes.specs.kept.FirstFault.{AreShort};
 
@@ -18,7 +18,7 @@ use crate::first_fault::first_token;
 use crate::names::Names;
 use crate::scope_elements::{Role, numbers_of, role_of};
 use crate::scopes::{Scopes, WrittenElement};
-use click_text::sequence::Sequence;
+use click_base::sequence::Sequence;
 use click_text::syntax::{Config, Element, Head, Span};
 use std::alloc::{AllocError, Global};
 
@@ -137,7 +137,7 @@ fn owner_of(
     element: Element,
 ) -> Owner
     ensures { (ps : List Placed) (p : Placed) → AreNamesKnown config.now.text in_body declared.now.names declared.now.firsts.items numbers.now ps → IsHere numbers.now number element ps p →
-        IsOwner (locals_in config.now.text in_body ps) result (written_end config.now (names_among config.now.text in_body ps) number p) }
+        IsOwner (scope_elements_in config.now.text in_body ps) result (written_end config.now (names_among config.now.text in_body ps) number p) }
 {
     let text = config.text.as_slice();
     let word = word_of(text, element.head);
@@ -168,7 +168,7 @@ fn end_at(
 ) -> End
     requires { AreShort config.now.bodies }
     ensures { (ps : List Placed) (p : Placed) → AreNamesKnown config.now.text in_body declared.now.names declared.now.firsts.items numbers.now ps → IsHere numbers.now number element ps p →
-        IsEndKept (locals_in config.now.text in_body ps) result (written_end config.now (names_among config.now.text in_body ps) number p) }
+        IsEndKept (scope_elements_in config.now.text in_body ps) result (written_end config.now (names_among config.now.text in_body ps) number p) }
 {
     End {
         owner: owner_of(config, in_body, declared, numbers, number, element),
@@ -189,7 +189,7 @@ fn ends_at(
     requires as_many { length numbers.now ≡ length written.now }
     ensures as_many { IfOk result (λ ends. length ends.items ≡ length written.now) }
     ensures ends { IfOk result (λ ends. (ps : List Placed) → AreNamesKnown config.now.text in_body declared.now.names declared.now.firsts.items numbers.now ps → placed_elements ps ≡ elements_of written.now →
-        AreEndsKept (locals_in config.now.text in_body ps) config.now (names_among config.now.text in_body ps) 0 ends.items ps) }
+        AreEndsKept (scope_elements_in config.now.text in_body ps) config.now (names_among config.now.text in_body ps) 0 ends.items ps) }
 {
     let mut ends = Vec::new(alloc);
     for (place, one) in written.iter().enumerate() {
@@ -209,7 +209,7 @@ fn ends_of(
     requires { AreShort config.now.bodies }
     ensures as_many { IfOk result (λ ends. length ends.items ≡ length written.now) }
     ensures ends { IfOk result (λ ends. (ps : List Placed) → placed_elements ps ≡ elements_of written.now →
-        AreEndsKept (locals_in config.now.text in_body ps) config.now (names_among config.now.text in_body ps) 0 ends.items ps) }
+        AreEndsKept (scope_elements_in config.now.text in_body ps) config.now (names_among config.now.text in_body ps) 0 ends.items ps) }
 {
     let text = config.text.as_slice();
     let declared = declared_in(alloc, text, written)?;
@@ -226,8 +226,12 @@ fn ends_of(
 }
 
 /// The connection from the end before to this one, where ports join them.
-fn joint_of(from: Option<End>, ports: Option<(u8, u8)>, to: End) -> Option<WrittenConnection>
-    ensures { result ≡ joint_by from ports to }
+fn written_connection_of(
+    from: Option<End>,
+    ports: Option<(u8, u8)>,
+    to: End,
+) -> Option<WrittenConnection>
+    ensures { result ≡ written_connection_by from ports to }
 {
     match (from, ports) {
         (Some(from), Some((out_port, in_port))) => Some(WrittenConnection {
@@ -241,55 +245,55 @@ fn joint_of(from: Option<End>, ports: Option<(u8, u8)>, to: End) -> Option<Writt
 }
 
 /// The connections that ports join among these ends.
-fn joints_between(
+fn written_connections_between(
     alloc: Global,
     ends: &[End],
     written: &[WrittenElement],
 ) -> Result<Sequence<WrittenConnection>, AllocError>
     requires { length ends.now ≡ length written.now }
-    ensures { IfOk result (λ joints. (c : Configured) (names : NamesSaid) (ls : List Local) (visible statements : List Stated) → AreEndsKept ls c names 0 ends.now (placed visible statements) →
-        map (λ w. w.ports) written.now ≡ ports_in statements → AreJoints ls joints (joints_from c names visible 0 statements)) }
+    ensures { IfOk result (λ written_connections. (c : Configured) (names : NamesSaid) (ls : List ScopeElement) (visible statements : List Stated) → AreEndsKept ls c names 0 ends.now (placed visible statements) →
+        map (λ w. w.ports) written.now ≡ ports_in statements → AreWrittenConnections ls written_connections (written_connections_from c names visible 0 statements)) }
 {
-    let mut joints = Sequence::new(alloc);
+    let mut written_connections = Sequence::new(alloc);
     let mut before = None;
     for (place, one) in written.iter().enumerate() {
         let end = ends[place];
-        if let Some(joint) = joint_of(before, one.ports, end) {
-            joints.push(joint)?;
+        if let Some(written_connection) = written_connection_of(before, one.ports, end) {
+            written_connections.push(written_connection)?;
         }
         before = Some(end);
     }
-    Ok(joints)
+    Ok(written_connections)
 }
 
 /// The connections of a scope.
-fn joints_in(
+fn written_connections_in(
     alloc: Global,
     config: &Config,
     in_body: bool,
     written: &[WrittenElement],
 ) -> Result<Sequence<WrittenConnection>, AllocError>
     requires { AreShort config.now.bodies }
-    ensures { IfOk result (λ joints. AreJointsOf config.now in_body written.now joints) }
+    ensures { IfOk result (λ written_connections. AreWrittenConnectionsOf config.now in_body written.now written_connections) }
 {
     let ends = ends_of(alloc, config, in_body, written)?;
-    let joints = joints_between(alloc, ends.as_slice(), written)?;
-    Ok(joints)
+    let written_connections = written_connections_between(alloc, ends.as_slice(), written)?;
+    Ok(written_connections)
 }
 
 /// Adds the connections of a scope at the end.
-fn push_joints(
+fn push_written_connections(
     all: &mut Vec<Sequence<WrittenConnection>>,
-    joints: Sequence<WrittenConnection>,
+    written_connections: Sequence<WrittenConnection>,
 ) -> Result<(), AllocError>
-    ensures { OnOk result (all.new.items ≡ all.old.items ++ joints ∷ []) }
+    ensures { OnOk result (all.new.items ≡ all.old.items ++ written_connections ∷ []) }
 {
-    all.push(joints)?;
+    all.push(written_connections)?;
     Ok(())
 }
 
 /// The connections of each scope of a configuration, in the order of the text.
-pub fn all_joints(
+pub fn all_written_connections(
     alloc: Global,
     config: &Config,
     scopes: &Scopes,
@@ -297,13 +301,18 @@ pub fn all_joints(
     requires nested { IsNested config.now }
     requires short { AreShort config.now.bodies }
     requires scoped { AreScopes config.now scopes.now.entries.items scopes.now.scopes.items }
-    ensures { IfOk result (λ all. AreAllJoints config.now all.items) }
+    ensures { IfOk result (λ all. AreAllWrittenConnections config.now all.items) }
 {
     let count = config.bodies.len();
     let mut all = Vec::new(alloc);
     for (place, scope) in scopes.scopes.as_slice().iter().enumerate() {
-        let joints = joints_in(alloc, config, place < count, scope.written.as_slice())?;
-        push_joints(&mut all, joints)?;
+        let written_connections = written_connections_in(
+            alloc,
+            config,
+            place < count,
+            scope.written.as_slice(),
+        )?;
+        push_written_connections(&mut all, written_connections)?;
     }
     Ok(all)
 }

@@ -1,11 +1,11 @@
 //! A router of one thread as a session's port.
 
 use crate::control::{reader_of, replies, writer_of};
+use click_base::sequence::Sequence;
 use click_control::{Ended, Port, Reading, Writing, serve};
 use click_handlers::{Table, TakesTable, with_table};
 use click_packet::{Packet, StoredPacket};
-use click_router::{Call, Handlers, Kept, Reply, Router, prepare};
-use click_text::sequence::Sequence;
+use click_router::{Call, CompactReply, Handlers, Reply, Router, prepare};
 use std::alloc::Global;
 use std::sync::Wait;
 use std::test::Fail;
@@ -46,7 +46,7 @@ fn tried<T: Handlers + Drop>(table: T, alloc: Global) -> Result<(bool, bool), Fa
 }
 
 fn device(alloc: Global, name: &[u8]) -> Result<Sequence<u8>, Fail> {
-    Ok(Sequence::of(Vec::from_slice(alloc, name)?))
+    Ok(Sequence::copy_of(alloc, name)?)
 }
 
 /// Whether a packet that entered leaves, as it is recorded and as it is replied.
@@ -71,8 +71,8 @@ fn sends<T: Handlers>(alloc: Global, router: &mut Router<T>) -> Result<bool, Fai
             device: device(alloc, b"b")?,
         },
     )?;
-    Ok(match (first.kept(), &second) {
-        (Kept::Sent(kept), Reply::Sent(Some(packet))) => {
+    Ok(match (first.compact(), &second) {
+        (CompactReply::Sent(kept), Reply::Sent(Some(packet))) => {
             kept.bytes() == b"ab".as_slice() && packet.bytes() == b"ab".as_slice()
         }
         _ => false,

@@ -1,6 +1,7 @@
 //! Tests of the arguments of each class.
 
-use click_classes::{ArgFault, Class, State, class_of, make};
+use click_base::{Class, class_of};
+use click_classes::{ArgFault, State, make};
 use click_packet::Packet;
 use std::alloc::Global;
 use std::process::Abort;

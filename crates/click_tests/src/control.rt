@@ -1,11 +1,11 @@
 //! Sessions with a port, a reader and a writer in memory.
 
+use click_base::sequence::Sequence;
 use click_control::{
     AskFault, Command, Ended, Failed, Port, Reading, ServeFault, Session, Writing, serve,
 };
 use click_handlers::HandlerFault;
-use click_router::{Call, Kept, Recorded};
-use click_text::sequence::Sequence;
+use click_router::{Call, CompactReply, StoredReply};
 use std::alloc::{AllocError, Global};
 use std::cell::Cell;
 use std::io::{self, ErrorKind, Read, Write};
@@ -22,14 +22,14 @@ pub struct OneCounter {
 }
 
 /// The value of some bytes.
-fn value(bytes: Result<Vec<u8>, AllocError>) -> Result<Recorded, AskFault> {
+fn value(bytes: Result<Vec<u8>, AllocError>) -> Result<StoredReply, AskFault> {
     match bytes {
-        Ok(bytes) => Ok(Recorded::of(Kept::Value(Sequence::of(bytes)))),
+        Ok(bytes) => Ok(StoredReply::of(CompactReply::Value(Sequence::of(bytes)))),
         Err(_) => Err(AskFault::NoMemory),
     }
 }
 
-fn read_of(alloc: Global, name: &[u8], text: &[u8]) -> Result<Recorded, AskFault> {
+fn read_of(alloc: Global, name: &[u8], text: &[u8]) -> Result<StoredReply, AskFault> {
     if name == b"c.count".as_slice() {
         value(Vec::from_slice(alloc, b"0"))
     } else if name == b"c.echo".as_slice() {
@@ -39,35 +39,35 @@ fn read_of(alloc: Global, name: &[u8], text: &[u8]) -> Result<Recorded, AskFault
     } else if name == b"c.late".as_slice() {
         Err(AskFault::HistoryFull)
     } else if name == b"c.reset_counts".as_slice() {
-        Ok(Recorded::of(Kept::WrongWay))
+        Ok(StoredReply::of(CompactReply::WrongWay))
     } else if name == b"c.none".as_slice() {
-        Ok(Recorded::of(Kept::NoHandler))
+        Ok(StoredReply::of(CompactReply::NoHandler))
     } else {
-        Ok(Recorded::of(Kept::NoElement))
+        Ok(StoredReply::of(CompactReply::NoElement))
     }
 }
 
-fn write_of(name: &[u8], text: &[u8]) -> Recorded {
+fn write_of(name: &[u8], text: &[u8]) -> StoredReply {
     if name == b"c.count".as_slice() {
-        Recorded::of(Kept::WrongWay)
+        StoredReply::of(CompactReply::WrongWay)
     } else if name == b"c.two".as_slice() && text.len() != 2 {
-        Recorded::of(Kept::Handler(HandlerFault::OutOfRange))
+        StoredReply::of(CompactReply::Handler(HandlerFault::OutOfRange))
     } else {
-        Recorded::of(Kept::Done)
+        StoredReply::of(CompactReply::Done)
     }
 }
 
 impl Port for OneCounter {
     ghost asks = { λ _ _ _ _. Unit {0} };
 
-    fn record(&mut self, alloc: Global, call: Call) -> Result<Recorded, AskFault> {
+    fn record(&mut self, alloc: Global, call: Call) -> Result<StoredReply, AskFault> {
         self.calls = self.calls.saturating_add(1);
         match call {
             Call::Read { name, text } => read_of(alloc, name.as_slice(), text.as_slice()),
             Call::CheckRead { name } => {
                 let reply = read_of(alloc, name.as_slice(), b"")?;
-                Ok(match reply.kept() {
-                    Kept::Value(_) => Recorded::of(Kept::Done),
+                Ok(match reply.compact() {
+                    CompactReply::Value(_) => StoredReply::of(CompactReply::Done),
                     _ => reply,
                 })
             }
@@ -77,7 +77,7 @@ impl Port for OneCounter {
             | Call::Arrive { .. }
             | Call::Poll { .. }
             | Call::Round
-            | Call::Transmit { .. } => Ok(Recorded::of(Kept::NoDevice)),
+            | Call::Transmit { .. } => Ok(StoredReply::of(CompactReply::NoDevice)),
         }
     }
 }

@@ -75,7 +75,7 @@ fn is_flat(alloc: Global, text: &[u8], flat: &Flat) -> Result<bool, Fail> {
 fn are_same(elements: &[FlatElement], others: &[FlatElement]) -> bool {
     for (element, other) in elements.iter().zip(others) {
         if element.name.as_slice() != other.name.as_slice()
-            || element.class.as_slice() != other.class.as_slice()
+            || element.class != other.class
             || element.text.as_slice() != other.text.as_slice()
         {
             return false;

@@ -1,14 +1,10 @@
 //! Lines of calls and replies, by hand.
 
+use click_base::sequence::Sequence;
 use click_lines::{Line, entry_line, read_line};
 use click_packet::{Packet, StoredPacket};
 use click_router::{Call, Reply};
-use click_text::sequence::Sequence;
 use std::alloc::{AllocError, Global};
-
-fn bytes(alloc: Global, bytes: &[u8]) -> Result<Sequence<u8>, AllocError> {
-    Ok(Sequence::of(Vec::from_slice(alloc, bytes)?))
-}
 
 /// Whether the line is read, and what it is read as is written so.
 fn comes_back(alloc: Global, line: &[u8]) -> Result<bool, AllocError> {
@@ -34,10 +30,10 @@ fn is_swap_done(line: &Line, seat: usize, text: &[u8]) -> bool {
 fn a_read_is_a_line(rt: HostRuntime) -> Result<(), AllocError> {
     let alloc = rt.alloc();
     let call = Call::Read {
-        name: bytes(alloc, b"c.count")?,
-        text: bytes(alloc, b"")?,
+        name: Sequence::copy_of(alloc, b"c.count")?,
+        text: Sequence::copy_of(alloc, b"")?,
     };
-    let reply = Reply::Value(bytes(alloc, b"12")?);
+    let reply = Reply::Value(Sequence::copy_of(alloc, b"12")?);
     let line = entry_line(alloc, 3, &call, &reply)?;
     assert!(rt; line.as_slice() == b"3\tread c.count \tvalue 3132".as_slice());
     assert!(rt; comes_back(alloc, &line)?);
@@ -48,8 +44,8 @@ fn a_read_is_a_line(rt: HostRuntime) -> Result<(), AllocError> {
 fn what_cannot_be_seen_is_spelled(rt: HostRuntime) -> Result<(), AllocError> {
     let alloc = rt.alloc();
     let call = Call::Write {
-        name: bytes(alloc, b"s .switch")?,
-        text: bytes(alloc, b"1\n\\\t~\x7f\xff\0")?,
+        name: Sequence::copy_of(alloc, b"s .switch")?,
+        text: Sequence::copy_of(alloc, b"1\n\\\t~\x7f\xff\0")?,
     };
     let line = entry_line(alloc, 0, &call, &Reply::NoDevice)?;
     assert!(rt;
@@ -67,7 +63,7 @@ fn every_byte_comes_back(rt: HostRuntime) -> Result<(), AllocError> {
         all.push(byte)?;
     }
     let call = Call::Swap {
-        text: bytes(alloc, &all)?,
+        text: Sequence::copy_of(alloc, &all)?,
     };
     let line = entry_line(alloc, 255, &call, &Reply::Done)?;
     assert!(rt;
@@ -91,7 +87,7 @@ fn packets_keep_paint_and_destination(rt: HostRuntime) -> Result<(), AllocError>
     taken.push(plain)?;
     taken.push(marked)?;
     let call = Call::Poll {
-        device: bytes(alloc, b"eth0")?,
+        device: Sequence::copy_of(alloc, b"eth0")?,
         taken,
     };
     let line = entry_line(alloc, 1, &call, &Reply::Entered(2))?;

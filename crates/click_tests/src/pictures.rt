@@ -1,8 +1,8 @@
 //! Pictures worked out by hand.
 
 use crate::ports::net_of;
+use click_base::sequence::Sequence;
 use click_draw::{Drawing, Frame, Rectangle, layout, svg};
-use click_text::sequence::Sequence;
 use std::alloc::{AllocError, Global};
 use std::test::Fail;
 
@@ -39,7 +39,7 @@ fn names_are_escaped(rt: HostRuntime) -> Result<(), AllocError> {
     let alloc = rt.alloc();
     let mut frames = Sequence::new(alloc);
     frames.push(Frame {
-        name: Sequence::of(Vec::from_slice(alloc, b"<a>&\"b\"")?),
+        name: Sequence::copy_of(alloc, b"<a>&\"b\"")?,
         around: Rectangle {
             left: 1,
             top: 2,

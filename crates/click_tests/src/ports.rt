@@ -3,7 +3,7 @@
 ghost use Rattle.std.specs.Prelude.{IfOk, OnOk, ◌≡◌, ◌++◌, ◌∷◌, []};
 ghost use Rattle.click_ports.specs.Net.{AreStatesOf};
 
-use click_classes::{ArgFault, Side, State, class_of, make};
+use click_classes::{ArgFault, Side, State, make};
 use click_expand::{FlatElement, flatten};
 use click_ports::{FaultKind, Net, PortFault, resolve};
 use click_text::parse;
@@ -42,11 +42,8 @@ fn states_of(alloc: Global, elements: &[FlatElement]) -> Result<Vec<State>, ArgF
 {
     let mut states = Vec::new(alloc);
     for element in elements {
-        let Some(class) = class_of(element.class.as_slice()) else {
-            return Err(ArgFault::BadText);
-        };
-        let state = make(alloc, class, element.text.as_slice())?;
-        if state.class() != class {
+        let state = make(alloc, element.class, element.text.as_slice())?;
+        if state.class() != element.class {
             return Err(ArgFault::BadText);
         }
         push(&mut states, state)?;

@@ -1,9 +1,9 @@
 //! Steps of a router: what it is asked, one thing after another, and what it has to answer.
 
+use click_base::sequence::Sequence;
 use click_handlers::{HandlerFault, Table, TakesTable, with_table};
 use click_packet::{Packet, StoredPacket};
 use click_router::{Call, Handlers, Refusal, Reply, Router, prepare};
-use click_text::sequence::Sequence;
 use std::alloc::{AllocError, Global};
 use std::process::Abort;
 use std::sync::Wait;
@@ -56,10 +56,6 @@ pub struct Case<'a> {
     pub steps: &'a [Step<'a>],
 }
 
-fn kept(alloc: Global, bytes: &[u8]) -> Result<Sequence<u8>, AllocError> {
-    Ok(Sequence::of(Vec::from_slice(alloc, bytes)?))
-}
-
 fn packet_of(alloc: Global, bytes: &[u8]) -> Result<StoredPacket, Fail> {
     Ok(StoredPacket::of(alloc, &Packet::of(bytes)?)?)
 }
@@ -76,27 +72,27 @@ fn packets_of(alloc: Global, all: &[&[u8]]) -> Result<Sequence<StoredPacket>, Fa
 fn call_of(alloc: Global, asked: Asked<'_>) -> Result<Call, Fail> {
     match asked {
         Asked::Arrive(device, bytes) => Ok(Call::Arrive {
-            device: kept(alloc, device)?,
+            device: Sequence::copy_of(alloc, device)?,
             packet: packet_of(alloc, bytes)?,
         }),
         Asked::Poll(device, all) => Ok(Call::Poll {
-            device: kept(alloc, device)?,
+            device: Sequence::copy_of(alloc, device)?,
             taken: packets_of(alloc, all)?,
         }),
         Asked::Round => Ok(Call::Round),
         Asked::Transmit(device) => Ok(Call::Transmit {
-            device: kept(alloc, device)?,
+            device: Sequence::copy_of(alloc, device)?,
         }),
         Asked::Read(name, text) => Ok(Call::Read {
-            name: kept(alloc, name)?,
-            text: kept(alloc, text)?,
+            name: Sequence::copy_of(alloc, name)?,
+            text: Sequence::copy_of(alloc, text)?,
         }),
         Asked::Write(name, text) => Ok(Call::Write {
-            name: kept(alloc, name)?,
-            text: kept(alloc, text)?,
+            name: Sequence::copy_of(alloc, name)?,
+            text: Sequence::copy_of(alloc, text)?,
         }),
         Asked::Swap(text) => Ok(Call::Swap {
-            text: kept(alloc, text)?,
+            text: Sequence::copy_of(alloc, text)?,
         }),
     }
 }

@@ -1,7 +1,9 @@
 //! A text with its tree, worked out by hand, and what faults print. What is read in other texts stands in `examples/texts.txt`.
 
 use click_text::parse;
-use click_text::syntax::{Chain, Class, Config, FaultKind, Head, Span, Statement, TextFault};
+use click_text::syntax::{
+    Chain, ClassReference, Config, FaultKind, Head, Span, Statement, TextFault,
+};
 use std::alloc::AllocError;
 use std::test::Fail;
 
@@ -20,13 +22,13 @@ enum Kind {
 struct Outline {
     kind: Kind,
     name: Option<Span>,
-    class: Option<Class>,
+    class: Option<ClassReference>,
     text: Option<Span>,
     parts: usize,
 }
 
 /// What a definition is.
-fn outlined(kind: Kind, name: Option<Span>, class: Option<Class>) -> Outline {
+fn outlined(kind: Kind, name: Option<Span>, class: Option<ClassReference>) -> Outline {
     Outline {
         kind,
         name,
@@ -40,7 +42,7 @@ fn outline_of_chain(chain: &Chain) -> Outline {
     let (name, class) = match chain.first.head {
         Head::Word(name) => (Some(name), None),
         Head::Declared(name, class) => (Some(name), Some(class)),
-        Head::Compound(body) => (None, Some(Class::Body(body))),
+        Head::Compound(body) => (None, Some(ClassReference::Body(body))),
     };
     Outline {
         text: chain.first.text,
@@ -60,10 +62,18 @@ fn outline_of(statement: &Statement) -> Outline {
             parts: declaration.names.len(),
         },
         Statement::Definition { name, body } => {
-            outlined(Kind::Definition, Some(*name), Some(Class::Body(*body)))
+            outlined(
+                Kind::Definition,
+                Some(*name),
+                Some(ClassReference::Body(*body)),
+            )
         }
         Statement::Synonym { name, class } => {
-            outlined(Kind::Synonym, Some(*name), Some(Class::Named(*class)))
+            outlined(
+                Kind::Synonym,
+                Some(*name),
+                Some(ClassReference::Named(*class)),
+            )
         }
         Statement::Requirement { text } => Outline {
             text: *text,
@@ -90,22 +100,30 @@ const STATEMENTS: &[u8] =
 /// What its statements are.
 fn outlines() -> [Outline; 5] {
     [
-        outlined(Kind::Definition, Some(span(13, 14)), Some(Class::Body(0))),
+        outlined(
+            Kind::Definition,
+            Some(span(13, 14)),
+            Some(ClassReference::Body(0)),
+        ),
         Outline {
             kind: Kind::Declaration,
             name: Some(span(58, 59)),
-            class: Some(Class::Named(span(66, 67))),
+            class: Some(ClassReference::Named(span(66, 67))),
             text: Some(span(67, 73)),
             parts: 2,
         },
         Outline {
             text: Some(span(99, 102)),
-            ..outlined(Kind::Chain, Some(span(75, 76)), Some(Class::Body(1)))
+            ..outlined(
+                Kind::Chain,
+                Some(span(75, 76)),
+                Some(ClassReference::Body(1)),
+            )
         },
         outlined(
             Kind::Synonym,
             Some(span(117, 118)),
-            Some(Class::Named(span(119, 120))),
+            Some(ClassReference::Named(span(119, 120))),
         ),
         Outline {
             text: Some(span(129, 136)),

@@ -4,7 +4,7 @@ use crate::control::{Narrow, OneCounter, Trickle, reader_of, replies, writer_of}
 use click_control::{
     AskFault, Ended, Open, Port, Reading, ServeFault, Turns, Writing, serve_turns,
 };
-use click_router::{Call, Recorded};
+use click_router::{Call, StoredReply};
 use std::alloc::Global;
 use std::cell::Cell;
 use std::io::{self, Read, Write};
@@ -74,7 +74,7 @@ struct Watched<'a> {
 impl Port for Watched<'_> {
     ghost asks = { λ _ _ _ _. Unit {0} };
 
-    fn record(&mut self, alloc: Global, call: Call) -> Result<Recorded, AskFault> {
+    fn record(&mut self, alloc: Global, call: Call) -> Result<StoredReply, AskFault> {
         self.done.calls.set(self.done.calls.get().saturating_add(1));
         self.port.record(alloc, call)
     }

@@ -5,9 +5,9 @@ use Rattle.std.specs.Prelude.{ℕ, ◌+◌, ◌-◌, ◌<◌, List, [], ◌∷�
 use Rattle.click_text.specs.declared.syntax.Span.{Span}
 use Rattle.click_text.specs.declared.syntax.Token.{Token}
 use Rattle.click_text.specs.declared.syntax.Token.TheVariants as token
-use Rattle.click_text.specs.declared.syntax.Port.{Port}
-use Rattle.click_text.specs.declared.syntax.Class.{Class}
-use Rattle.click_text.specs.declared.syntax.Class.TheVariants as class
+use Rattle.click_text.specs.declared.syntax.WrittenPort.{WrittenPort}
+use Rattle.click_text.specs.declared.syntax.ClassReference.{ClassReference}
+use Rattle.click_text.specs.declared.syntax.ClassReference.TheVariants as class
 use Rattle.click_text.specs.declared.syntax.Head.{Head}
 use Rattle.click_text.specs.declared.syntax.Head.TheVariants as head
 use Rattle.click_text.specs.declared.syntax.Element.{Element}
@@ -21,26 +21,26 @@ use Rattle.click_text.specs.declared.syntax.Config.{Config}
 abbrev pub from_to : Span → Span → Span
 from_to a b = record { start = a.start; end = b.end }
 
-abbrev pub written_port : ℕ → Span → Span → Port
+abbrev pub written_port : ℕ → Span → Span → WrittenPort
 written_port n a b = record { number = n; span = from_to a b }
 
 abbrev pub element : Head → Option Span → Element
 element h text = record { head = h; text = text }
 
-abbrev pub link : Option Port → Option Port → Element → Link
+abbrev pub link : Option WrittenPort → Option WrittenPort → Element → Link
 link p q e = record { from = p; to = q; element = e }
 
 abbrev pub chain : Element → List Link → Statement
 chain e ls = statement.Chain (record { first = e; links = ls })
 
-abbrev pub declaration : List Span → Class → Option Span → Statement
+abbrev pub declaration : List Span → ClassReference → Option Span → Statement
 declaration ns c text = statement.Declaration (record { names = ns; class = c; text = text })
 
 abbrev pub body : Span → Span → List Span → List Statement → Body
 body a b fs ss = record { span = from_to a b; formals = fs; statements = ss }
 
 -- a port in brackets, or none
-pub data IsPort : List Token → Option Port → List Token → Type 0 where
+pub data IsPort : List Token → Option WrittenPort → List Token → Type 0 where
   no_port : {ts : List Token} → IsPort ts None ts
   bracketed : {a b s : Span} {n : ℕ} {ts : List Token} →
       IsPort (token.OpenBracket a ∷ token.Number (Some n) s ∷ token.CloseBracket b ∷ ts) (Some (written_port n a b)) ts
@@ -81,14 +81,14 @@ mutual
         IsBody (token.Open a ∷ ts) bs (length bs') rest (bs' ++ body a b fs ss ∷ [])
 
   -- a class
-  pub data IsClass : List Token → List Body → Class → List Token → List Body → Type 0 where
+  pub data IsClass : List Token → List Body → ClassReference → List Token → List Body → Type 0 where
     by_name : {s : Span} {ts : List Token} {bs : List Body} → IsClass (token.Word s ∷ ts) bs (class.Named s) ts bs
     by_body : {ts rest : List Token} {bs bs' : List Body} {n : ℕ} → IsBody ts bs n rest bs' → IsClass ts bs (class.Body n) rest bs'
 
   -- what an element begins with
   pub data IsHead : List Token → List Body → Head → List Token → List Body → Type 0 where
     word : {s : Span} {ts : List Token} {bs : List Body} → IsHead (token.Word s ∷ ts) bs (head.Word s) ts bs
-    declared : {s d : Span} {ts rest : List Token} {bs bs' : List Body} {c : Class} →
+    declared : {s d : Span} {ts rest : List Token} {bs bs' : List Body} {c : ClassReference} →
         IsClass ts bs c rest bs' → IsHead (token.Word s ∷ token.DoubleColon d ∷ ts) bs (head.Declared s c) rest bs'
     compound : {ts rest : List Token} {bs bs' : List Body} {n : ℕ} → IsBody ts bs n rest bs' → IsHead ts bs (head.Compound n) rest bs'
 
@@ -98,7 +98,7 @@ mutual
 
   pub data IsLinks : List Token → List Body → List Link → List Token → List Body → Type 0 where
     no_links : {ts : List Token} {bs : List Body} → IsLinks ts bs [] ts bs
-    more_links : {s : Span} {ts ts1 ts2 ts3 rest : List Token} {bs bs1 bs2 : List Body} {p q : Option Port} {e : Element} {ls : List Link} →
+    more_links : {s : Span} {ts ts1 ts2 ts3 rest : List Token} {bs bs1 bs2 : List Body} {p q : Option WrittenPort} {e : Element} {ls : List Link} →
         IsPort ts p (token.Arrow s ∷ ts1) → IsPort ts1 q ts2 → IsElement ts2 bs e ts3 bs1 → IsLinks ts3 bs1 ls rest bs2 →
         IsLinks ts bs (link p q e ∷ ls) rest bs2
 
@@ -106,7 +106,7 @@ mutual
   pub data IsStatement : List Token → List Body → Statement → List Token → List Body → Type 0 where
     chained : {ts ts1 ts2 rest : List Token} {bs bs1 bs2 : List Body} {e : Element} {ls : List Link} →
         IsElement ts bs e ts1 bs1 → IsLinks ts1 bs1 ls ts2 bs2 → IsEnd ts2 rest → IsStatement ts bs (chain e ls) rest bs2
-    declarations : {s : Span} {ts ts1 ts2 ts3 rest : List Token} {bs bs' : List Body} {ns : List Span} {c : Class} {text : Option Span} →
+    declarations : {s : Span} {ts ts1 ts2 ts3 rest : List Token} {bs bs' : List Body} {ns : List Span} {c : ClassReference} {text : Option Span} →
         IsNames ts ns ts1 → IsClass ts1 bs c ts2 bs' → IsString ts2 text ts3 → IsEnd ts3 rest →
         IsStatement (token.Word s ∷ ts) bs (declaration (s ∷ ns) c text) rest bs'
     -- a `;` after the brace is an empty statement of its own

@@ -14,21 +14,21 @@ is_plain mode.Plain = true
 is_plain _ = false
 
 -- the last of these bytes leads out of the quote, and none before it does
-abbrev pub leaves : Mode → List ℕ → Bool
-leaves m [] = false
-leaves m (b ∷ []) = is_plain (mode_after m b)
-leaves m (b ∷ c ∷ p) = if is_plain (mode_after m b) then false else leaves (mode_after m b) (c ∷ p)
+abbrev pub ends_quote : Mode → List ℕ → Bool
+ends_quote m [] = false
+ends_quote m (b ∷ []) = is_plain (mode_after m b)
+ends_quote m (b ∷ c ∷ p) = if is_plain (mode_after m b) then false else ends_quote (mode_after m b) (c ∷ p)
 
 -- the bytes are an item of that kind
 abbrev pub IsItem : ItemKind → List ℕ → Type 0
 IsItem kind.White p = IsPiece piece.Blank p
 IsItem kind.Comment p = IsPiece piece.LineComment p ⊎ IsPiece piece.BlockComment p
 -- `"` up to the next `"` that isn't right after a `\`, which takes the next byte with it
-IsItem kind.Double p = (r : List ℕ) × (p ≡ 34 ∷ r) × (leaves mode.Double r ≡ true)
+IsItem kind.Double p = (r : List ℕ) × (p ≡ 34 ∷ r) × (ends_quote mode.Double r ≡ true)
 -- `'` up to the next `'`
-IsItem kind.Single p = (r : List ℕ) × (p ≡ 39 ∷ r) × (leaves mode.Single r ≡ true)
+IsItem kind.Single p = (r : List ℕ) × (p ≡ 39 ∷ r) × (ends_quote mode.Single r ≡ true)
 -- `\<` up to the next `>`
-IsItem kind.Hexadecimal p = (r : List ℕ) × (p ≡ 92 ∷ 60 ∷ r) × (leaves mode.Angle r ≡ true)
+IsItem kind.Hexadecimal p = (r : List ℕ) × (p ≡ 92 ∷ 60 ∷ r) × (ends_quote mode.Angle r ≡ true)
 -- any other byte
 IsItem (kind.Byte b) p = (white b ≡ false) × (p ≡ b ∷ [])
 

@@ -11,8 +11,8 @@ use Rattle.click_text.specs.Spans.{without_ends}
 use Rattle.click_text.specs.Items.{Item, AreItems}
 
 -- what a hexadecimal digit is worth
-abbrev pub worth : ℕ → Option ℕ
-worth b =
+abbrev pub hex_digit_value : ℕ → Option ℕ
+hex_digit_value b =
     if digit b then Some (b - 48)
     else if leb 65 b && leb b 70 then Some (b - 55)
     else if leb 97 b && leb b 102 then Some (b - 87)
@@ -42,9 +42,9 @@ stepped escape.Clear b = if eqb b 92 then Some (to escape.Backslash None) else S
 stepped escape.Backslash b = if eqb b 60 then Some (to escape.Digits None) else Some (to escape.Clear (Some (escaped b)))
 -- in `\<..>`, after an even number of digits
 stepped escape.Digits b =
-    if eqb b 62 then Some (to escape.Clear None) else if eqb b 32 then Some (to escape.Digits None) else first_digit (worth b)
+    if eqb b 62 then Some (to escape.Clear None) else if eqb b 32 then Some (to escape.Digits None) else first_digit (hex_digit_value b)
 -- after an odd number of them, the last of which is worth h
-stepped (escape.Half h) b = if eqb b 32 then Some (to (escape.Half h) None) else second_digit h (worth b)
+stepped (escape.Half h) b = if eqb b 32 then Some (to (escape.Half h) None) else second_digit h (hex_digit_value b)
 
 -- the bytes of a step
 abbrev pub added : Option ℕ → List ℕ

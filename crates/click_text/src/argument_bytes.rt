@@ -3,7 +3,7 @@
 ghost use Rattle.std.specs.Prelude.{◌≡◌, ◌<◌, IfOk, IfErr, IfSome};
 ghost use Rattle.click_text.specs.Faults.{no_memory};
 ghost use Rattle.click_text.specs.Spans.{without_ends};
-ghost use Rattle.click_text.specs.Unquote.{worth, escaped, to, stepped, is_clear, unescaped, plain_item, IsPlain};
+ghost use Rattle.click_text.specs.Unquote.{hex_digit_value, escaped, to, stepped, is_clear, unescaped, plain_item, IsPlain};
 ghost use Rattle.click_text.specs.kept.Unescaping.{fits_digit, IsExtendedBy};
 
 use crate::items::{ItemKind, first_item};
@@ -39,8 +39,8 @@ impl Step {
 }
 
 /// What a hexadecimal digit is worth.
-fn worth(byte: u8) -> Option<u8>
-    ensures value { result ≡ worth byte }
+fn hex_digit_value(byte: u8) -> Option<u8>
+    ensures value { result ≡ hex_digit_value byte }
     ensures small { IfSome result (λ value. value < 16) }
 {
     match byte {
@@ -77,9 +77,12 @@ impl Escape {
             Escape::Backslash => Some(Step::to(Escape::Clear, Some(escaped(byte)))),
             Escape::Digits if byte == b'>' => Some(Step::to(Escape::Clear, None)),
             Escape::Digits if byte == b' ' => Some(Step::to(Escape::Digits, None)),
-            Escape::Digits => Some(Step::to(Escape::Half(worth(byte)?), None)),
+            Escape::Digits => Some(Step::to(Escape::Half(hex_digit_value(byte)?), None)),
             Escape::Half(high) if byte == b' ' => Some(Step::to(Escape::Half(high), None)),
-            Escape::Half(high) => Some(Step::to(Escape::Digits, Some(16 * high + worth(byte)?))),
+            Escape::Half(high) => Some(Step::to(
+                Escape::Digits,
+                Some(16 * high + hex_digit_value(byte)?),
+            )),
         }
     }
 

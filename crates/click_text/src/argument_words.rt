@@ -5,8 +5,8 @@ ghost use Rattle.click_text.specs.Faults.{no_memory};
 ghost use Rattle.click_text.specs.Words.{spaced_as, word_before, AreWords};
 
 use crate::items::{ItemKind, first_item};
-use crate::sequence::Sequence;
 use crate::syntax::TextFault;
+use click_base::sequence::Sequence;
 use std::alloc::{AllocError, Global};
 
 /// The bytes of an item, a space for a comment.

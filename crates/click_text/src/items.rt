@@ -1,7 +1,7 @@
 //! The items of a configuration string: white space, comments, quotes and other bytes.
 
 ghost use Rattle.std.specs.Prelude.{◌≡◌, ◌<◌, ◌≤◌, ◌+◌, ◌^◌, ℕ, length, take, IfSome, IfNone, true, false};
-ghost use Rattle.click_text.specs.Items.{is_plain, leaves, LongestItem, blank_kind, parentheses_after};
+ghost use Rattle.click_text.specs.Items.{is_plain, ends_quote, LongestItem, blank_kind, parentheses_after};
 ghost use Rattle.click_text.specs.kept.LongItems.{NoLongItem};
 
 use crate::lexer::{comment, is_white};
@@ -61,8 +61,8 @@ fn is_plain(mode: Mode) -> bool
 /// How many bytes end with the first that leads out of a quote.
 fn quote_len(quote: Mode, text: &[u8]) -> Option<usize>
     ensures within { IfSome result (λ len. len ≤ length text.now) }
-    ensures ends { IfSome result (λ len. leaves quote (take len text.now) ≡ true) }
-    ensures never { IfNone result ((n : ℕ) → n ≤ length text.now → leaves quote (take n text.now) ≡ false) }
+    ensures ends { IfSome result (λ len. ends_quote quote (take len text.now) ≡ true) }
+    ensures never { IfNone result ((n : ℕ) → n ≤ length text.now → ends_quote quote (take n text.now) ≡ false) }
 {
     let mut mode = quote;
     for (i, byte) in text.iter().enumerate() {

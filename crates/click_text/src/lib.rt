@@ -14,7 +14,6 @@ mod items;
 pub mod laws;
 mod lexer;
 mod parser;
-pub mod sequence;
 mod strings;
 pub mod syntax;
 mod tokens;

@@ -7,12 +7,12 @@ ghost use Rattle.click_text.specs.Grammar.{IsText, NestsWithin, tree_of};
 ghost use Rattle.click_text.specs.Faults.{IsFaultAmong, IsMemoryOr};
 ghost use Rattle.click_text.specs.kept.ParserStates.{Place, top, Use, Target, Context, start, State, step, outcome, between, statement_wanted, name_read, define, body_opened, element_wanted, head_read, class_wanted, classified, body_read, element_read, Stops, NoStatement};
 
-use crate::sequence::Sequence;
 use crate::syntax::{
-    Body, Chain, Class, Config, Declaration, Element, Ending, FaultKind, Head, Link, Span,
+    Body, Chain, ClassReference, Config, Declaration, Element, Ending, FaultKind, Head, Link, Span,
     Statement, TextFault, Token,
 };
-use crate::tokens::{Stop, Tokens};
+use crate::tokens::{ParseStop, Tokens};
+use click_base::sequence::Sequence;
 use std::alloc::Global;
 
 /// How many braces may be open.
@@ -30,7 +30,7 @@ pub struct Parser<'a> {
 impl<'a> Parser<'a> {
     /// Statements, up to a closing brace or the end.
     #[cycle(parser)]
-    fn statements(&mut self, depth: usize) -> Result<Sequence<Statement>, Stop>
+    fn statements(&mut self, depth: usize) -> Result<Sequence<Statement>, ParseStop>
         ensures goes_on { IfOk result (λ ss. (p : Place) →
             outcome depth (between self.old.bodies p []) self.old.tokens.items.now ≡ outcome depth (between self.new.bodies p ss) self.new.tokens.items.now) }
         ensures stops { IfErr result (λ s. (p : Place) →
@@ -56,7 +56,7 @@ impl<'a> Parser<'a> {
 
     /// A statement, with its end where it has one.
     #[cycle(parser)]
-    fn statement(&mut self, depth: usize) -> Result<Statement, Stop>
+    fn statement(&mut self, depth: usize) -> Result<Statement, ParseStop>
         ensures goes_on { IfOk result (λ st. (p : Place) (ss : List Statement) →
             outcome depth (statement_wanted self.old.bodies p ss) self.old.tokens.items.now ≡ outcome depth (between self.new.bodies p (ss ++ st ∷ [])) self.new.tokens.items.now) }
         ensures stops { IfErr result (λ s. (p : Place) (ss : List Statement) →
@@ -64,7 +64,7 @@ impl<'a> Parser<'a> {
         ensures shorter { OnOk result (length self.new.tokens.items.now < length self.old.tokens.items.now) }
     {
         let Some(token) = self.tokens.peek() else {
-            return Err(Stop::Unexpected);
+            return Err(ParseStop::Unexpected);
         };
         if let Some(first) = self.tokens.first_of_names() {
             self.tokens.skip();
@@ -89,7 +89,7 @@ impl<'a> Parser<'a> {
 
     /// A declaration after the first of its names.
     #[cycle(parser)]
-    fn declaration(&mut self, first: Span, depth: usize) -> Result<Statement, Stop>
+    fn declaration(&mut self, first: Span, depth: usize) -> Result<Statement, ParseStop>
         ensures goes_on { IfOk result (λ st. (p : Place) (ss : List Statement) →
             outcome depth (name_read self.old.bodies p ss (first ∷ [])) self.old.tokens.items.now ≡ outcome depth (between self.new.bodies p (ss ++ st ∷ [])) self.new.tokens.items.now) }
         ensures stops { IfErr result (λ s. (p : Place) (ss : List Statement) →
@@ -105,7 +105,7 @@ impl<'a> Parser<'a> {
 
     /// A definition or a synonym after its keyword.
     #[cycle(parser)]
-    fn definition(&mut self, depth: usize) -> Result<Statement, Stop>
+    fn definition(&mut self, depth: usize) -> Result<Statement, ParseStop>
         ensures goes_on { IfOk result (λ st. (p : Place) (ss : List Statement) →
             outcome depth (define self.old.bodies p ss) self.old.tokens.items.now ≡ outcome depth (between self.new.bodies p (ss ++ st ∷ [])) self.new.tokens.items.now) }
         ensures stops { IfErr result (λ s. (p : Place) (ss : List Statement) →
@@ -114,7 +114,7 @@ impl<'a> Parser<'a> {
     {
         let name = self.tokens.word()?;
         let Some(token) = self.tokens.peek() else {
-            return Err(Stop::Unexpected);
+            return Err(ParseStop::Unexpected);
         };
         match token {
             Token::Word(class) => {
@@ -126,13 +126,13 @@ impl<'a> Parser<'a> {
                 let body = self.body(brace, depth)?;
                 Ok(Statement::Definition { name, body })
             }
-            _ => Err(Stop::Unexpected),
+            _ => Err(ParseStop::Unexpected),
         }
     }
 
     /// A chain with its end.
     #[cycle(parser)]
-    fn chain(&mut self, depth: usize) -> Result<Chain, Stop>
+    fn chain(&mut self, depth: usize) -> Result<Chain, ParseStop>
         ensures goes_on { IfOk result (λ c. (p : Place) (ss : List Statement) →
             outcome depth (element_wanted self.old.bodies (start p ss)) self.old.tokens.items.now ≡ outcome depth (between self.new.bodies p (ss ++ Statement.Chain c ∷ [])) self.new.tokens.items.now) }
         ensures stops { IfErr result (λ s. (p : Place) (ss : List Statement) →
@@ -142,13 +142,13 @@ impl<'a> Parser<'a> {
         let first = self.element(depth)?;
         let mut links = Sequence::new(self.alloc);
         'links: loop {
-            let Some(joint) = self.tokens.further()? else {
+            let Some(arrow_ports) = self.tokens.next_arrow()? else {
                 return Ok(Chain { first, links });
             };
             let element = self.element(depth)?;
             links.push(Link {
-                from: joint.from,
-                to: joint.to,
+                from: arrow_ports.from,
+                to: arrow_ports.to,
                 element,
             })?;
         }
@@ -156,7 +156,7 @@ impl<'a> Parser<'a> {
 
     /// An element.
     #[cycle(parser)]
-    fn element(&mut self, depth: usize) -> Result<Element, Stop>
+    fn element(&mut self, depth: usize) -> Result<Element, ParseStop>
         ensures goes_on { IfOk result (λ e. (cx : Context) →
             outcome depth (element_wanted self.old.bodies cx) self.old.tokens.items.now ≡ outcome depth (element_read self.new.bodies cx e) self.new.tokens.items.now) }
         ensures stops { IfErr result (λ s. (cx : Context) →
@@ -170,7 +170,7 @@ impl<'a> Parser<'a> {
 
     /// What an element begins with.
     #[cycle(parser)]
-    fn head(&mut self, depth: usize) -> Result<Head, Stop>
+    fn head(&mut self, depth: usize) -> Result<Head, ParseStop>
         ensures goes_on { IfOk result (λ h. (cx : Context) →
             outcome depth (element_wanted self.old.bodies cx) self.old.tokens.items.now ≡ outcome depth (head_read self.new.bodies cx h) self.new.tokens.items.now) }
         ensures stops { IfErr result (λ s. (cx : Context) →
@@ -178,7 +178,7 @@ impl<'a> Parser<'a> {
         ensures shorter { OnOk result (length self.new.tokens.items.now < length self.old.tokens.items.now) }
     {
         let Some(token) = self.tokens.peek() else {
-            return Err(Stop::Unexpected);
+            return Err(ParseStop::Unexpected);
         };
         match token {
             Token::Word(word) => {
@@ -193,13 +193,13 @@ impl<'a> Parser<'a> {
                 let body = self.body(brace, depth)?;
                 Ok(Head::Compound(body))
             }
-            _ => Err(Stop::Unexpected),
+            _ => Err(ParseStop::Unexpected),
         }
     }
 
     /// A class.
     #[cycle(parser)]
-    fn class(&mut self, depth: usize) -> Result<Class, Stop>
+    fn class(&mut self, depth: usize) -> Result<ClassReference, ParseStop>
         ensures goes_on { IfOk result (λ c. (g : Target) →
             outcome depth (class_wanted self.old.bodies g) self.old.tokens.items.now ≡ outcome depth (classified self.new.bodies g c) self.new.tokens.items.now) }
         ensures stops { IfErr result (λ s. (g : Target) →
@@ -207,24 +207,24 @@ impl<'a> Parser<'a> {
         ensures shorter { OnOk result (length self.new.tokens.items.now < length self.old.tokens.items.now) }
     {
         let Some(token) = self.tokens.peek() else {
-            return Err(Stop::Unexpected);
+            return Err(ParseStop::Unexpected);
         };
         match token {
             Token::Word(name) => {
                 self.tokens.skip();
-                Ok(Class::Named(name))
+                Ok(ClassReference::Named(name))
             }
             Token::Open(brace) => {
                 let body = self.body(brace, depth)?;
-                Ok(Class::Body(body))
+                Ok(ClassReference::Body(body))
             }
-            _ => Err(Stop::Unexpected),
+            _ => Err(ParseStop::Unexpected),
         }
     }
 
     /// A body that begins with this brace. Its place among the bodies.
     #[cycle(parser)]
-    fn body(&mut self, brace: Span, depth: usize) -> Result<usize, Stop>
+    fn body(&mut self, brace: Span, depth: usize) -> Result<usize, ParseStop>
         requires { self.old.tokens.items.now ≡ Token.Open brace ∷ drop 1 self.old.tokens.items.now }
         ensures goes_on { IfOk result (λ at. (s : State) (u : Use) → step s (Token.Open brace) ≡ Some (body_opened self.old.bodies brace u) →
             outcome depth s self.old.tokens.items.now ≡ outcome depth (body_read self.new.bodies u at) self.new.tokens.items.now) }
@@ -233,16 +233,16 @@ impl<'a> Parser<'a> {
         ensures shorter { OnOk result (length self.new.tokens.items.now < length self.old.tokens.items.now) }
     {
         if depth >= MOST_OPEN {
-            return Err(Stop::TooDeep);
+            return Err(ParseStop::TooDeep);
         }
         self.tokens.skip();
         let formals = self.tokens.formals(self.alloc)?;
         let statements = self.statements(depth + 1)?;
         let Some(token) = self.tokens.peek() else {
-            return Err(Stop::Unexpected);
+            return Err(ParseStop::Unexpected);
         };
         let Token::Close(close) = token else {
-            return Err(Stop::Unexpected);
+            return Err(ParseStop::Unexpected);
         };
         self.tokens.skip();
         let at = self.bodies.len();
@@ -259,20 +259,20 @@ impl<'a> Parser<'a> {
     }
 
     /// The fault where the parser stopped.
-    fn fault(&self, stop: Stop, size: usize, ending: Ending) -> TextFault
+    fn fault(&self, stop: ParseStop, size: usize, ending: Ending) -> TextFault
         ensures { (ts : List Token) → Stops stop (outcome 0 (between [] top []) ts) self.now.tokens.items.now → IsMemoryOr result (IsFaultAmong size ts ending result) }
     {
         let next = self.tokens.peek();
         match stop {
-            Stop::Memory => TextFault::no_memory(),
-            Stop::Unexpected => match next {
+            ParseStop::Memory => TextFault::no_memory(),
+            ParseStop::Unexpected => match next {
                 None => ending.fault(size),
                 Some(token) => TextFault {
                     kind: FaultKind::Unexpected,
                     span: token.span(),
                 },
             },
-            Stop::TooDeep => match next {
+            ParseStop::TooDeep => match next {
                 None => ending.fault(size),
                 Some(token) => TextFault {
                     kind: FaultKind::TooDeep,

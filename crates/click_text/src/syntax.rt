@@ -6,7 +6,7 @@ ghost use Rattle.click_text.specs.kept.EndFault.{end_fault};
 ghost use Rattle.click_text.specs.Spans.{bytes_at, string_text};
 ghost use Rattle.click_text.specs.Spelling.{too_large};
 
-use crate::sequence::Sequence;
+use click_base::sequence::Sequence;
 use std::alloc::AllocError;
 use std::fmt;
 use thiserror::Error;
@@ -64,14 +64,14 @@ pub enum Token {
 
 /// A port as written: its number, and where it stands with its brackets.
 #[derive(Clone, Copy, Debug, PartialEq, Eq)]
-pub struct Port {
+pub struct WrittenPort {
     pub number: u8,
     pub span: Span,
 }
 
 /// A class.
 #[derive(Clone, Copy, Debug, PartialEq, Eq)]
-pub enum Class {
+pub enum ClassReference {
     /// A word.
     Named(Span),
     /// The body at that place of the configuration's bodies.
@@ -84,7 +84,7 @@ pub enum Head {
     /// A word: an element's name, or a class.
     Word(Span),
     /// A name with its class.
-    Declared(Span, Class),
+    Declared(Span, ClassReference),
     /// The body at that place of the configuration's bodies.
     Compound(usize),
 }
@@ -100,8 +100,8 @@ pub struct Element {
 /// A further element of a chain, with the ports that it is joined by. A port that is not written is 0.
 #[derive(Clone, Copy, Debug, PartialEq, Eq)]
 pub struct Link {
-    pub from: Option<Port>,
-    pub to: Option<Port>,
+    pub from: Option<WrittenPort>,
+    pub to: Option<WrittenPort>,
     pub element: Element,
 }
 
@@ -117,7 +117,7 @@ pub struct Chain {
 pub struct Declaration {
     /// At least two.
     pub names: Sequence<Span>,
-    pub class: Class,
+    pub class: ClassReference,
     /// Their configuration string with the parentheses, where they have one.
     pub text: Option<Span>,
 }

@@ -3,8 +3,8 @@
 ghost use Rattle.std.specs.Prelude.{◌≡◌, ℕ, ◌<◌, ◌≤◌, ◌++◌, ◌∷◌, [], List, Option, length, drop, OnOk, IfOk, IfErr, MatchOption};
 ghost use Rattle.click_text.specs.declared.syntax.Span.{Span};
 ghost use Rattle.click_text.specs.declared.syntax.Token.{Token};
-ghost use Rattle.click_text.specs.declared.syntax.Port.{Port};
-ghost use Rattle.click_text.specs.declared.syntax.Class.{Class};
+ghost use Rattle.click_text.specs.declared.syntax.WrittenPort.{WrittenPort};
+ghost use Rattle.click_text.specs.declared.syntax.ClassReference.{ClassReference};
 ghost use Rattle.click_text.specs.declared.syntax.Head.{Head};
 ghost use Rattle.click_text.specs.declared.syntax.Element.{Element};
 ghost use Rattle.click_text.specs.declared.syntax.Link.{Link};
@@ -13,33 +13,33 @@ ghost use Rattle.click_text.specs.declared.syntax.Body.{Body};
 ghost use Rattle.click_text.specs.Grammar.{element, declaration};
 ghost use Rattle.click_text.specs.kept.ParserStates.{Place, inside, Use, of_names, Context, linked, Side, out, into, outcome, between, name_wanted, name_read, class_wanted, listed_read, define, define_named, required, ending, body_opened, formal_wanted, formal_read, element_wanted, word_read, head_read, after, port_wanted, number_wanted, close_wanted, arrow_wanted, a_requirement, element_read, ported, past_element, past_word, past_name, past_formal, Stops, Lists};
 
-use crate::sequence::Sequence;
-use crate::syntax::{Port, Span, Token};
+use crate::syntax::{Span, Token, WrittenPort};
+use click_base::sequence::Sequence;
 use std::alloc::{AllocError, Global};
 
 /// Why the parser stopped. It stands then before the token that it could not take.
 #[derive(Clone, Copy, Debug, PartialEq, Eq)]
-pub enum Stop {
+pub enum ParseStop {
     Memory,
     Unexpected,
     TooDeep,
 }
 
-impl From<AllocError> for Stop {
-    ghost use Rattle.click_text.specs.declared.tokens.Stop.TheVariants.{Memory};
+impl From<AllocError> for ParseStop {
+    ghost use Rattle.click_text.specs.declared.tokens.ParseStop.TheVariants.{Memory};
 
     ghost from_gives = { λ _ s. s ≡ Memory };
 
-    fn from(_error: AllocError) -> Stop {
-        Stop::Memory
+    fn from(_error: AllocError) -> ParseStop {
+        ParseStop::Memory
     }
 }
 
 /// The ports of an arrow.
 #[derive(Clone, Copy, Debug, PartialEq, Eq)]
-pub struct Joint {
-    pub from: Option<Port>,
-    pub to: Option<Port>,
+pub struct ArrowPorts {
+    pub from: Option<WrittenPort>,
+    pub to: Option<WrittenPort>,
 }
 
 /// The tokens that are left.
@@ -86,7 +86,7 @@ impl<'a> Tokens<'a> {
     }
 
     /// The names of a declaration after the first of them, with the `::` after them.
-    pub fn names(&mut self, alloc: Global, first: Span) -> Result<Sequence<Span>, Stop>
+    pub fn names(&mut self, alloc: Global, first: Span) -> Result<Sequence<Span>, ParseStop>
         ensures goes_on { IfOk result (λ ns. (n : ℕ) (bs : List Body) (p : Place) (ss : List Statement) →
             outcome n (name_read bs p ss (first ∷ [])) self.old.items.now ≡ outcome n (class_wanted bs (of_names ns p ss)) self.new.items.now) }
         ensures stops { IfErr result (λ s. (n : ℕ) (bs : List Body) (p : Place) (ss : List Statement) →
@@ -105,7 +105,7 @@ impl<'a> Tokens<'a> {
     }
 
     /// What follows a name of a declaration: whether a further one must come, else their class must.
-    fn more_names(&mut self) -> Result<bool, Stop>
+    fn more_names(&mut self) -> Result<bool, ParseStop>
         ensures goes_on { IfOk result (λ more. (n : ℕ) (bs : List Body) (p : Place) (ss : List Statement) (ns : List Span) →
             outcome n (name_read bs p ss ns) self.old.items.now ≡ outcome n (past_name more bs p ss ns) self.new.items.now) }
         ensures stops { IfErr result (λ s. (n : ℕ) (bs : List Body) (p : Place) (ss : List Statement) (ns : List Span) →
@@ -113,7 +113,7 @@ impl<'a> Tokens<'a> {
         ensures shorter { OnOk result (length self.new.items.now < length self.old.items.now) }
     {
         let Some(token) = self.peek() else {
-            return Err(Stop::Unexpected);
+            return Err(ParseStop::Unexpected);
         };
         match token {
             Token::Comma(_) => {
@@ -124,12 +124,12 @@ impl<'a> Tokens<'a> {
                 self.skip();
                 Ok(false)
             }
-            _ => Err(Stop::Unexpected),
+            _ => Err(ParseStop::Unexpected),
         }
     }
 
     /// A further name of a declaration, or the name of a definition.
-    pub fn word(&mut self) -> Result<Span, Stop>
+    pub fn word(&mut self) -> Result<Span, ParseStop>
         ensures goes_on { IfOk result (λ s. (n : ℕ) (bs : List Body) (p : Place) (ss : List Statement) (ns : List Span) →
             outcome n (name_wanted bs p ss ns) self.old.items.now ≡ outcome n (name_read bs p ss (ns ++ s ∷ [])) self.new.items.now) }
         ensures stops { IfErr result (λ s. (n : ℕ) (bs : List Body) (p : Place) (ss : List Statement) (ns : List Span) →
@@ -141,17 +141,17 @@ impl<'a> Tokens<'a> {
         ensures shorter { OnOk result (length self.new.items.now < length self.old.items.now) }
     {
         let Some(token) = self.peek() else {
-            return Err(Stop::Unexpected);
+            return Err(ParseStop::Unexpected);
         };
         let Token::Word(name) = token else {
-            return Err(Stop::Unexpected);
+            return Err(ParseStop::Unexpected);
         };
         self.skip();
         Ok(name)
     }
 
     /// The parameters of a body after its open brace, with the bar after them.
-    pub fn formals(&mut self, alloc: Global) -> Result<Sequence<Span>, Stop>
+    pub fn formals(&mut self, alloc: Global) -> Result<Sequence<Span>, ParseStop>
         ensures goes_on { IfOk result (λ fs. (n : ℕ) (bs : List Body) (a : Span) (u : Use) →
             outcome n (body_opened bs a u) self.old.items.now ≡ outcome n (between bs (inside a fs u) []) self.new.items.now) }
         ensures stops { IfErr result (λ s. (n : ℕ) (bs : List Body) (a : Span) (u : Use) →
@@ -175,7 +175,7 @@ impl<'a> Tokens<'a> {
     }
 
     /// A parameter.
-    fn formal(&mut self) -> Result<Span, Stop>
+    fn formal(&mut self) -> Result<Span, ParseStop>
         ensures goes_on { IfOk result (λ s. (n : ℕ) (bs : List Body) (a : Span) (u : Use) (fs : List Span) →
             outcome n (formal_wanted bs a u fs) self.old.items.now ≡ outcome n (formal_read bs a u (fs ++ s ∷ [])) self.new.items.now) }
         ensures stops { IfErr result (λ s. (n : ℕ) (bs : List Body) (a : Span) (u : Use) (fs : List Span) →
@@ -183,17 +183,17 @@ impl<'a> Tokens<'a> {
         ensures shorter { OnOk result (length self.new.items.now < length self.old.items.now) }
     {
         let Some(token) = self.peek() else {
-            return Err(Stop::Unexpected);
+            return Err(ParseStop::Unexpected);
         };
         let Token::Formal(formal) = token else {
-            return Err(Stop::Unexpected);
+            return Err(ParseStop::Unexpected);
         };
         self.skip();
         Ok(formal)
     }
 
     /// What follows a parameter: whether a further one must come, else the bar stood there.
-    fn more_formals(&mut self) -> Result<bool, Stop>
+    fn more_formals(&mut self) -> Result<bool, ParseStop>
         ensures goes_on { IfOk result (λ more. (n : ℕ) (bs : List Body) (a : Span) (u : Use) (fs : List Span) →
             outcome n (formal_read bs a u fs) self.old.items.now ≡ outcome n (past_formal more bs a u fs) self.new.items.now) }
         ensures stops { IfErr result (λ s. (n : ℕ) (bs : List Body) (a : Span) (u : Use) (fs : List Span) →
@@ -201,7 +201,7 @@ impl<'a> Tokens<'a> {
         ensures shorter { OnOk result (length self.new.items.now < length self.old.items.now) }
     {
         let Some(token) = self.peek() else {
-            return Err(Stop::Unexpected);
+            return Err(ParseStop::Unexpected);
         };
         match token {
             Token::Comma(_) => {
@@ -212,12 +212,12 @@ impl<'a> Tokens<'a> {
                 self.skip();
                 Ok(false)
             }
-            _ => Err(Stop::Unexpected),
+            _ => Err(ParseStop::Unexpected),
         }
     }
 
     /// The end of a statement that isn't a chain.
-    pub fn end(&mut self) -> Result<(), Stop>
+    pub fn end(&mut self) -> Result<(), ParseStop>
         ensures goes_on { OnOk result ((n : ℕ) (bs : List Body) (p : Place) (ss : List Statement) (st : Statement) →
             outcome n (ending bs p ss st) self.old.items.now ≡ outcome n (between bs p (ss ++ st ∷ [])) self.new.items.now) }
         ensures stops { IfErr result (λ s. (n : ℕ) (bs : List Body) (p : Place) (ss : List Statement) (st : Statement) →
@@ -233,14 +233,14 @@ impl<'a> Tokens<'a> {
                 Ok(())
             }
             Token::Close(_) => Ok(()),
-            _ => Err(Stop::Unexpected),
+            _ => Err(ParseStop::Unexpected),
         }
     }
 
     /// What follows an element: an arrow with its ports, or the end of the chain.
-    pub fn further(&mut self) -> Result<Option<Joint>, Stop>
-        ensures goes_on { IfOk result (λ joint. (n : ℕ) (bs : List Body) (p : Place) (ss : List Statement) (f : Element) (ls : List Link) →
-            outcome n (after bs p ss f ls) self.old.items.now ≡ outcome n (past_element joint bs p ss f ls) self.new.items.now) }
+    pub fn next_arrow(&mut self) -> Result<Option<ArrowPorts>, ParseStop>
+        ensures goes_on { IfOk result (λ arrow_ports. (n : ℕ) (bs : List Body) (p : Place) (ss : List Statement) (f : Element) (ls : List Link) →
+            outcome n (after bs p ss f ls) self.old.items.now ≡ outcome n (past_element arrow_ports bs p ss f ls) self.new.items.now) }
         ensures stops { IfErr result (λ s. (n : ℕ) (bs : List Body) (p : Place) (ss : List Statement) (f : Element) (ls : List Link) →
             Stops s (outcome n (after bs p ss f ls) self.old.items.now) self.new.items.now) }
         ensures shorter { OnOk result (length self.new.items.now ≤ length self.old.items.now) }
@@ -255,16 +255,16 @@ impl<'a> Tokens<'a> {
             }
             Token::Close(_) => Ok(None),
             _ => {
-                let joint = self.joint()?;
-                Ok(Some(joint))
+                let arrow_ports = self.arrow_ports()?;
+                Ok(Some(arrow_ports))
             }
         }
     }
 
     /// An arrow with its ports.
-    fn joint(&mut self) -> Result<Joint, Stop>
-        ensures goes_on { IfOk result (λ joint. (n : ℕ) (bs : List Body) (p : Place) (ss : List Statement) (f : Element) (ls : List Link) →
-            outcome n (port_wanted bs p ss f ls out) self.old.items.now ≡ outcome n (element_wanted bs (linked p ss f ls joint.from joint.to)) self.new.items.now) }
+    fn arrow_ports(&mut self) -> Result<ArrowPorts, ParseStop>
+        ensures goes_on { IfOk result (λ arrow_ports. (n : ℕ) (bs : List Body) (p : Place) (ss : List Statement) (f : Element) (ls : List Link) →
+            outcome n (port_wanted bs p ss f ls out) self.old.items.now ≡ outcome n (element_wanted bs (linked p ss f ls arrow_ports.from arrow_ports.to)) self.new.items.now) }
         ensures stops { IfErr result (λ s. (n : ℕ) (bs : List Body) (p : Place) (ss : List Statement) (f : Element) (ls : List Link) →
             Stops s (outcome n (port_wanted bs p ss f ls out) self.old.items.now) self.new.items.now) }
         ensures shorter { OnOk result (length self.new.items.now < length self.old.items.now) }
@@ -272,29 +272,29 @@ impl<'a> Tokens<'a> {
         let from = self.port()?;
         self.arrow()?;
         let to = self.port()?;
-        Ok(Joint { from, to })
+        Ok(ArrowPorts { from, to })
     }
 
     /// An arrow.
-    fn arrow(&mut self) -> Result<(), Stop>
-        ensures goes_on { OnOk result ((n : ℕ) (bs : List Body) (p : Place) (ss : List Statement) (f : Element) (ls : List Link) (from : Option Port) →
+    fn arrow(&mut self) -> Result<(), ParseStop>
+        ensures goes_on { OnOk result ((n : ℕ) (bs : List Body) (p : Place) (ss : List Statement) (f : Element) (ls : List Link) (from : Option WrittenPort) →
             outcome n (arrow_wanted bs p ss f ls from) self.old.items.now ≡ outcome n (port_wanted bs p ss f ls (into from)) self.new.items.now) }
-        ensures stops { IfErr result (λ s. (n : ℕ) (bs : List Body) (p : Place) (ss : List Statement) (f : Element) (ls : List Link) (from : Option Port) →
+        ensures stops { IfErr result (λ s. (n : ℕ) (bs : List Body) (p : Place) (ss : List Statement) (f : Element) (ls : List Link) (from : Option WrittenPort) →
             Stops s (outcome n (arrow_wanted bs p ss f ls from) self.old.items.now) self.new.items.now) }
         ensures shorter { OnOk result (length self.new.items.now < length self.old.items.now) }
     {
         let Some(token) = self.peek() else {
-            return Err(Stop::Unexpected);
+            return Err(ParseStop::Unexpected);
         };
         let Token::Arrow(_) = token else {
-            return Err(Stop::Unexpected);
+            return Err(ParseStop::Unexpected);
         };
         self.skip();
         Ok(())
     }
 
     /// A port in brackets, or none.
-    fn port(&mut self) -> Result<Option<Port>, Stop>
+    fn port(&mut self) -> Result<Option<WrittenPort>, ParseStop>
         ensures goes_on { IfOk result (λ q. (n : ℕ) (bs : List Body) (p : Place) (ss : List Statement) (f : Element) (ls : List Link) (side : Side) →
             outcome n (port_wanted bs p ss f ls side) self.old.items.now ≡ outcome n (ported bs p ss f ls side q) self.new.items.now) }
         ensures stops { IfErr result (λ s. (n : ℕ) (bs : List Body) (p : Place) (ss : List Statement) (f : Element) (ls : List Link) (side : Side) →
@@ -310,21 +310,21 @@ impl<'a> Tokens<'a> {
         self.skip();
         let number = self.number()?;
         let Some(token) = self.peek() else {
-            return Err(Stop::Unexpected);
+            return Err(ParseStop::Unexpected);
         };
         let Token::CloseBracket(end) = token else {
-            return Err(Stop::Unexpected);
+            return Err(ParseStop::Unexpected);
         };
         self.skip();
         let span = Span {
             start: bracket.start,
             end: end.end,
         };
-        Ok(Some(Port { number, span }))
+        Ok(Some(WrittenPort { number, span }))
     }
 
     /// The number of a port.
-    fn number(&mut self) -> Result<u8, Stop>
+    fn number(&mut self) -> Result<u8, ParseStop>
         ensures goes_on { IfOk result (λ m. (n : ℕ) (bs : List Body) (p : Place) (ss : List Statement) (f : Element) (ls : List Link) (side : Side) (a : Span) →
             outcome n (number_wanted bs p ss f ls side a) self.old.items.now ≡ outcome n (close_wanted bs p ss f ls side a m) self.new.items.now) }
         ensures stops { IfErr result (λ s. (n : ℕ) (bs : List Body) (p : Place) (ss : List Statement) (f : Element) (ls : List Link) (side : Side) (a : Span) →
@@ -332,13 +332,13 @@ impl<'a> Tokens<'a> {
         ensures shorter { OnOk result (length self.new.items.now < length self.old.items.now) }
     {
         let Some(token) = self.peek() else {
-            return Err(Stop::Unexpected);
+            return Err(ParseStop::Unexpected);
         };
         let Token::Number(number, _) = token else {
-            return Err(Stop::Unexpected);
+            return Err(ParseStop::Unexpected);
         };
         let Some(number) = number else {
-            return Err(Stop::Unexpected);
+            return Err(ParseStop::Unexpected);
         };
         self.skip();
         Ok(number)
@@ -364,7 +364,7 @@ impl<'a> Tokens<'a> {
     pub fn string(&mut self) -> Option<Span>
         ensures of_head { (n : ℕ) (bs : List Body) (cx : Context) (h : Head) →
             outcome n (head_read bs cx h) self.old.items.now ≡ outcome n (element_read bs cx (element h result)) self.new.items.now }
-        ensures of_names { (n : ℕ) (bs : List Body) (p : Place) (ss : List Statement) (ns : List Span) (c : Class) →
+        ensures of_names { (n : ℕ) (bs : List Body) (p : Place) (ss : List Statement) (ns : List Span) (c : ClassReference) →
             outcome n (listed_read bs p ss ns c) self.old.items.now ≡ outcome n (ending bs p ss (declaration ns c result)) self.new.items.now }
         ensures of_requirement { (n : ℕ) (bs : List Body) (p : Place) (ss : List Statement) →
             outcome n (required bs p ss) self.old.items.now ≡ outcome n (between bs p (ss ++ a_requirement result ∷ [])) self.new.items.now }

@@ -1,1 +1,1 @@
-pub mod Trailing
+pub mod TrailState

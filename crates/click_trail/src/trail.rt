@@ -17,9 +17,9 @@ pub struct Trail<T> {
 
 impl<T> Model for Trail<T> {
     ghost use Rattle.std.specs.Prelude.{◌≡◌, [], map, true, false, nat_lt, vec_len, vec_capacity};
-    ghost use Rattle.click_trail.specs.Trailing.{Trailing};
+    ghost use Rattle.click_trail.specs.TrailState.{TrailState};
 
-    ghost Value = { Trailing T };
+    ghost Value = { TrailState T };
 
     ghost view = { λ t. record { keeps = t.keeps; ready = nat_lt (vec_len t.kept) (vec_capacity t.kept); items = map (λ p. p.0) t.log.items } };
 

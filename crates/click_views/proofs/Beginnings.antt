@@ -1,6 +1,6 @@
 -- What holds of beginnings and of the last of a list.
 use Rattle.std.proofs.Common.{◌≡◌, ℕ, List, [], ◌∷◌, ◌++◌, refl, ap, sym, ◌∙◌, append_assoc, Some, None}
-use Rattle.click_views.specs.Log.{Entry, installs, IsClosed}
+use Rattle.click_views.specs.Log.{LogEntry, installs, IsClosed}
 use Rattle.click_views.specs.Showing.{BeginsWith, IsLast}
 use Rattle.click_views.proofs.Prefixes.{installs_more, installs_ended}
 
@@ -20,8 +20,8 @@ same_end (a ∷ xs) (b ∷ ys) x y e = let rest : xs ++ x ∷ [] ≡ ys ++ y ∷
 pub one_last : {T : Type 0} (list : List T) (x y : T) → IsLast list x → IsLast list y → x ≡ y
 one_last list x y p q = same_end p.0 q.0 x y (sym p.1 ∙ q.1)
 
-pub more : {T : Type 0} (log : List (Entry T)) (key : ℕ) (x : T) → installs (log ++ (key, Some x) ∷ []) ≡ installs log ++ x ∷ []
+pub more : {T : Type 0} (log : List (LogEntry T)) (key : ℕ) (x : T) → installs (log ++ (key, Some x) ∷ []) ≡ installs log ++ x ∷ []
 more log key x = installs_more log key x
 
-pub closed : {T : Type 0} (log : List (Entry T)) → IsClosed log → (before : List (Entry T)) × (installs log ≡ installs before)
+pub closed : {T : Type 0} (log : List (LogEntry T)) → IsClosed log → (before : List (LogEntry T)) × (installs log ≡ installs before)
 closed log c = (c.0, ap installs c.2 ∙ installs_ended c.0 c.1)

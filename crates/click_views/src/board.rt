@@ -5,7 +5,7 @@ ghost use Rattle.boxcar.specs.Table.{Shows};
 ghost use Rattle.click_views.specs.Showing.{numbers, tag_of};
 
 use crate::log::SeenLog;
-use crate::mark::{Mark, Told};
+use crate::mark::{LogPosition, Mark};
 use boxcar::slot::{OnceSlot, SlotRule, Written};
 use boxcar::tag::{Names, Tag};
 use boxcar::{Keeps, Pushed};
@@ -25,7 +25,7 @@ impl<I> SlotRule<I> for AnyInstall {
 /// What is told in a cell is of the cell's install and of the board's book.
 pub struct OfCell;
 
-impl<I> SlotRule<Told<I>> for OfCell {
+impl<I> SlotRule<LogPosition<I>> for OfCell {
     ghost use Rattle.std.specs.Prelude.{◌≡◌, ◌∷◌};
     ghost use Rattle.click_views.specs.Showing.{numbers};
 
@@ -36,7 +36,7 @@ impl<I> SlotRule<Told<I>> for OfCell {
 #[derive(Drop)]
 pub struct Cell<I> {
     install: OnceSlot<I, AnyInstall>,
-    told: OnceSlot<Told<I>, OfCell>,
+    told: OnceSlot<LogPosition<I>, OfCell>,
 }
 
 /// The cells are of the book that the board's tag names.
@@ -162,7 +162,7 @@ impl<I: Drop> Board<I> {
 
 impl<I> Board<I> {
     /// The install of this cell, if it was told of.
-    pub fn told_at(&self, index: usize) -> Option<Mark<I>>
+    pub fn mark_at(&self, index: usize) -> Option<Mark<I>>
         ensures shown { IfSome result (λ m. Shows self.now m.cell) }
         ensures book { IfSome result (λ m. self.now.tag ≡ numbers m.told.book) }
         ensures place { IfSome result (λ m. m.cell.index ≡ index) }

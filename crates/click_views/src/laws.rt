@@ -1,7 +1,7 @@
 //! What holds of the definitions.
 
 ghost use Rattle.std.specs.Prelude.{◌≡◌, ◌++◌, ◌∷◌, ℕ, List, [], Some};
-ghost use Rattle.click_views.specs.Log.{Entry, installs, IsClosed};
+ghost use Rattle.click_views.specs.Log.{LogEntry, installs, IsClosed};
 ghost use Rattle.click_views.specs.Showing.{BeginsWith, IsLast};
 
 /// What was shown first stays shown: beginnings of beginnings are beginnings.
@@ -16,6 +16,6 @@ pub fn one_is_last<T>()
 
 /// An entry more is an install more, and the end of the log is none.
 pub fn entries_are_installs<T>()
-    ensures more { (log : List (Entry T)) (key : ℕ) (x : T) → installs (log ++ (key, Some x) ∷ []) ≡ installs log ++ x ∷ [] }
-    ensures closed { (log : List (Entry T)) → IsClosed log → (before : List (Entry T)) × (installs log ≡ installs before) }
+    ensures more { (log : List (LogEntry T)) (key : ℕ) (x : T) → installs (log ++ (key, Some x) ∷ []) ≡ installs log ++ x ∷ [] }
+    ensures closed { (log : List (LogEntry T)) → IsClosed log → (before : List (LogEntry T)) × (installs log ≡ installs before) }
 {}

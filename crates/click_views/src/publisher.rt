@@ -6,9 +6,9 @@ ghost use Rattle.click_views.specs.Placed.{IsPlaced};
 ghost use Rattle.click_views.specs.Showing.{tag_of};
 
 use crate::board::Board;
-use crate::closed::Closed;
+use crate::closed::ClosedPublisher;
 use crate::log::LogEnd;
-use crate::mark::{Mark, Told, again};
+use crate::mark::{LogPosition, Mark, again};
 use crate::notice::Notice;
 use crate::origin::Origin;
 use crate::view::View;
@@ -57,7 +57,7 @@ fn first_mark<I: Drop, R: Wait>(
     }
     let (cell, written) = board.keep(rt, end.seen(), install)?;
     let mark = Mark {
-        told: Told::new(end.seen(), 1, written),
+        told: LogPosition::new(end.seen(), 1, written),
         cell,
     };
     board.tell(&mark);
@@ -110,7 +110,7 @@ impl<I: Drop> Publisher<I> {
         // From here on nothing fails.
         self.end.add(self.board.install(&cell, &written));
         let mark = Mark {
-            told: Told::new(self.end.seen(), count + 1, written),
+            told: LogPosition::new(self.end.seen(), count + 1, written),
             cell,
         };
         self.board.tell(&mark);
@@ -153,7 +153,7 @@ impl<I: Drop> Publisher<I> {
     }
 
     /// Publishes nothing more.
-    pub fn close(self) -> Closed<I>
+    pub fn close(self) -> ClosedPublisher<I>
         ensures { result ≡ self }
     {
         let Publisher {
@@ -162,7 +162,7 @@ impl<I: Drop> Publisher<I> {
             mark: _,
             origin,
         } = self;
-        Closed {
+        ClosedPublisher {
             of: origin,
             seen: end.end(),
         }

@@ -5,8 +5,8 @@ ghost use Rattle.boxcar.specs.Table.{Shows};
 ghost use Rattle.click_views.specs.Log.{installs};
 ghost use Rattle.click_views.specs.Showing.{BeginsWith, IsLast, numbers};
 
-use crate::bell::Latest;
 use crate::board::Board;
+use crate::install_signal::Latest;
 use crate::mark::Mark;
 use crate::notice::Notice;
 use crate::origin::Origin;
@@ -40,7 +40,7 @@ impl<I: Drop> Model for View<I> {
 }
 
 /// The cell that the bell told of last, where one is heard.
-fn heard(reader: &mut Option<ReadHandle<Latest>>) -> Option<usize> {
+fn latest_index(reader: &mut Option<ReadHandle<Latest>>) -> Option<usize> {
     match reader {
         Some(reader) => match reader.enter() {
             Some(guard) => Some(guard.index),
@@ -90,14 +90,14 @@ impl<I: Drop> View<I> {
     }
 
     /// Shows what the bell told of last, where it hears one and that is later. It takes no memory and waits for nobody.
-    pub fn look(&mut self)
+    pub fn refresh(&mut self)
         ensures board { self.new.board ≡ self.old.board }
         ensures later { BeginsWith self.new.list self.old.list }
     {
-        let Some(index) = heard(&mut self.reader) else {
+        let Some(index) = latest_index(&mut self.reader) else {
             return;
         };
-        if let Some(mark) = self.board.told_at(index) {
+        if let Some(mark) = self.board.mark_at(index) {
             self.advance(&mark);
         }
     }

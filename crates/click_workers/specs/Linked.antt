@@ -2,14 +2,14 @@
 use Rattle.std.specs.Prelude.{◌≡◌, ◌⊎◌, ℕ, ◌+◌, List, [], ◌∷◌, ◌++◌, drop, map, Bool, true, false, Option, None, IfSome}
 use Rattle.std.specs.List.{All}
 use Rattle.click_packet.specs.Packet.{Packet}
-use Rattle.click_rings.specs.Feeds.{RingName, FeedName, Drawing, name_of, has_feed}
+use Rattle.click_rings.specs.Feeds.{RingName, FeedName, ConsumerState, name_of, has_feed}
 use Rattle.click_router.specs.One.{is_transmit}
 use Rattle.click_router.specs.declared.call.Call.{Call}
 use Rattle.click_router.specs.declared.call.Reply.{Reply}
-use Rattle.click_desk.specs.Booklet.{Booklet}
+use Rattle.click_desk.specs.BookState.{BookState}
 use Rattle.click_desk.specs.Openings.{IsOpenFault}
 use Rattle.click_desk.specs.Polls.{polled}
-use Rattle.click_desk.specs.Sittings.{Sitting}
+use Rattle.click_desk.specs.SeatStates.{SeatState}
 use Rattle.click_desk.specs.declared.entry.Entry.{Entry}
 use Rattle.click_desk.specs.declared.open.OpenFault.{OpenFault}
 use Rattle.click_desk.specs.declared.open.OpenFault.TheVariants as fault
@@ -27,22 +27,22 @@ abbrev pub calls_in : List Entry → List (Call × Reply)
 calls_in history = map (λ e. (e.call, e.reply)) history
 
 -- of these feeds the ones of this device are of this ring
-abbrev pub FitsTaps : List Drawing → List ℕ → RingName → Type 0
-FitsTaps taps device ring = All (λ t. t.device ≡ device → t.ring ≡ ring) taps
+abbrev pub FitsConsumers : List ConsumerState → List ℕ → RingName → Type 0
+FitsConsumers consumers device ring = All (λ t. t.device ≡ device → t.ring ≡ ring) consumers
 
 -- of these feeds one is of this device, and that is of this ring
-abbrev pub HasRing : List Drawing → List ℕ → RingName → Type 0
-HasRing taps device ring = (has_feed device (map name_of taps) ≡ true) × FitsTaps taps device ring
+abbrev pub HasRing : List ConsumerState → List ℕ → RingName → Type 0
+HasRing consumers device ring = (has_feed device (map name_of consumers) ≡ true) × FitsConsumers consumers device ring
 
 -- the headline of a desk that keeps no book, with one feed for each of these devices
-abbrev pub LinkedHeadline : List (List ℕ) → List ℕ → ℕ → Booklet → Type 0
+abbrev pub LinkedHeadline : List (List ℕ) → List ℕ → ℕ → BookState → Type 0
 LinkedHeadline devices text n book = (feeds : List FeedName) × (map (λ (f : FeedName). f.device) feeds ≡ devices) × HeadlineWith feeds None text n book
 
 -- The first seats are those of the places and drivers, with what came of each, and the last is the forwarder's: its calls are those of a forwarder of these devices, and just the packets that its Transmits gave were sent.
-pub record LinkedWork (attends : Sitting → SessionEnd → Type 0) (drives : Sitting → Bool → Type 0) (places workers : ℕ) (devices : List (List ℕ)) (before after : List Attempt)
-    (seats : List Sitting) (ended : List SessionEnd) (drivers : List Bool) : Type 0 where
-  pub served : List Sitting
-  pub forwarder : Sitting
+pub record LinkedWork (attends : SeatState → SessionEnd → Type 0) (drives : SeatState → Bool → Type 0) (places workers : ℕ) (devices : List (List ℕ)) (before after : List Attempt)
+    (seats : List SeatState) (ended : List SessionEnd) (drivers : List Bool) : Type 0 where
+  pub served : List SeatState
+  pub forwarder : SeatState
   pub parts : seats ≡ served ++ forwarder ∷ []
   pub number : forwarder.number ≡ places + workers
   pub worked : Worked attends drives places (places + workers) served ended drivers
@@ -53,11 +53,11 @@ abbrev pub AreQuiet : List (Call × Reply) → Type 0
 AreQuiet calls = All (λ (p : Call × Reply). is_transmit p.0 ≡ false) calls
 
 -- of these seats none but the first n made a Transmit
-abbrev pub AreQuietFrom : ℕ → List Sitting → Type 0
-AreQuietFrom n seats = All (λ (s : Sitting). AreQuiet s.calls) (drop n seats)
+abbrev pub AreQuietFrom : ℕ → List SeatState → Type 0
+AreQuietFrom n seats = All (λ (s : SeatState). AreQuiet s.calls) (drop n seats)
 
 -- The seat of a forwarder of these devices, and those of other work: the calls of the forwarder are its own, and just the packets that its Transmits gave were sent; what the other work did.
-abbrev pub ForwardsBeside : {Seats Done : Type 0} → List (List ℕ) → List Attempt → List Attempt → (Seats → Seats → Done → Type 0) → Sitting × Seats → Sitting × Seats → Done → Type 0
+abbrev pub ForwardsBeside : {Seats Done : Type 0} → List (List ℕ) → List Attempt → List Attempt → (Seats → Seats → Done → Type 0) → SeatState × Seats → SeatState × Seats → Done → Type 0
 ForwardsBeside devices before after does old new done = Forwards devices old.0.calls new.0.calls before after × does old.1 new.1 done
 
 -- What the feed of a device put is what the history polled of that device, followed by the rest, in order, each once; what is told as left is just the rest.

@@ -11,10 +11,10 @@ use Rattle.click_router.specs.declared.check.Check.{Check}
 use Rattle.click_router.specs.declared.check.Direction.TheVariants as direction
 use Rattle.click_router.specs.declared.fault.FaultKind.TheVariants as kind
 use Rattle.click_views.specs.Showing.{IsLast}
-use Rattle.click_desk.specs.Booklet.{Booklet}
+use Rattle.click_desk.specs.BookState.{BookState}
 use Rattle.click_desk.specs.History.{Legal, EachLawful, installs, entry, entries}
 use Rattle.click_desk.specs.Closing.{IsEntered, IsEachOnce}
-use Rattle.click_desk.specs.Sittings.{DeskName, Sitting, new_seat}
+use Rattle.click_desk.specs.SeatStates.{DeskName, SeatState, new_seat}
 use Rattle.click_desk.specs.declared.entry.Entry.{Entry}
 use Rattle.click_desk.specs.declared.open.OpenFault.{OpenFault}
 use Rattle.click_desk.specs.declared.open.OpenFault.TheVariants as refused
@@ -28,7 +28,7 @@ use Rattle.click_workers.specs.declared.runs.RunFault.TheVariants as fault
 
 -- the desk was opened with this text and this many seats, and its history has this room: as many entries as may be kept, or no bound and none kept
 abbrev pub IsOpenedFor : Option ℕ → List ℕ → ℕ → DeskName → Type 0
-IsOpenedFor room text n desk = (desk.terms.opening ≡ text) × (desk.terms.room ≡ room) × (desk.terms.seats ≡ n)
+IsOpenedFor room text n desk = (desk.options.opening ≡ text) × (desk.options.room ≡ room) × (desk.options.seats ≡ n)
 
 -- the same, with a history that is kept and has room for 1,048,576 entries
 abbrev pub IsOpenedWith : List ℕ → ℕ → DeskName → Type 0
@@ -38,7 +38,7 @@ IsOpenedWith text n desk = IsOpenedFor (Some 1048576) text n desk
 -- lead to its router, and every configuration that was installed is lawful. It has of each seat just the calls that the seat made, in their order and with
 -- the replies that it got, each number is that of one seat, and each entry is of one of them. Its entries are kept where the room has a bound. Every seat's desk was opened with this text, this room and so many seats, and with these feeds;
 -- where there are none the book has none.
-pub record HeadlineWith (feeds : List FeedName) (room : Option ℕ) (text : List ℕ) (n : ℕ) (book : Booklet) : Type 0 where
+pub record HeadlineWith (feeds : List FeedName) (room : Option ℕ) (text : List ℕ) (n : ℕ) (book : BookState) : Type 0 where
   pub opening : book.opening ≡ text
   pub kept : book.keeps ≡ is_some room
   pub replayed : Legal book.opening book.entries book.router
@@ -46,19 +46,19 @@ pub record HeadlineWith (feeds : List FeedName) (room : Option ℕ) (text : List
   pub entered : All (IsEntered book.entries) book.seats
   pub once : IsEachOnce n book.seats
   pub numbered : All (λ e. count_by (λ s. s.number == e.seat) book.seats ≡ 1) book.entries
-  pub no_feeds : feeds ≡ [] → book.taps ≡ []
-  pub terms : All (λ s. IsOpenedFor room text n s.desk × (s.feeds ≡ feeds)) book.seats
+  pub no_feeds : feeds ≡ [] → book.consumers ≡ []
+  pub options : All (λ s. IsOpenedFor room text n s.desk × (s.feeds ≡ feeds)) book.seats
 
 -- the same of a desk without feeds
-abbrev pub HeadlineFor : Option ℕ → List ℕ → ℕ → Booklet → Type 0
+abbrev pub HeadlineFor : Option ℕ → List ℕ → ℕ → BookState → Type 0
 HeadlineFor room text n book = HeadlineWith [] room text n book
 
 -- the same of a run whose history is kept
-abbrev pub Headline : List ℕ → ℕ → Booklet → Type 0
+abbrev pub Headline : List ℕ → ℕ → BookState → Type 0
 Headline text n book = HeadlineFor (Some 1048576) text n book
 
 -- of the seats behind those of the sessions the book has Rounds alone
-abbrev pub DriversRound : ℕ → Booklet → Type 0
+abbrev pub DriversRound : ℕ → BookState → Type 0
 DriversRound sessions book = All (λ s. All (λ p. p.0 ≡ call.Round) (entries book.entries s.number)) (drop sessions book.seats)
 
 -- these calls and replies as the entries of one seat
@@ -66,15 +66,15 @@ abbrev pub entries_of : ℕ → List (Call × Reply) → List Entry
 entries_of number calls = map (λ p. entry number p.0 p.1) calls
 
 -- The book has one seat, number 0, and the session was over it. What was not refused for memory or room is what one thread is answered from this text.
-pub record RanOver (text : List ℕ) (readonly : Bool) (book : Booklet) (had left : Input) (held holds : Output) (result : Result Ended ServeFault) : Type 0 where
-  pub seat : Sitting
+pub record RanOver (text : List ℕ) (readonly : Bool) (book : BookState) (had left : Input) (held holds : Output) (result : Result Ended ServeFault) : Type 0 where
+  pub seat : SeatState
   pub seats : book.seats ≡ seat ∷ []
   pub number : seat.number ≡ 0
   pub served : SeatServes readonly most_reads NoneRefused (new_seat seat.desk [] 0) seat had left held holds result
   pub alone : Legal text (entries_of 0 seat.calls) book.router
 
 -- whether a handler of this name can be read, in the last configuration that the book installed
-abbrev pub Answers : List ℕ → Booklet → Check → Type 0
+abbrev pub Answers : List ℕ → BookState → Check → Type 0
 Answers name book answer =
     (text : List ℕ) × (l : Listing) × IsLast (installs book.opening book.entries) text × IsListing text l × (answer ≡ check l direction.Read name)
 
@@ -84,7 +84,7 @@ views_for None = 0
 views_for (Some name) = 1
 
 -- the same of a name that may be given
-abbrev pub IsChecked : Option (List ℕ) → Booklet → Option Check → Type 0
+abbrev pub IsChecked : Option (List ℕ) → BookState → Option Check → Type 0
 IsChecked None book None = Unit {0}
 IsChecked None book (Some answer) = ⊥
 IsChecked (Some name) book None = ⊥

@@ -3,9 +3,9 @@ use Rattle.std.specs.Prelude.{◌≡◌, ℕ, List, [], ◌∷◌, ◌++◌, Boo
 use Rattle.click_rings.specs.Feeds.{FeedName}
 use Rattle.click_router.specs.declared.call.Call.{Call}
 use Rattle.click_router.specs.declared.call.Reply.{Reply}
-use Rattle.click_desk.specs.declared.booked.DeskFault.{DeskFault}
-use Rattle.click_desk.specs.declared.booked.DeskFault.TheVariants as desk
-use Rattle.click_desk.specs.Sittings.{DeskName, Sitting, Calls, IsRefused}
+use Rattle.click_desk.specs.declared.logged_router.DeskFault.{DeskFault}
+use Rattle.click_desk.specs.declared.logged_router.DeskFault.TheVariants as desk
+use Rattle.click_desk.specs.SeatStates.{DeskName, SeatState, Calls, IsRefused}
 use Rattle.click_control.specs.declared.port.AskFault.{AskFault}
 use Rattle.click_control.specs.declared.port.AskFault.TheVariants as ask
 use Rattle.click_control.specs.declared.command.Command.{Command}
@@ -17,11 +17,11 @@ use Rattle.click_control.specs.Peers.{Input, Output}
 use Rattle.click_control.specs.Serving.{call_of, Course, ServesSo}
 
 -- the seat is the one of that number at that desk with those feeds, as before
-abbrev pub SameSeat : Sitting → Sitting → Type 0
+abbrev pub SameSeat : SeatState → SeatState → Type 0
 SameSeat old new = (new.desk ≡ old.desk) × (new.number ≡ old.number) × (new.feeds ≡ old.feeds)
 
 -- a seat of this desk, which has these feeds
-abbrev pub IsOf : DeskName → List FeedName → Sitting → Type 0
+abbrev pub IsOf : DeskName → List FeedName → SeatState → Type 0
 IsOf desk feeds s = (s.desk ≡ desk) × (s.feeds ≡ feeds)
 
 abbrev pub refusal_of : AskFault → DeskFault
@@ -29,7 +29,7 @@ refusal_of ask.NoMemory = desk.NoMemory
 refusal_of ask.HistoryFull = desk.HistoryFull
 
 -- one call of the seat: its list grows by the call and the reply, or the call was refused and the list is as it was
-abbrev pub SeatAsks : Sitting → Call → Result Reply AskFault → Sitting → Type 0
+abbrev pub SeatAsks : SeatState → Call → Result Reply AskFault → SeatState → Type 0
 SeatAsks old c (Ok reply) new = SameSeat old new × Calls old new c reply
 SeatAsks old c (Err f) new = SameSeat old new × IsRefused old new (refusal_of f)
 
@@ -47,7 +47,7 @@ made readonly (c ∷ cs) [] = []
 made readonly (c ∷ cs) (a ∷ answers) = made_one (call_of readonly c) a ++ made readonly cs answers
 
 -- A session over a seat: the seat's list grew by just the asks that were not refused, with their replies.
-pub record SeatServes (readonly : Bool) (most : ℕ) (went : Result Ended ServeFault → Course → Type 0) (old new : Sitting) (had left : Input) (held holds : Output)
+pub record SeatServes (readonly : Bool) (most : ℕ) (went : Result Ended ServeFault → Course → Type 0) (old new : SeatState) (had left : Input) (held holds : Output)
     (result : Result Ended ServeFault) : Type 0 where
   pub same : SameSeat old new
   pub serves : ServesSo SeatAsks readonly most went old new had left held holds result

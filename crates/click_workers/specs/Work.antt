@@ -4,8 +4,8 @@ use Rattle.std.specs.List.{All}
 use Rattle.click_rings.specs.Feeds.{FeedName}
 use Rattle.click_router.specs.declared.call.Call.TheVariants as call
 use Rattle.click_router.specs.declared.call.Reply.{Reply}
-use Rattle.click_desk.specs.declared.booked.DeskFault.{DeskFault}
-use Rattle.click_desk.specs.Sittings.{DeskName, Sitting, IsRefused, new_seat, seats_below}
+use Rattle.click_desk.specs.declared.logged_router.DeskFault.{DeskFault}
+use Rattle.click_desk.specs.SeatStates.{DeskName, SeatState, IsRefused, new_seat, seats_below}
 use Rattle.click_control.specs.Peers.{Input, Output}
 use Rattle.click_control.specs.Serving.{Turned, WentThrough, most_reads}
 use Rattle.click_workers.specs.Gates.{Place, place, AsksGate, TellsGate}
@@ -15,29 +15,29 @@ use Rattle.click_workers.specs.declared.session.SessionEnd.TheVariants as end
 
 -- Why a driver stops ahead of this Round, and what it did to its seat: the gate refused the turn, and the seat is as it was; or the gate gave it, and the desk refused
 -- the call.
-abbrev pub Stops : {G : Type 0} → (G → ℕ → ℕ → Bool → Type 0) → G → ℕ → ℕ → Sitting → Sitting → Type 0
+abbrev pub Stops : {G : Type 0} → (G → ℕ → ℕ → Bool → Type 0) → G → ℕ → ℕ → SeatState → SeatState → Type 0
 Stops gives gate who nth old new =
     (gives gate who nth false × (new ≡ old)) ⊎ (gives gate who nth true × SameSeat old new × ((fault : DeskFault) × IsRefused old new fault))
 
 -- One turn of a driver: the gate gave it, the Round was made, and the gate was told; or it stops, for one of two causes.
-abbrev pub TakesTurn : {G : Type 0} → (G → ℕ → ℕ → Bool → Type 0) → (G → ℕ → ℕ → Type 0) → G → ℕ → ℕ → Sitting → Sitting → Bool → Type 0
+abbrev pub TakesTurn : {G : Type 0} → (G → ℕ → ℕ → Bool → Type 0) → (G → ℕ → ℕ → Type 0) → G → ℕ → ℕ → SeatState → SeatState → Bool → Type 0
 TakesTurn gives told gate who nth old new true =
     gives gate who nth true × told gate who nth × ((reply : Reply) × (new.calls ≡ old.calls ++ (call.Round, reply) ∷ []))
 TakesTurn gives told gate who nth old new false = Stops gives gate who nth old new
 
 -- A driver's calls are Rounds alone, and it is true exactly where they are so many. Each went through the gate; it stops early only where the gate refuses the next
 -- turn or the desk refuses its Round.
-pub record Drives {G : Type 0} (gives : G → ℕ → ℕ → Bool → Type 0) (told : G → ℕ → ℕ → Type 0) (gate : G) (who rounds : ℕ) (s : Sitting) (all : Bool) : Type 0 where
+pub record Drives {G : Type 0} (gives : G → ℕ → ℕ → Bool → Type 0) (told : G → ℕ → ℕ → Type 0) (gate : G) (who rounds : ℕ) (s : SeatState) (all : Bool) : Type 0 where
   pub rounds_alone : All (λ p. p.0 ≡ call.Round) s.calls
   pub within : length s.calls ≤ rounds
   pub full : (all ≡ true) ↔ (length s.calls ≡ rounds)
   pub turned : Turned (AsksGate gives) (TellsGate told) (place gate who) (length s.calls) (place gate who)
-  pub stopped : all ≡ false → (before : Sitting) × Stops gives gate who (length s.calls + 1) before s
+  pub stopped : all ≡ false → (before : SeatState) × Stops gives gate who (length s.calls + 1) before s
 
 -- What came of a session: the door did not let it in and it made no call, or the door let it in under its number with a reader and a writer, and it was served with
 -- these over the seat, with its turns at the gate; `gone` and `wrote` are the reader and the writer after it.
 abbrev pub Attends : {D Rd Wr G : Type 0} → (D → ℕ → Option (Rd × Wr) → Type 0) → (Rd → Input) → (Wr → Output) → (G → ℕ → ℕ → Bool → Type 0) → (G → ℕ → ℕ → Type 0)
-    → D → G → Bool → ℕ → Sitting → Sitting → SessionEnd → Type 0
+    → D → G → Bool → ℕ → SeatState → SeatState → SessionEnd → Type 0
 Attends lets_in input output gives told door gate readonly who old new end.NoEntry = lets_in door who None × (new ≡ old)
 Attends {D} {Rd} {Wr} {G} lets_in input output gives told door gate readonly who old new (end.Served r) =
     (reader : Rd) × (writer : Wr) × (gone : Rd) × (wrote : Wr) × (is : Place G) × lets_in door who (Some (reader, writer))
@@ -45,33 +45,33 @@ Attends {D} {Rd} {Wr} {G} lets_in input output gives told door gate readonly who
 
 -- a session is counted from 1, and had the seat of the number before it from its first call on
 abbrev pub Attended : {D Rd Wr G : Type 0} → (D → ℕ → Option (Rd × Wr) → Type 0) → (Rd → Input) → (Wr → Output) → (G → ℕ → ℕ → Bool → Type 0) → (G → ℕ → ℕ → Type 0)
-    → D → G → Bool → Sitting → SessionEnd → Type 0
+    → D → G → Bool → SeatState → SessionEnd → Type 0
 Attended lets_in input output gives told door gate readonly s e =
     Attends lets_in input output gives told door gate readonly (suc s.number) (new_seat s.desk s.feeds s.number) s e
 
 -- drivers are counted on after the sessions, and each had the seat of the number before it
-abbrev pub Drove : {G : Type 0} → (G → ℕ → ℕ → Bool → Type 0) → (G → ℕ → ℕ → Type 0) → G → ℕ → Sitting → Bool → Type 0
+abbrev pub Drove : {G : Type 0} → (G → ℕ → ℕ → Bool → Type 0) → (G → ℕ → ℕ → Type 0) → G → ℕ → SeatState → Bool → Type 0
 Drove gives told gate rounds s all = Drives gives told gate (suc s.number) rounds s all
 
 -- So many sessions of one place, one after another over one seat, with the end of the last: each goes on where the one before it left the seat.
-abbrev pub InTurn : (Sitting → Sitting → SessionEnd → Type 0) → ℕ → Sitting → Sitting → SessionEnd → Type 0
+abbrev pub InTurn : (SeatState → SeatState → SessionEnd → Type 0) → ℕ → SeatState → SeatState → SessionEnd → Type 0
 InTurn attends zero old new last = ⊥
 InTurn attends (suc zero) old new last = attends old new last
-InTurn attends (suc (suc n)) old new last = (between : Sitting) × (before : SessionEnd) × InTurn attends (suc n) old between before × attends between new last
+InTurn attends (suc (suc n)) old new last = (between : SeatState) × (before : SessionEnd) × InTurn attends (suc n) old between before × attends between new last
 
 -- A place has the number and the seat of a session, and this many sessions, each of which comes in under the place's number.
 abbrev pub AttendedInTurn : {D Rd Wr G : Type 0} → (D → ℕ → Option (Rd × Wr) → Type 0) → (Rd → Input) → (Wr → Output) → (G → ℕ → ℕ → Bool → Type 0) → (G → ℕ → ℕ → Type 0)
-    → D → G → Bool → ℕ → Sitting → SessionEnd → Type 0
+    → D → G → Bool → ℕ → SeatState → SessionEnd → Type 0
 AttendedInTurn lets_in input output gives told door gate readonly turns s e =
     InTurn (Attends lets_in input output gives told door gate readonly (suc s.number)) turns (new_seat s.desk s.feeds s.number) s e
 
 -- A driver that is to make so many Rounds, or, where it goes on as long as anybody may be served, as many as it came to.
-abbrev pub DrivesFor : {G : Type 0} → (G → ℕ → ℕ → Bool → Type 0) → (G → ℕ → ℕ → Type 0) → G → ℕ → Option ℕ → Sitting → Bool → Type 0
+abbrev pub DrivesFor : {G : Type 0} → (G → ℕ → ℕ → Bool → Type 0) → (G → ℕ → ℕ → Type 0) → G → ℕ → Option ℕ → SeatState → Bool → Type 0
 DrivesFor gives told gate who (Some rounds) s all = Drives gives told gate who rounds s all
 DrivesFor gives told gate who None s all = (rounds : ℕ) × Drives gives told gate who rounds s all
 
 -- by the number of its seat
-abbrev pub DroveFor : {G : Type 0} → (G → ℕ → ℕ → Bool → Type 0) → (G → ℕ → ℕ → Type 0) → G → Option ℕ → Sitting → Bool → Type 0
+abbrev pub DroveFor : {G : Type 0} → (G → ℕ → ℕ → Bool → Type 0) → (G → ℕ → ℕ → Type 0) → G → Option ℕ → SeatState → Bool → Type 0
 DroveFor gives told gate rounds s all = DrivesFor gives told gate (suc s.number) rounds s all
 
 abbrev pub SideBySide : {X Y : Type 0} → (X → Y → Type 0) → List X → List Y → Type 0
@@ -86,10 +86,10 @@ numbers_below zero = []
 numbers_below (suc n) = numbers_below n ++ n ∷ []
 
 -- The first seats are those of the sessions, the others those of the drivers, each at the place of its number; what came of each stands at its place.
-pub record Worked (attends : Sitting → SessionEnd → Type 0) (drives : Sitting → Bool → Type 0) (sessions n : ℕ) (seats : List Sitting) (ended : List SessionEnd)
+pub record Worked (attends : SeatState → SessionEnd → Type 0) (drives : SeatState → Bool → Type 0) (sessions n : ℕ) (seats : List SeatState) (ended : List SessionEnd)
     (drivers : List Bool) : Type 0 where
-  pub first : List Sitting
-  pub others : List Sitting
+  pub first : List SeatState
+  pub others : List SeatState
   pub parts : seats ≡ first ++ others
   pub many : length seats ≡ n
   pub numbers : map (λ s. s.number) seats ≡ numbers_below n
@@ -98,7 +98,7 @@ pub record Worked (attends : Sitting → SessionEnd → Type 0) (drives : Sittin
   pub driven : SideBySide drives others drivers
 
 -- New seats of a desk, with room for what comes of each, and nothing yet.
-pub record Ready (desk : DeskName) (sessions n : ℕ) (seats : List Sitting) (ended : List SessionEnd) (drivers : List Bool) (ended_room drivers_room : ℕ) : Type 0 where
+pub record Ready (desk : DeskName) (sessions n : ℕ) (seats : List SeatState) (ended : List SessionEnd) (drivers : List Bool) (ended_room drivers_room : ℕ) : Type 0 where
   pub fresh : (feeds : List FeedName) × (seats ≡ seats_below desk feeds n)
   pub none_ended : ended ≡ []
   pub none_driven : drivers ≡ []

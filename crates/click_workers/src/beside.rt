@@ -1,6 +1,6 @@
 //! Work at a desk beside its sessions and drivers.
 
-use crate::seating::Seating;
+use crate::seat_group::SeatGroup;
 use click_desk::Desk;
 use click_router::Handlers;
 use std::alloc::Global;
@@ -16,7 +16,7 @@ pub trait Beside<T: Handlers + Send + Drop>: Send + Drop {
     ghost use Rattle.click_workers.specs.Seats.{SameSeat};
 
     /// The seats that it takes.
-    type Seats: Seating<T>;
+    type Seats: SeatGroup<T>;
 
     /// What comes of it.
     type Done: Send + Drop;
@@ -41,9 +41,9 @@ pub trait Beside<T: Handlers + Send + Drop>: Send + Drop {
 
 /// No work, and no seat.
 #[derive(Drop)]
-pub struct Alone;
+pub struct NothingBeside;
 
-impl<T: Handlers + Send + Drop> Beside<T> for Alone {
+impl<T: Handlers + Send + Drop> Beside<T> for NothingBeside {
     type Seats = ();
 
     type Done = ();

@@ -4,7 +4,7 @@ ghost use Rattle.std.specs.Prelude.{◌≡◌, ◌<◌, List, ℕ, length, optio
 ghost use Rattle.std.specs.List.{All};
 ghost use Rattle.click_desk.specs.Closing.{Closes, IsEachOnce};
 ghost use Rattle.click_desk.specs.History.{installs};
-ghost use Rattle.click_desk.specs.Sittings.{IsSeat};
+ghost use Rattle.click_desk.specs.SeatStates.{IsSeat};
 ghost use Rattle.click_views.specs.Showing.{BeginsWith};
 ghost use Rattle.click_workers.specs.Runs.{Answers, IsChecked};
 
@@ -21,9 +21,9 @@ pub(crate) struct Asked<'a> {
 
 /// The view learns what each seat was told.
 fn learn_all<T>(view: &mut View, seats: &[Seat<T>])
-    requires { All (λ s. s.desk.terms.origin ≡ view.old.board) seats.now }
+    requires { All (λ s. s.desk.options.origin ≡ view.old.board) seats.now }
     ensures board { view.new.board ≡ view.old.board }
-    ensures told { All (λ s. IsSeat s × BeginsWith view.new.list (installs s.desk.terms.opening s.seen)) seats.now }
+    ensures told { All (λ s. IsSeat s × BeginsWith view.new.list (installs s.desk.options.opening s.seen)) seats.now }
 {
     for at in 0..seats.len() {
         view.learn(seats[at].notice());
@@ -33,7 +33,7 @@ fn learn_all<T>(view: &mut View, seats: &[Seat<T>])
 /// Closes a desk with all its seats.
 pub(crate) fn close_all<T: Drop, R: Wait>(rt: &R, desk: Desk<T, &R>, seats: Vec<Seat<T>>) -> Book<T>
     requires seats { All (λ s. s.desk ≡ desk) seats.items }
-    requires once { IsEachOnce desk.terms.seats seats.items }
+    requires once { IsEachOnce desk.options.seats seats.items }
     ensures { Closes desk.entry seats.items result }
 {
     match desk.close(rt, seats) {
@@ -50,9 +50,9 @@ fn close_and_answer<T: Drop, R: Wait>(
     asked: Asked,
 ) -> (Book<T>, Check)
     requires seats { All (λ s. s.desk ≡ desk) seats.items }
-    requires once { IsEachOnce desk.terms.seats seats.items }
+    requires once { IsEachOnce desk.options.seats seats.items }
     requires some { 0 < length seats.items }
-    requires view { asked.view.board ≡ desk.terms.origin }
+    requires view { asked.view.board ≡ desk.options.origin }
     ensures closes { Closes desk.entry seats.items result.0 }
     ensures checked { Answers asked.entry.name.now result.0 result.1 }
 {
@@ -72,9 +72,9 @@ pub(crate) fn close_and_check<T: Drop, R: Wait>(
     asked: Option<Asked>,
 ) -> (Book<T>, Option<Check>)
     requires seats { All (λ s. s.desk ≡ desk) seats.items }
-    requires once { IsEachOnce desk.terms.seats seats.items }
+    requires once { IsEachOnce desk.options.seats seats.items }
     requires some { 0 < length seats.items }
-    requires view { IfSome asked (λ a. a.view.board ≡ desk.terms.origin) }
+    requires view { IfSome asked (λ a. a.view.board ≡ desk.options.origin) }
     ensures closes { Closes desk.entry seats.items result.0 }
     ensures checked { IsChecked (option_map (λ a. a.name.now) asked.entry) result.0 result.1 }
 {

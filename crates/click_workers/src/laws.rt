@@ -5,9 +5,9 @@ ghost use Rattle.click_control.specs.Serving.{Asked, Course, WentThrough};
 ghost use Rattle.click_control.specs.declared.command.Answer.{Answer};
 ghost use Rattle.click_control.specs.declared.command.Command.{Command};
 ghost use Rattle.click_control.specs.declared.serving.Ended.TheVariants as ended;
-ghost use Rattle.click_desk.specs.Booklet.{Booklet};
+ghost use Rattle.click_desk.specs.BookState.{BookState};
 ghost use Rattle.click_desk.specs.History.{Legal};
-ghost use Rattle.click_desk.specs.Sittings.{Sitting};
+ghost use Rattle.click_desk.specs.SeatStates.{SeatState};
 ghost use Rattle.click_workers.specs.Gates.{Place, place, AsksGate, TellsGate};
 ghost use Rattle.click_workers.specs.Linked.{AreQuiet};
 ghost use Rattle.click_workers.specs.Runs.{Headline, entries_of};
@@ -18,13 +18,13 @@ use crate::gate::{Gate, OpenGate};
 
 /// Of one seat the book's entries are just its calls, so they are those of one thread from the text.
 pub fn one_seat_is_one_thread()
-    ensures { (text : List ℕ) (book : Booklet) (s : Sitting) → Headline text 1 book → book.seats ≡ s ∷ []
+    ensures { (text : List ℕ) (book : BookState) (s : SeatState) → Headline text 1 book → book.seats ≡ s ∷ []
         → (book.entries ≡ entries_of s.number s.calls) × Legal text (entries_of s.number s.calls) book.router }
 {}
 
 /// A seat that is asked these commands, as a session asks them, stays the seat that it is, and its list grows by just the calls that were not refused for memory or room, with their replies.
 pub fn a_seat_grows_by_its_asks()
-    ensures { (readonly : Bool) (old : Sitting) (commands : List Command) (answers : List Answer) (new : Sitting) → Asked SeatAsks readonly old commands answers new
+    ensures { (readonly : Bool) (old : SeatState) (commands : List Command) (answers : List Answer) (new : SeatState) → Asked SeatAsks readonly old commands answers new
         → SameSeat old new × (new.calls ≡ old.calls ++ made readonly commands answers) }
 {}
 

@@ -3,7 +3,7 @@
 ghost use Rattle.std.specs.Prelude.{◌≡◌, ◌<◌, ◌≤◌, ◌+◌, ◌++◌, ◌∷◌, List, ℕ, [], true, None, IfOk, IfErr, length, map, option_map, vec_len, vec_capacity};
 ghost use Rattle.std.specs.List.{All, AllZip};
 ghost use Rattle.std.specs.Thread.{IsSend, IsSync};
-ghost use Rattle.click_rings.specs.Feeds.{FeedName, RingName, are_apart, name_of};
+ghost use Rattle.click_rings.specs.Feeds.{FeedName, RingName, have_distinct_devices, name_of};
 ghost use Rattle.click_links.specs.Fates.{Receives};
 ghost use Rattle.click_links.specs.Forwarding.{Forwards, sent_by, gifts_by};
 ghost use Rattle.click_links.specs.Turns.{names_of};
@@ -13,21 +13,21 @@ ghost use Rattle.click_workers.specs.Runs.{HeadlineWith, IsOpenedFor};
 ghost use Rattle.click_workers.specs.Seats.{IsOf, SameSeat};
 ghost use Rattle.click_workers.specs.Work.{AttendedInTurn, DroveFor, Ready, SideBySide, Worked, numbers_below};
 
-use crate::beside::{Alone, Beside};
+use crate::beside::{Beside, NothingBeside};
 use crate::clients::Clients;
-use crate::crew::{Begun, Crew, begin, finish, serve_beside};
 use crate::door::Door;
 use crate::gate::Gate;
 use crate::opening::Opening;
+use crate::run_seats::{OpenedRun, RunSeats, begin, finish, serve_beside};
 use crate::runs::AllRan;
-use crate::seating::Seating;
+use crate::seat_group::SeatGroup;
 use crate::session::SessionEnd;
+use click_base::sequence::Sequence;
 use click_desk::{Book, Desk, OpenFault, Seat};
 use click_links::{Device, Inbound, Linked, Links, Outbound, Received, Receiving, run_links};
 use click_packet::StoredPacket;
 use click_rings::Feed;
 use click_router::Handlers;
-use click_text::sequence::Sequence;
 use std::alloc::Global;
 use std::sync::Wait;
 use std::sync::atomic::{AtomicBool, Ordering};
@@ -57,7 +57,7 @@ pub struct LinkedRan<T, L, S> {
 
 /// The links of a run: the devices that they are of, in one order with them, and the end by which packets go out.
 #[derive(Drop)]
-pub struct Wiring<'a, L, S> {
+pub struct LinkSetup<'a, L, S> {
     pub devices: &'a [Device],
     pub links: Links<L>,
     pub sender: S,
@@ -65,7 +65,7 @@ pub struct Wiring<'a, L, S> {
 
 /// The same without the inlets, which the desk has: what runs, and what is left of it.
 #[derive(Drop)]
-struct Wires<'a, L, S> {
+struct LinkParts<'a, L, S> {
     devices: &'a [Device],
     receivers: Vec<Receiving<L>>,
     sender: S,
@@ -85,24 +85,24 @@ fn serve_linked<
     alloc: Global,
     desk: &Desk<T, &R>,
     clients: Clients<D, G>,
-    wires: Wires<L, S>,
+    wires: LinkParts<L, S>,
     beside: B,
-    crew: Crew<T, (Seat<T>, B::Seats)>,
-) -> (Crew<T, B::Seats>, B::Done, Linked<T, L, S>)
-    requires ready { Ready desk.now clients.places (vec_len crew.work.seats) crew.work.seats.items crew.work.ended.items crew.work.drivers.items (vec_capacity crew.work.ended) (vec_capacity crew.work.drivers) }
+    run_seats: RunSeats<T, (Seat<T>, B::Seats)>,
+) -> (RunSeats<T, B::Seats>, B::Done, Linked<T, L, S>)
+    requires ready { Ready desk.now clients.places (vec_len run_seats.work.seats) run_seats.work.seats.items run_seats.work.ended.items run_seats.work.drivers.items (vec_capacity run_seats.work.ended) (vec_capacity run_seats.work.drivers) }
     requires turns { 0 < clients.turns }
-    requires forwarder { crew.beside.0.desk ≡ desk.now }
-    requires of { All (λ s. s.desk ≡ desk.now) (B.Seats.sittings crew.beside.1) }
+    requires forwarder { run_seats.beside.0.desk ≡ desk.now }
+    requires of { All (λ s. s.desk ≡ desk.now) (B.Seats.sittings run_seats.beside.1) }
     requires devices { vec_len wires.receivers ≤ length wires.devices.now }
-    ensures desk { (feeds : List FeedName) → All (IsOf desk.now feeds) crew.work.seats.items → All (IsOf desk.now feeds) result.0.work.seats.items }
+    ensures desk { (feeds : List FeedName) → All (IsOf desk.now feeds) run_seats.work.seats.items → All (IsOf desk.now feeds) result.0.work.seats.items }
     ensures worked { Worked (AttendedInTurn D.lets_in D.Reader.input D.Writer.output G.gives G.told clients.entry.door.now clients.entry.gate.now clients.entry.readonly clients.entry.turns)
-        (DroveFor G.gives G.told clients.entry.gate.now None) clients.entry.places (vec_len crew.work.seats) result.0.work.seats.items result.0.work.ended.items result.0.work.drivers.items }
-    ensures room { vec_capacity crew.work.seats ≤ vec_capacity result.0.work.seats }
-    ensures beside { AllZip SameSeat (B.Seats.sittings crew.beside.1) (B.Seats.sittings result.0.beside) }
-    ensures does { B.does beside crew.beside.1 result.0.beside result.1 }
+        (DroveFor G.gives G.told clients.entry.gate.now None) clients.entry.places (vec_len run_seats.work.seats) result.0.work.seats.items result.0.work.ended.items result.0.work.drivers.items }
+    ensures room { vec_capacity run_seats.work.seats ≤ vec_capacity result.0.work.seats }
+    ensures beside { AllZip SameSeat (B.Seats.sittings run_seats.beside.1) (B.Seats.sittings result.0.beside) }
+    ensures does { B.does beside run_seats.beside.1 result.0.beside result.1 }
     ensures receives { AllZip (λ old new. (new.device ≡ old.device) × Receives (L.came old.link) (L.came new.link) old.intake new.intake new.received.dropped) wires.entry.receivers.items result.2.links.items }
-    ensures same { SameSeat crew.beside.0 result.2.seat }
-    ensures forwards { Forwards (names_of wires.entry.devices.now) crew.beside.0.calls result.2.seat.calls (S.tried wires.entry.sender) (S.tried result.2.sender) }
+    ensures same { SameSeat run_seats.beside.0 result.2.seat }
+    ensures forwards { Forwards (names_of wires.entry.devices.now) run_seats.beside.0.calls result.2.seat.calls (S.tried wires.entry.sender) (S.tried result.2.sender) }
 {
     let stop = AtomicBool::new(false);
     let stop = &stop;
@@ -114,16 +114,16 @@ fn serve_linked<
         workers,
         turns,
     } = clients;
-    let Wires {
+    let LinkParts {
         devices,
         receivers,
         sender,
     } = wires;
-    let Crew {
+    let RunSeats {
         work,
         beside: (forwarder, seats),
-    } = crew;
-    let (linked, (crew, done)) = thread::join(
+    } = run_seats;
+    let (linked, (run_seats, done)) = thread::join(
         rt,
         move || -> Linked<T, L, S>
             requires { IsSync R.row × IsSend L.row × IsSend S.row × IsSend T.row × (forwarder.desk ≡ desk.now) × (vec_len receivers ≤ length devices.now) }
@@ -131,7 +131,7 @@ fn serve_linked<
                 × SameSeat forwarder result.seat
                 × Forwards (names_of devices.entry.now) forwarder.calls result.seat.calls (S.tried sender) (S.tried result.sender) }
         { run_links(rt, alloc, desk, forwarder, devices, receivers, sender, stop) },
-        move || -> (Crew<T, B::Seats>, B::Done)
+        move || -> (RunSeats<T, B::Seats>, B::Done)
             requires { IsSync R.row × IsSync D.row × IsSync G.row × IsSend T.row × IsSend B.row × Ready desk.now places (vec_len work.seats) work.seats.items work.ended.items work.drivers.items (vec_capacity work.ended) (vec_capacity work.drivers) × (0 < turns) × All (λ s. s.desk ≡ desk.now) (B.Seats.sittings seats) }
             ensures { ((feeds : List FeedName) → All (IsOf desk.entry.now feeds) work.seats.items → All (IsOf desk.entry.now feeds) result.0.work.seats.items)
                 × Worked (AttendedInTurn D.lets_in D.Reader.input D.Writer.output G.gives G.told door.entry.now gate.entry.now readonly turns) (DroveFor G.gives G.told gate.entry.now None)
@@ -147,16 +147,16 @@ fn serve_linked<
                 workers,
                 turns,
             };
-            let crew = Crew {
+            let run_seats = RunSeats {
                 work,
                 beside: seats,
             };
-            let served = serve_beside(rt, alloc, desk, clients, None, beside, crew);
+            let served = serve_beside(rt, alloc, desk, clients, None, beside, run_seats);
             stop.store(true, Ordering::SeqCst);
             served
         },
     );
-    (crew, done, linked)
+    (run_seats, done, linked)
 }
 
 /// Settles the feed of a device: the packets of it that did not enter, where there is memory to tell them.
@@ -166,10 +166,10 @@ fn left_of<T>(
     device: &[u8],
     feed: Feed,
 ) -> Option<Vec<StoredPacket>>
-    requires { HasRing book.old.taps device.now feed.ring }
-    ensures book { book.new ≡ record book.old { taps = book.new.taps } }
-    ensures others { (other : List ℕ) (ring : RingName) → (other ≡ device.now → ⊥) → HasRing book.old.taps other ring → HasRing book.new.taps other ring }
-    ensures none { book.old.taps ≡ [] → book.new.taps ≡ [] }
+    requires { HasRing book.old.consumers device.now feed.ring }
+    ensures book { book.new ≡ record book.old { consumers = book.new.consumers } }
+    ensures others { (other : List ℕ) (ring : RingName) → (other ≡ device.now → ⊥) → HasRing book.old.consumers other ring → HasRing book.new.consumers other ring }
+    ensures none { book.old.consumers ≡ [] → book.new.consumers ≡ [] }
     ensures left { IsSettled book.old.entries device.now feed.put (option_map (λ l. l.items) result) }
 {
     let Some(end) = feed.finish() else {
@@ -183,10 +183,10 @@ fn left_of<T>(
 
 /// Settles the feed of a link.
 fn settle_one<T, L>(alloc: Global, book: &mut Book<T>, receiver: Receiving<L>) -> LinkEnd<L>
-    requires { HasRing book.old.taps receiver.device receiver.intake.feed.ring }
-    ensures book { book.new ≡ record book.old { taps = book.new.taps } }
-    ensures others { (other : List ℕ) (ring : RingName) → (other ≡ receiver.device → ⊥) → HasRing book.old.taps other ring → HasRing book.new.taps other ring }
-    ensures none { book.old.taps ≡ [] → book.new.taps ≡ [] }
+    requires { HasRing book.old.consumers receiver.device receiver.intake.feed.ring }
+    ensures book { book.new ≡ record book.old { consumers = book.new.consumers } }
+    ensures others { (other : List ℕ) (ring : RingName) → (other ≡ receiver.device → ⊥) → HasRing book.old.consumers other ring → HasRing book.new.consumers other ring }
+    ensures none { book.old.consumers ≡ [] → book.new.consumers ≡ [] }
     ensures same { (result.device ≡ receiver.device) × (result.link ≡ receiver.link) × (result.received ≡ receiver.received) }
     ensures left { IsSettled book.old.entries receiver.device receiver.intake.feed.put (option_map (λ l. l.items) result.left) }
 {
@@ -212,11 +212,11 @@ fn settle_all<T, L: Drop>(
     receivers: Vec<Receiving<L>>,
     ends: &mut Vec<LinkEnd<L>>,
 )
-    requires feeds { All (λ r. HasRing book.old.taps r.device r.intake.feed.ring) receivers.items }
-    requires apart { are_apart (map (λ r. record { device = r.device; ring = r.intake.feed.ring }) receivers.items) ≡ true }
+    requires feeds { All (λ r. HasRing book.old.consumers r.device r.intake.feed.ring) receivers.items }
+    requires apart { have_distinct_devices (map (λ r. record { device = r.device; ring = r.intake.feed.ring }) receivers.items) ≡ true }
     requires room { (ends.old.items ≡ []) × (length receivers.items ≤ vec_capacity ends.old) }
-    ensures book { book.new ≡ record book.old { taps = book.new.taps } }
-    ensures none { book.old.taps ≡ [] → book.new.taps ≡ [] }
+    ensures book { book.new ≡ record book.old { consumers = book.new.consumers } }
+    ensures none { book.old.consumers ≡ [] → book.new.consumers ≡ [] }
     ensures ends { SideBySide (λ r e. (e.device ≡ r.device) × (e.link ≡ r.link) × (e.received ≡ r.received) × IsSettled book.old.entries r.device r.intake.feed.put (option_map (λ l. l.items) e.left)) receivers.items ends.new.items }
 {
     for receiver in receivers {
@@ -232,11 +232,11 @@ fn settle<T: Drop, L: Drop, S>(
     sender: S,
     mut links: Vec<LinkEnd<L>>,
 ) -> LinkedRan<T, L, S>
-    requires feeds { map name_of all.book.taps ≡ map (λ r. record { device = r.device; ring = r.intake.feed.ring }) receivers.items }
-    requires apart { are_apart (map (λ r. record { device = r.device; ring = r.intake.feed.ring }) receivers.items) ≡ true }
+    requires feeds { map name_of all.book.consumers ≡ map (λ r. record { device = r.device; ring = r.intake.feed.ring }) receivers.items }
+    requires apart { have_distinct_devices (map (λ r. record { device = r.device; ring = r.intake.feed.ring }) receivers.items) ≡ true }
     requires ends { (links.items ≡ []) × (length receivers.items ≤ vec_capacity links) }
-    ensures book { result.book ≡ record all.book { taps = result.book.taps } }
-    ensures none { all.book.taps ≡ [] → result.book.taps ≡ [] }
+    ensures book { result.book ≡ record all.book { consumers = result.book.consumers } }
+    ensures none { all.book.consumers ≡ [] → result.book.consumers ≡ [] }
     ensures links { SideBySide (λ r e. (e.device ≡ r.device) × (e.link ≡ r.link) × (e.received ≡ r.received) × IsSettled all.book.entries r.device r.intake.feed.put (option_map (λ l. l.items) e.left)) receivers.items result.links.items }
     ensures rest { (result.ended.items ≡ all.ended.items) × (result.drivers.items ≡ all.drivers.items) × (result.sender ≡ sender) }
 {
@@ -257,37 +257,37 @@ fn settle<T: Drop, L: Drop, S>(
 }
 
 /// Closes the desk with all its seats, and settles the links' feeds.
-fn close_and_settle<T: Send + Drop, L: Drop, S, H: Seating<T>, R: Wait>(
+fn close_and_settle<T: Send + Drop, L: Drop, S, H: SeatGroup<T>, R: Wait>(
     rt: &R,
     alloc: Global,
     desk: Desk<T, &R>,
-    crew: Crew<T, H>,
+    run_seats: RunSeats<T, H>,
     linked: Linked<T, L, S>,
     links: Vec<LinkEnd<L>>,
 ) -> LinkedRan<T, L, S>
-    requires of { All (IsOf desk (map (λ r. record { device = r.device; ring = r.intake.feed.ring }) linked.links.items)) (crew.work.seats.items ++ linked.seat ∷ H.sittings crew.beside) }
-    requires numbers { map (λ s. s.number) (crew.work.seats.items ++ linked.seat ∷ H.sittings crew.beside) ≡ numbers_below desk.terms.seats }
-    requires apart { are_apart (map (λ r. record { device = r.device; ring = r.intake.feed.ring }) linked.links.items) ≡ true }
-    requires some { 0 < vec_len crew.work.seats }
-    requires room { vec_len crew.work.seats + length (H.sittings crew.beside) < vec_capacity crew.work.seats }
+    requires of { All (IsOf desk (map (λ r. record { device = r.device; ring = r.intake.feed.ring }) linked.links.items)) (run_seats.work.seats.items ++ linked.seat ∷ H.sittings run_seats.beside) }
+    requires numbers { map (λ s. s.number) (run_seats.work.seats.items ++ linked.seat ∷ H.sittings run_seats.beside) ≡ numbers_below desk.options.seats }
+    requires apart { have_distinct_devices (map (λ r. record { device = r.device; ring = r.intake.feed.ring }) linked.links.items) ≡ true }
+    requires some { 0 < vec_len run_seats.work.seats }
+    requires room { vec_len run_seats.work.seats + length (H.sittings run_seats.beside) < vec_capacity run_seats.work.seats }
     requires ends { (links.items ≡ []) × (length linked.links.items ≤ vec_capacity links) }
     ensures headline { (text : List ℕ) (n : ℕ) → IsOpenedFor None text n desk.entry → HeadlineWith (map (λ r. record { device = r.device; ring = r.intake.feed.ring }) linked.links.items) None text n result.book }
-    ensures seats { result.book.seats ≡ crew.work.seats.items ++ linked.seat ∷ H.sittings crew.beside }
+    ensures seats { result.book.seats ≡ run_seats.work.seats.items ++ linked.seat ∷ H.sittings run_seats.beside }
     ensures links { SideBySide (λ r e. (e.device ≡ r.device) × (e.link ≡ r.link) × (e.received ≡ r.received) × IsSettled result.book.entries r.device r.intake.feed.put (option_map (λ l. l.items) e.left)) linked.links.items result.links.items }
-    ensures rest { (result.ended.items ≡ crew.work.ended.items) × (result.drivers.items ≡ crew.work.drivers.items) × (result.sender ≡ linked.sender) }
+    ensures rest { (result.ended.items ≡ run_seats.work.ended.items) × (result.drivers.items ≡ run_seats.work.drivers.items) × (result.sender ≡ linked.sender) }
 {
-    let Crew { work, beside } = crew;
+    let RunSeats { work, beside } = run_seats;
     let Linked {
         links: receivers,
         seat,
         sender,
         fault: _,
     } = linked;
-    let crew = Crew {
+    let run_seats = RunSeats {
         work,
         beside: (seat, beside),
     };
-    let all = finish(rt, desk, crew, None);
+    let all = finish(rt, desk, run_seats, None);
     settle(alloc, all, receivers, sender, links)
 }
 
@@ -311,7 +311,7 @@ pub fn run_linked_beside<
     table: T,
     text: &[u8],
     clients: Clients<D, G>,
-    linking: Wiring<L, S>,
+    linking: LinkSetup<L, S>,
     beside: B,
 ) -> Result<(LinkedRan<T, L, S>, B::Done), OpenFault>
     requires many { (0 < clients.places + clients.workers) × (clients.places + clients.workers + (1 + B.Seats.many) ≤ 256) }
@@ -328,7 +328,7 @@ pub fn run_linked_beside<
         linking.entry.links.receivers.items ran.0.links.items) }
     ensures config { IfErr result (IsTrueOpening (clients.entry.places + clients.entry.workers + (1 + B.Seats.many)) (names_of linking.entry.devices.now) text.now) }
 {
-    let Wiring {
+    let LinkSetup {
         devices,
         links,
         sender,
@@ -342,9 +342,9 @@ pub fn run_linked_beside<
         room: None,
         check: None,
     };
-    let Begun {
+    let OpenedRun {
         desk,
-        crew,
+        run_seats,
         asked: _,
     } = match begin(
         rt,
@@ -358,13 +358,15 @@ pub fn run_linked_beside<
         Ok(begun) => begun,
         Err(fault) => return Err(fault),
     };
-    let wires = Wires {
+    let wires = LinkParts {
         devices,
         receivers,
         sender,
     };
-    let (crew, done, linked) = serve_linked(rt, alloc, &desk, clients, wires, beside, crew);
-    let ran = close_and_settle(rt, alloc, desk, crew, linked, ends);
+    let (run_seats, done, linked) = serve_linked(
+        rt, alloc, &desk, clients, wires, beside, run_seats,
+    );
+    let ran = close_and_settle(rt, alloc, desk, run_seats, linked, ends);
     Ok((ran, done))
 }
 
@@ -401,12 +403,12 @@ pub fn run_linked<
         links.receivers.items ran.links.items) }
     ensures config { IfErr result (IsTrueOpening (clients.entry.places + clients.entry.workers + 1) (names_of devices.now) text.now) }
 {
-    let linking = Wiring {
+    let linking = LinkSetup {
         devices,
         links,
         sender,
     };
-    match run_linked_beside(rt, alloc, table, text, clients, linking, Alone) {
+    match run_linked_beside(rt, alloc, table, text, clients, linking, NothingBeside) {
         Ok((ran, ())) => Ok(ran),
         Err(fault) => Err(fault),
     }

@@ -4,8 +4,8 @@ ghost use Rattle.std.specs.Prelude.{◌≡◌, ◌∷◌, [], IfOk, IfErr, IfSom
 ghost use Rattle.boxcar.specs.Table.{Shelves};
 ghost use Rattle.std.specs.List.{All};
 ghost use Rattle.click_desk.specs.Openings.{IsViewFault};
-ghost use Rattle.click_desk.specs.Sittings.{seats_below};
-ghost use Rattle.click_rings.specs.Feeds.{are_apart};
+ghost use Rattle.click_desk.specs.SeatStates.{seats_below};
+ghost use Rattle.click_rings.specs.Feeds.{have_distinct_devices};
 ghost use Rattle.click_workers.specs.Runs.{IsOpenedFor, views_for};
 
 use crate::checking::Asked;
@@ -69,8 +69,8 @@ fn open_for<'a, T: Drop, R: Wait>(
 ) -> Result<(Desk<T, &'a R>, Vec<Seat<T>>, Vec<View>), OpenRefused<T>>
     ensures desk { IfOk result (λ r. IsOpenedFor opening.entry.room opening.entry.text.now seats r.0) }
     ensures seats { IfOk result (λ r. (r.1.items ≡ seats_below r.0 inlets.items seats) × All (λ s. s.desk ≡ r.0) r.1.items) }
-    ensures apart { IfOk result (λ r. are_apart inlets.items ≡ true) }
-    ensures views { IfOk result (λ r. (length r.2.items ≡ views) × All (λ v. v ≡ record { board = r.0.terms.origin; list = opening.entry.text.now ∷ [] }) r.2.items) }
+    ensures apart { IfOk result (λ r. have_distinct_devices inlets.items ≡ true) }
+    ensures views { IfOk result (λ r. (length r.2.items ≡ views) × All (λ v. v ≡ record { board = r.0.options.origin; list = opening.entry.text.now ∷ [] }) r.2.items) }
     ensures fault { IfErr result (λ r. IsViewFault seats inlets.items views opening.entry.text.now r.fault) }
 {
     let Opening {
@@ -95,9 +95,9 @@ pub(crate) fn open_with<'a, 'b, T: Drop, R: Wait>(
 ) -> Result<Opened<'a, 'b, T, R>, OpenFault>
     ensures desk { IfOk result (λ o. IsOpenedFor opening.entry.room opening.entry.text.now seats o.desk) }
     ensures seats { IfOk result (λ o. (o.seats.items ≡ seats_below o.desk inlets.items seats) × All (λ s. s.desk ≡ o.desk) o.seats.items) }
-    ensures apart { IfOk result (λ o. are_apart inlets.items ≡ true) }
+    ensures apart { IfOk result (λ o. have_distinct_devices inlets.items ≡ true) }
     ensures name { IfOk result (λ o. option_map (λ a. a.name.now) o.asked ≡ option_map (λ n. n.now) opening.entry.check) }
-    ensures view { IfOk result (λ o. IfSome o.asked (λ a. a.view.board ≡ o.desk.terms.origin)) }
+    ensures view { IfOk result (λ o. IfSome o.asked (λ a. a.view.board ≡ o.desk.options.origin)) }
     ensures fault { IfErr result (IsViewFault seats inlets.items (views_for (option_map (λ n. n.now) opening.entry.check)) opening.entry.text.now) }
 {
     let views = views_asked(opening.check);

@@ -1,18 +1,18 @@
 //! Whole runs.
 
 ghost use Rattle.std.specs.Prelude.{◌≡◌, ◌↔◌, ◌<◌, ◌≤◌, ◌+◌, List, ℕ, [], None, IfOk, IfErr, IfSome, OnErr, option_map};
-ghost use Rattle.click_desk.specs.Sittings.{seats_below};
+ghost use Rattle.click_desk.specs.SeatStates.{seats_below};
 ghost use Rattle.click_workers.specs.Beside.{BesideWork};
 ghost use Rattle.click_workers.specs.Work.{Attended, AttendedInTurn, Drove, DroveFor, Worked};
 ghost use Rattle.click_workers.specs.Runs.{Headline, HeadlineFor, IsOpenedFor, IsOpenedWith, DriversRound, RanOver, IsChecked, IsTrueFault, IsNoClose, IsViewAsked, IsLate};
 
-use crate::beside::{Alone, Beside};
+use crate::beside::{Beside, NothingBeside};
 use crate::checking::{Asked, close_and_check};
 use crate::clients::Clients;
-use crate::crew::{Begun, begin, finish, serve_beside};
 use crate::door::Door;
 use crate::gate::Gate;
 use crate::opening::{Opened, Opening, open_with};
+use crate::run_seats::{OpenedRun, begin, finish, serve_beside};
 use crate::session::{SessionEnd, serve_alone};
 use click_control::{Ended, ServeFault, Sink, Source};
 use click_desk::{Book, Desk, OpenFault, Seat};
@@ -91,10 +91,10 @@ fn open_one<'a, 'b, T: Drop, R: Wait>(
     opening: Opening<'b>,
 ) -> Result<Opened<'a, 'b, T, R>, RunFault>
     ensures desk { IfOk result (λ o. IsOpenedFor opening.entry.room opening.entry.text.now 1 o.desk) }
-    ensures many { IfOk result (λ o. o.desk.terms.seats ≡ 1) }
+    ensures many { IfOk result (λ o. o.desk.options.seats ≡ 1) }
     ensures seats { IfOk result (λ o. o.seats.items ≡ seats_below o.desk [] 1) }
     ensures name { IfOk result (λ o. option_map (λ a. a.name.now) o.asked ≡ option_map (λ n. n.now) opening.entry.check) }
-    ensures view { IfOk result (λ o. IfSome o.asked (λ a. a.view.board ≡ o.desk.terms.origin)) }
+    ensures view { IfOk result (λ o. IfSome o.asked (λ a. a.view.board ≡ o.desk.options.origin)) }
     ensures config { IfErr result (IsTrueFault opening.entry.text.now) }
     ensures never_close { IfErr result IsNoClose }
     ensures view_asked { IfErr result (IsViewAsked (option_map (λ n. n.now) opening.entry.check)) }
@@ -116,9 +116,9 @@ fn serve_and_close<T: Handlers + Drop, S: Source, W: Sink, R: Wait>(
     readonly: bool,
     asked: Option<Asked>,
 ) -> Ran<T>
-    requires many { desk.terms.seats ≡ 1 }
+    requires many { desk.options.seats ≡ 1 }
     requires seats { seats.items ≡ seats_below desk [] 1 }
-    requires view { IfSome asked (λ a. a.view.board ≡ desk.terms.origin) }
+    requires view { IfSome asked (λ a. a.view.board ≡ desk.options.origin) }
     ensures headline { (text : List ℕ) → IsOpenedWith text 1 desk.entry → Headline text 1 result.book }
     ensures served { (text : List ℕ) → IsOpenedWith text 1 desk.entry → RanOver text readonly result.book (S.input reader.old) (S.input reader.new) (W.output writer.old) (W.output writer.new) result.ended }
     ensures checked { IsChecked (option_map (λ a. a.name.now) asked.entry) result.book result.checked }
@@ -204,7 +204,11 @@ pub fn run_beside<
     ensures view_asked { IfErr result (IsViewAsked (option_map (λ n. n.now) opening.entry.check)) }
 {
     let inlets = Vec::new(alloc);
-    let Begun { desk, crew, asked } = match begin(
+    let OpenedRun {
+        desk,
+        run_seats,
+        asked,
+    } = match begin(
         rt,
         alloc,
         table,
@@ -216,8 +220,8 @@ pub fn run_beside<
         Ok(begun) => begun,
         Err(fault) => return Err(fault_of(fault)),
     };
-    let (crew, done) = serve_beside(rt, alloc, &desk, clients, rounds, beside, crew);
-    let all = finish(rt, desk, crew, asked);
+    let (run_seats, done) = serve_beside(rt, alloc, &desk, clients, rounds, beside, run_seats);
+    let all = finish(rt, desk, run_seats, asked);
     Ok(BesideRan { all, done })
 }
 
@@ -241,7 +245,7 @@ fn run_alone<T: Handlers + Send + Drop, D: Door, G: Gate, R: Threads + Wait + Sy
     ensures never_close { IfErr result IsNoClose }
     ensures view_asked { IfErr result (IsViewAsked (option_map (λ n. n.now) opening.entry.check)) }
 {
-    match run_beside(rt, alloc, table, opening, clients, rounds, Alone) {
+    match run_beside(rt, alloc, table, opening, clients, rounds, NothingBeside) {
         Ok(ran) => {
             let BesideRan { all, done: _ } = ran;
             Ok(all)

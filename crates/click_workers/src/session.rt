@@ -9,7 +9,7 @@ use crate::door::Door;
 use crate::gate::{AtGate, Gate};
 use crate::pause::Pause;
 use crate::places::Places;
-use crate::seated::Seated;
+use crate::seat_port::SeatPort;
 use click_control::{Ended, ServeFault, Sink, Source, Turns, serve, serve_turns};
 use click_desk::{Desk, Seat};
 use click_router::Handlers;
@@ -32,7 +32,7 @@ pub fn serve_at<T: Handlers, S: Source, W: Sink, G: Turns, R: Wait>(
     ensures { SeatServes readonly reads (WentThrough G.turn G.done turns.old turns.new) seat result.1 (S.input reader.old) (S.input reader.new)
         (W.output writer.old) (W.output writer.new) result.0 }
 {
-    let mut port = Seated::new(rt, desk, seat);
+    let mut port = SeatPort::new(rt, desk, seat);
     let ended = serve_turns(alloc, reader, writer, &mut port, readonly, turns, reads);
     (ended, port.into_seat())
 }
@@ -50,7 +50,7 @@ pub(crate) fn serve_alone<T: Handlers, S: Source, W: Sink, R: Wait>(
     requires { seat.desk ≡ desk.now }
     ensures { SeatServes readonly most_reads NoneRefused seat result.1 (S.input reader.old) (S.input reader.new) (W.output writer.old) (W.output writer.new) result.0 }
 {
-    let mut port = Seated::new(rt, desk, seat);
+    let mut port = SeatPort::new(rt, desk, seat);
     let ended = serve(alloc, reader, writer, &mut port, readonly);
     (ended, port.into_seat())
 }

@@ -4,15 +4,15 @@ ghost use Rattle.std.specs.Prelude.{◌≡◌, ◌≤◌, ◌<◌, ◌+◌, ◌+
 ghost use Rattle.std.specs.List.{All};
 ghost use Rattle.std.specs.Thread.{IsSend, IsSync};
 ghost use Rattle.click_rings.specs.Feeds.{FeedName};
-ghost use Rattle.click_desk.specs.Sittings.{new_seat};
+ghost use Rattle.click_desk.specs.SeatStates.{new_seat};
 ghost use Rattle.click_workers.specs.Seats.{SameSeat, IsOf};
 ghost use Rattle.click_workers.specs.Work.{Attends, AttendedInTurn, DrivesFor, DroveFor, InTurn, Ready, Worked};
 
 use crate::door::Door;
 use crate::driver::drive_for;
-use crate::extent::Extent;
 use crate::gate::Gate;
 use crate::places::Places;
+use crate::run_limits::RunLimits;
 use crate::session::{SessionEnd, attend_in_turn};
 use click_desk::{Desk, Seat};
 use click_router::Handlers;
@@ -64,14 +64,14 @@ pub(crate) fn work_all<T: Handlers + Send + Drop, D: Door, G: Gate, R: Threads +
     door: &D,
     gate: &G,
     sessions: usize,
-    extent: Extent,
+    run_limits: RunLimits,
     places: &Places,
     work: Work<T>,
 ) -> Work<T>
     requires ready { Ready desk.now sessions (vec_len work.seats) work.seats.items work.ended.items work.drivers.items (vec_capacity work.ended) (vec_capacity work.drivers) }
-    requires some { 0 < extent.turns }
+    requires some { 0 < run_limits.turns }
     ensures desk { (feeds : List FeedName) → All (IsOf desk.now feeds) work.seats.items → All (IsOf desk.now feeds) result.seats.items }
-    ensures worked { Worked (AttendedInTurn D.lets_in D.Reader.input D.Writer.output G.gives G.told door.now gate.now readonly extent.turns) (DroveFor G.gives G.told gate.now extent.rounds)
+    ensures worked { Worked (AttendedInTurn D.lets_in D.Reader.input D.Writer.output G.gives G.told door.now gate.now readonly run_limits.turns) (DroveFor G.gives G.told gate.now run_limits.rounds)
         sessions (vec_len work.seats) result.seats.items result.ended.items result.drivers.items }
     ensures room { (vec_capacity work.seats ≤ vec_capacity result.seats) × (vec_capacity work.ended ≤ vec_capacity result.ended) × (vec_capacity work.drivers ≤ vec_capacity result.drivers) }
 {
@@ -85,17 +85,17 @@ pub(crate) fn work_all<T: Handlers + Send + Drop, D: Door, G: Gate, R: Threads +
             rt,
             move || -> (bool, Seat<T>)
                 requires { IsSync R.row × IsSync G.row × (seat.desk ≡ desk.now) × (seat.calls ≡ []) }
-                ensures { SameSeat seat result.1 × DrivesFor G.gives G.told gate.entry.now who extent.rounds result.1 result.0 }
-            { drive_for(rt, desk, seat, gate, who, extent.rounds, places) },
+                ensures { SameSeat seat result.1 × DrivesFor G.gives G.told gate.entry.now who run_limits.rounds result.1 result.0 }
+            { drive_for(rt, desk, seat, gate, who, run_limits.rounds, places) },
             move || -> Work<T>
-                requires { IsSync R.row × IsSync D.row × IsSync G.row × IsSend T.row × Ready desk.now sessions (vec_len rest.seats) rest.seats.items rest.ended.items rest.drivers.items (vec_capacity rest.ended) (vec_capacity rest.drivers) × (0 < extent.turns) }
+                requires { IsSync R.row × IsSync D.row × IsSync G.row × IsSend T.row × Ready desk.now sessions (vec_len rest.seats) rest.seats.items rest.ended.items rest.drivers.items (vec_capacity rest.ended) (vec_capacity rest.drivers) × (0 < run_limits.turns) }
                 ensures { ((feeds : List FeedName) → All (IsOf desk.entry.now feeds) rest.seats.items → All (IsOf desk.entry.now feeds) result.seats.items)
-                    × Worked (AttendedInTurn D.lets_in D.Reader.input D.Writer.output G.gives G.told door.entry.now gate.entry.now readonly extent.turns) (DroveFor G.gives G.told gate.entry.now extent.rounds)
+                    × Worked (AttendedInTurn D.lets_in D.Reader.input D.Writer.output G.gives G.told door.entry.now gate.entry.now readonly run_limits.turns) (DroveFor G.gives G.told gate.entry.now run_limits.rounds)
                     sessions (vec_len rest.seats) result.seats.items result.ended.items result.drivers.items
                     × (vec_capacity rest.seats ≤ vec_capacity result.seats) × (vec_capacity rest.ended ≤ vec_capacity result.ended) × (vec_capacity rest.drivers ≤ vec_capacity result.drivers) }
             {
                 work_all(
-                    rt, alloc, desk, readonly, door, gate, sessions, extent, places, rest,
+                    rt, alloc, desk, readonly, door, gate, sessions, run_limits, places, rest,
                 )
             },
         );
@@ -106,8 +106,8 @@ pub(crate) fn work_all<T: Handlers + Send + Drop, D: Door, G: Gate, R: Threads +
         let ((end, seat), mut done) = thread::join(
             rt,
             move || -> (SessionEnd, Seat<T>)
-                requires { IsSync R.row × IsSync D.row × IsSync G.row × (seat.desk ≡ desk.now) × (0 < extent.turns) }
-                ensures { SameSeat seat result.1 × InTurn (Attends D.lets_in D.Reader.input D.Writer.output G.gives G.told door.entry.now gate.entry.now readonly who) extent.turns seat result.1 result.0 }
+                requires { IsSync R.row × IsSync D.row × IsSync G.row × (seat.desk ≡ desk.now) × (0 < run_limits.turns) }
+                ensures { SameSeat seat result.1 × InTurn (Attends D.lets_in D.Reader.input D.Writer.output G.gives G.told door.entry.now gate.entry.now readonly who) run_limits.turns seat result.1 result.0 }
             {
                 attend_in_turn(
                     rt,
@@ -118,19 +118,19 @@ pub(crate) fn work_all<T: Handlers + Send + Drop, D: Door, G: Gate, R: Threads +
                     door,
                     gate,
                     who,
-                    extent.turns,
+                    run_limits.turns,
                     places,
                 )
             },
             move || -> Work<T>
-                requires { IsSync R.row × IsSync D.row × IsSync G.row × IsSend T.row × Ready desk.now sessions (vec_len rest.seats) rest.seats.items rest.ended.items rest.drivers.items (vec_capacity rest.ended) (vec_capacity rest.drivers) × (0 < extent.turns) }
+                requires { IsSync R.row × IsSync D.row × IsSync G.row × IsSend T.row × Ready desk.now sessions (vec_len rest.seats) rest.seats.items rest.ended.items rest.drivers.items (vec_capacity rest.ended) (vec_capacity rest.drivers) × (0 < run_limits.turns) }
                 ensures { ((feeds : List FeedName) → All (IsOf desk.entry.now feeds) rest.seats.items → All (IsOf desk.entry.now feeds) result.seats.items)
-                    × Worked (AttendedInTurn D.lets_in D.Reader.input D.Writer.output G.gives G.told door.entry.now gate.entry.now readonly extent.turns) (DroveFor G.gives G.told gate.entry.now extent.rounds)
+                    × Worked (AttendedInTurn D.lets_in D.Reader.input D.Writer.output G.gives G.told door.entry.now gate.entry.now readonly run_limits.turns) (DroveFor G.gives G.told gate.entry.now run_limits.rounds)
                     sessions (vec_len rest.seats) result.seats.items result.ended.items result.drivers.items
                     × (vec_capacity rest.seats ≤ vec_capacity result.seats) × (vec_capacity rest.ended ≤ vec_capacity result.ended) × (vec_capacity rest.drivers ≤ vec_capacity result.drivers) }
             {
                 work_all(
-                    rt, alloc, desk, readonly, door, gate, sessions, extent, places, rest,
+                    rt, alloc, desk, readonly, door, gate, sessions, run_limits, places, rest,
                 )
             },
         );

@@ -5,7 +5,7 @@ ghost use Rattle.std.specs.Prelude.{None};
 use crate::peers::Script;
 use click_control::{Failed, Sink};
 use click_packet::PacketRoom;
-use click_router::{Call, Handlers, Recorded, Running, StepFault};
+use click_router::{Call, Handlers, RunningConfig, StepFault, StoredReply};
 use click_workers::{Door, Gate};
 use std::alloc::{AllocError, Global};
 use std::sync::atomic::{AtomicBool, AtomicU64, AtomicUsize, Ordering};
@@ -216,11 +216,11 @@ pub(crate) struct Watched<'a, T> {
 impl<T: Handlers> Handlers for Watched<'_, T> {
     fn record(
         &self,
-        running: &mut Running,
+        running: &mut RunningConfig,
         alloc: Global,
         call: &Call,
         room: Option<PacketRoom>,
-    ) -> Result<Recorded, StepFault> {
+    ) -> Result<StoredReply, StepFault> {
         let reply = self.table.record(running, alloc, call, room);
         self.made.fetch_add(1, Ordering::SeqCst);
         reply

@@ -8,12 +8,12 @@ mod cases;
 
 use crate::peers::{Blanks, Keeper, Script};
 use cases::{COMMANDS, CONFIGURATIONS, PACKETS, ROOM};
+use click_base::sequence::Sequence;
 use click_control::{Ended, Open, ServeFault};
 use click_desk::{Desk, Seat};
 use click_handlers::{Table, TakesTable, with_table};
 use click_packet::{Packet, StoredPacket};
 use click_router::{Call, Handlers, Reply};
-use click_text::sequence::Sequence;
 use click_workers::{run, serve_at};
 use std::alloc::Global;
 use std::process::Abort;
@@ -77,7 +77,7 @@ fn is_heard(written: &[u8], replies: &[u8]) -> bool {
 }
 
 fn bytes(alloc: Global, text: &[u8]) -> Option<Sequence<u8>> {
-    Some(Sequence::of(Vec::from_slice(alloc, text).ok()?))
+    Some(Sequence::copy_of(alloc, text).ok()?)
 }
 
 /// The call of a step, if it is one.

@@ -4,10 +4,10 @@ ghost use Rattle.std.specs.Prelude.{◌≤◌, ◌<◌, ◌+◌};
 
 use crate::gates::waits_for;
 use crate::peers::{Keeper, Script};
+use click_base::sequence::Sequence;
 use click_control::Ended;
 use click_handlers::{Table, TakesTable, with_table};
 use click_router::{Call, Handlers, Reply, Router};
-use click_text::sequence::Sequence;
 use click_workers::{AllRan, Door, Gate, SessionEnd, run_live};
 use std::alloc::{AllocError, Global};
 use std::sync::Wait;
@@ -142,7 +142,7 @@ fn is_left<T: Handlers>(
     value: &[u8],
 ) -> Result<bool, AllocError> {
     let call = Call::Read {
-        name: Sequence::of(Vec::from_slice(alloc, name)?),
+        name: Sequence::copy_of(alloc, name)?,
         text: Sequence::of(Vec::new(alloc)),
     };
     match router.step(alloc, &call) {

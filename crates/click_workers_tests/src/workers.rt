@@ -5,7 +5,7 @@ use crate::peers::{Keeper, Script};
 use click_control::{Ended, ServeFault};
 use click_desk::{Entry, Seat};
 use click_handlers::{Table, TakesTable, with_table};
-use click_router::{Call, Handlers, Kept};
+use click_router::{Call, CompactReply, Handlers};
 use click_workers::{AllRan, Door, Gate, OpenGate, SessionEnd, run_workers};
 use std::alloc::{AllocError, Global};
 use std::sync::Wait;
@@ -111,8 +111,8 @@ fn first_reads<T>(seat: Option<&Seat<T>>, text: &[u8]) -> bool {
         return false;
     };
     match seat.calls().first() {
-        Some((_, reply)) => match reply.kept() {
-            Kept::Value(value) => value.as_slice() == text,
+        Some((_, reply)) => match reply.compact() {
+            CompactReply::Value(value) => value.as_slice() == text,
             _ => false,
         },
         None => false,
@@ -143,8 +143,8 @@ fn reads_across<T: Handlers + Send + Drop, R: Threads + Wait + Sync>(
 
 /// Whether an entry is a Round in which the tasks gave or pulled so many packets.
 fn is_round(entry: &Entry, count: u64) -> bool {
-    match (&entry.call, entry.reply.kept()) {
-        (Call::Round, Kept::Worked(worked)) => *worked == count,
+    match (&entry.call, entry.reply.compact()) {
+        (Call::Round, CompactReply::Worked(worked)) => *worked == count,
         _ => false,
     }
 }
@@ -206,8 +206,8 @@ fn all_meet<T: Handlers + Send + Drop, R: Threads + Wait + Sync>(
 
 /// Whether an entry is the write of `1` to the switch, by the first session, and was done.
 fn is_the_write(entry: &Entry) -> bool {
-    match (&entry.call, entry.reply.kept()) {
-        (Call::Write { name, text }, Kept::Done) => {
+    match (&entry.call, entry.reply.compact()) {
+        (Call::Write { name, text }, CompactReply::Done) => {
             (entry.seat == 0)
                 & (name.as_slice() == b"s.switch".as_slice())
                 & (text.as_slice() == b"1".as_slice())
@@ -367,8 +367,8 @@ fn are_notes(alloc: Global, log: &Log) -> Result<bool, AllocError> {
 
 /// Whether an entry is a read of this value.
 fn is_read(entry: &Entry, text: &[u8]) -> bool {
-    match (&entry.call, entry.reply.kept()) {
-        (Call::Read { .. }, Kept::Value(value)) => value.as_slice() == text,
+    match (&entry.call, entry.reply.compact()) {
+        (Call::Read { .. }, CompactReply::Value(value)) => value.as_slice() == text,
         _ => false,
     }
 }

@@ -2,8 +2,7 @@
 use Rattle.std.specs.Prelude.{◌≡◌, ◌⊎◌, ℕ, List, Option, Result, Ok, Err}
 use Rattle.click_classes.specs.declared.fault.ArgFault.{ArgFault}
 use Rattle.click_classes.specs.declared.fault.ArgFault.TheVariants as fault
-use Rattle.click_classes.specs.Fresh.{source_bytes}
-use Rattle.click_classes.specs.Made.{FirstStandsFor}
+use Rattle.click_classes.specs.Made.{source_bytes, FirstStandsFor}
 
 -- a call answers what is said, or that it ran out of memory
 abbrev pub IsOrNoMemory : {A : Type 0} → Result A ArgFault → Result A ArgFault → Type 0

@@ -50,5 +50,5 @@ pub record AreTests (p : Pattern) (ts : List Test) : Type 0 where
   pub tests_tell : (bytes : List ℕ) → IsBytes bytes → tests_hold ts bytes ≡ matches p bytes
 
 -- the place of the first pattern whose tests hold
-abbrev pub first_ready : List (List Test) → List ℕ → Option ℕ
-first_ready ready bytes = position (λ ts. tests_hold ts bytes) ready
+abbrev pub first_matching : List (List Test) → List ℕ → Option ℕ
+first_matching ready bytes = position (λ ts. tests_hold ts bytes) ready

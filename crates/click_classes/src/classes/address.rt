@@ -1,7 +1,7 @@
 //! Elements that set the destination of packets.
 
 ghost use Rattle.std.specs.Prelude.{◌≡◌};
-ghost use Rattle.click_classes.specs.Fresh.{get_ip_address};
+ghost use Rattle.click_classes.specs.Made.{get_ip_address};
 ghost use Rattle.click_classes.specs.Acts.{address_at};
 
 use crate::arguments::Arguments;
@@ -17,7 +17,7 @@ use click_packet::Packet;
 /// - Handlers: none.
 ///
 /// Example: `FromDevice(a) -> GetIPAddress(16) -> StaticIPLookup(0.0.0.0/0 0) -> Discard;`
-#[tactic(auto, unfolding(crate::specs::Fresh::get_ip_address))]
+#[tactic(auto, unfolding(crate::specs::Made::get_ip_address))]
 pub fn make_get_ip_address(arguments: &Arguments) -> Result<State, ArgFault>
     ensures { result ≡ get_ip_address arguments.now }
 {

@@ -1,7 +1,6 @@
 //! Elements that sort packets by their bytes.
 
-ghost use Rattle.click_classes.specs.Fresh.{classifier};
-ghost use Rattle.click_classes.specs.Made.{ByWords};
+ghost use Rattle.click_classes.specs.Made.{classifier, ByWords};
 ghost use Rattle.click_classes.specs.Patterns.{pattern};
 ghost use Rattle.click_classes.specs.Steps.{each, OrNoMemory};
 ghost use Rattle.click_classes.specs.kept.Answers.{IsOrNoMemory};
@@ -13,8 +12,8 @@ use crate::fault::ArgFault;
 use crate::patterns::Patterns;
 use crate::state::State;
 use crate::values::pattern::{Pattern, read_pattern};
+use click_base::sequence::Sequence;
 use click_packet::Packet;
-use click_text::sequence::Sequence;
 use std::alloc::Global;
 
 /// The pattern of each argument, which is given by its words.
@@ -43,7 +42,7 @@ pub fn patterns(
 /// - Handlers: none.
 ///
 /// Example: `FromDevice(a) -> k :: Classifier(12/0800, -); k -> Discard; k [1] -> Discard;`
-#[tactic(auto, unfolding(crate::specs::Fresh::classifier))]
+#[tactic(auto, unfolding(crate::specs::Made::classifier))]
 pub fn make_classifier(alloc: Global, arguments: &Arguments) -> Result<State, ArgFault>
     ensures { OrNoMemory (ByWords 1 256 classifier arguments.now) result }
 {

@@ -1,17 +1,17 @@
 //! Elements at devices.
 
-ghost use Rattle.click_classes.specs.Fresh.{device, from_device, to_device};
+ghost use Rattle.click_classes.specs.Made.{device, from_device, to_device};
 ghost use Rattle.click_classes.specs.kept.Answers.{IsOrNoMemory};
 
 use crate::arguments::Arguments;
 use crate::fault::ArgFault;
 use crate::state::State;
 use crate::values::device::is_device;
-use click_text::sequence::Sequence;
+use click_base::sequence::Sequence;
 use std::alloc::Global;
 
 /// The name of the device.
-#[tactic(auto, unfolding(crate::specs::Fresh::device))]
+#[tactic(auto, unfolding(crate::specs::Made::device))]
 fn device(alloc: Global, arguments: &Arguments) -> Result<Sequence<u8>, ArgFault>
     ensures { IsOrNoMemory (device arguments.now) result }
 {
@@ -37,7 +37,7 @@ fn device(alloc: Global, arguments: &Arguments) -> Result<Sequence<u8>, ArgFault
 /// - Handlers: none.
 ///
 /// Example: `FromDevice(eth0) -> Discard;`
-#[tactic(auto, unfolding(crate::specs::Fresh::from_device))]
+#[tactic(auto, unfolding(crate::specs::Made::from_device))]
 pub fn make_from_device(alloc: Global, arguments: &Arguments) -> Result<State, ArgFault>
     ensures { IsOrNoMemory (from_device arguments.now) result }
 {
@@ -53,7 +53,7 @@ pub fn make_from_device(alloc: Global, arguments: &Arguments) -> Result<State, A
 /// - Handlers: none.
 ///
 /// Example: `FromDevice(eth0) -> Queue -> ToDevice(eth1);`
-#[tactic(auto, unfolding(crate::specs::Fresh::to_device))]
+#[tactic(auto, unfolding(crate::specs::Made::to_device))]
 pub fn make_to_device(alloc: Global, arguments: &Arguments) -> Result<State, ArgFault>
     ensures { IsOrNoMemory (to_device arguments.now) result }
 {

@@ -1,10 +1,10 @@
 //! Elements that put a header before packets.
 
 ghost use Rattle.std.specs.Prelude.{◌≡◌, if◌then◌else◌};
-ghost use Rattle.click_classes.specs.Fresh.{ether_encap, ether_header};
+ghost use Rattle.click_classes.specs.Made.{ether_encap, ether_header};
 ghost use Rattle.click_classes.specs.Acts.{encapsulated, passed};
 ghost use Rattle.click_classes.specs.declared.state.State.{State};
-ghost use Rattle.click_classes.specs.declared.acting.Fate.TheVariants as Fate;
+ghost use Rattle.click_classes.specs.declared.packet_effects.Verdict.TheVariants as Verdict;
 
 use crate::arguments::Arguments;
 use crate::fault::ArgFault;
@@ -22,7 +22,7 @@ use click_packet::Packet;
 /// - Handlers: none.
 ///
 /// Example: `FromDevice(a) -> EtherEncap(0x0800, 1:1:1:1:1:1, 2:2:2:2:2:2) -> Discard;`
-#[tactic(auto, unfolding(crate::specs::Fresh::ether_encap))]
+#[tactic(auto, unfolding(crate::specs::Made::ether_encap))]
 pub fn make_ether_encap(arguments: &Arguments) -> Result<State, ArgFault>
     ensures { result ≡ ether_encap arguments.now }
 {
@@ -54,7 +54,7 @@ fn ether_header(ether_type: u16, source: [u8; 6], destination: [u8; 6]) -> [u8; 
 /// Puts a header before a packet, and says whether it fits; a packet that would be too long with it stays as it is.
 #[inline(always)]
 pub fn encapsulate(header: &[u8; 14], packet: &mut Packet) -> bool
-    ensures { (state : State) → encapsulated state header.now packet.old ≡ passed state packet.new (if result then Fate.Onward else Fate.Dropped) }
+    ensures { (state : State) → encapsulated state header.now packet.old ≡ passed state packet.new (if result then Verdict.Forward else Verdict.Dropped) }
 {
     // (a copy lies apart from the packet, so that whether they overlap is not tested)
     let front = *header;

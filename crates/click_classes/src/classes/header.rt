@@ -2,21 +2,20 @@
 
 ghost use Rattle.std.specs.Prelude.{◌≡◌, ◌==◌, [], Ok, length, slice_index_or, if◌then◌else◌, Option, Some};
 ghost use Rattle.click_classes.specs.Values.{address};
-ghost use Rattle.click_classes.specs.Fresh.{addresses, check_ip_header, without_arguments};
-ghost use Rattle.click_classes.specs.Made.{ByWords};
+ghost use Rattle.click_classes.specs.Made.{addresses, check_ip_header, without_arguments, ByWords};
 ghost use Rattle.click_classes.specs.Steps.{each, OrNoMemory};
 ghost use Rattle.click_classes.specs.kept.Answers.{IsOrNoMemory};
 ghost use Rattle.click_classes.specs.Acts.{aged};
 ghost use Rattle.click_packet.specs.Header.{header_good, ttl};
 
-use crate::acting::Fate;
 use crate::arguments::Arguments;
 use crate::classes::plain::without_arguments;
 use crate::fault::ArgFault;
+use crate::packet_effects::Verdict;
 use crate::state::State;
 use crate::values::address::address;
+use click_base::sequence::Sequence;
 use click_packet::Packet;
-use click_text::sequence::Sequence;
 use std::alloc::Global;
 
 /// The address of each word.
@@ -32,7 +31,7 @@ fn each_address(alloc: Global, words: &[Sequence<u8>]) -> Result<Sequence<[u8; 4
 }
 
 /// Up to 64 addresses.
-#[tactic(auto, unfolding(crate::specs::Fresh::addresses))]
+#[tactic(auto, unfolding(crate::specs::Made::addresses))]
 fn addresses(alloc: Global, words: &[Sequence<u8>]) -> Result<Sequence<[u8; 4]>, ArgFault>
     ensures { IsOrNoMemory (addresses words.now) result }
 {
@@ -65,7 +64,7 @@ pub fn refused(
 /// - Handlers: none.
 ///
 /// Example: `FromDevice(a) -> c :: CheckIPHeader(0.0.0.0 255.255.255.255) -> Discard; c [1] -> Discard;`
-#[tactic(auto, unfolding(crate::specs::Fresh::check_ip_header))]
+#[tactic(auto, unfolding(crate::specs::Made::check_ip_header))]
 pub fn make_check_ip_header(alloc: Global, arguments: &Arguments) -> Result<State, ArgFault>
     ensures { OrNoMemory (ByWords 0 1 check_ip_header arguments.now) result }
 {
@@ -95,24 +94,24 @@ pub fn make_dec_ip_ttl(arguments: &Arguments) -> Result<State, ArgFault>
 
 /// Where a packet goes after a CheckIPHeader: one whose header is bad goes aside.
 #[inline(always)]
-pub fn header_fate(refused: &Sequence<[u8; 4]>, packet: &Packet) -> Fate
-    ensures { result ≡ (if header_good packet.now.bytes refused.now then Fate.Onward else Fate.Aside) }
+pub fn header_verdict(refused: &Sequence<[u8; 4]>, packet: &Packet) -> Verdict
+    ensures { result ≡ (if header_good packet.now.bytes refused.now then Verdict.Forward else Verdict.SideOutput) }
 {
     if packet.header_good(refused.as_slice()) {
-        Fate::Onward
+        Verdict::Forward
     } else {
-        Fate::Aside
+        Verdict::SideOutput
     }
 }
 
 /// Makes a packet's time to live less by one; a packet with a time to live of 0 or 1, or without a header, stays as it is and goes aside.
 #[inline(always)]
-pub fn age(packet: &mut Packet) -> Fate
-    ensures { aged packet.old (ttl packet.old.bytes) ≡ record { state = State.DecIPTTL; packet = packet.new; fate = result } }
+pub fn age(packet: &mut Packet) -> Verdict
+    ensures { aged packet.old (ttl packet.old.bytes) ≡ record { state = State.DecIPTTL; packet = packet.new; verdict = result } }
 {
     if packet.count_down() {
-        Fate::Onward
+        Verdict::Forward
     } else {
-        Fate::Aside
+        Verdict::SideOutput
     }
 }

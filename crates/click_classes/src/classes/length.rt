@@ -1,11 +1,11 @@
 //! Elements that change or test the length of packets.
 
 ghost use Rattle.std.specs.Prelude.{◌≡◌, length, nat_le, if◌then◌else◌};
-ghost use Rattle.click_classes.specs.Fresh.{strip, check_length};
+ghost use Rattle.click_classes.specs.Made.{strip, check_length};
 
-use crate::acting::Fate;
 use crate::arguments::Arguments;
 use crate::fault::ArgFault;
+use crate::packet_effects::Verdict;
 use crate::state::State;
 use click_packet::Packet;
 
@@ -17,7 +17,7 @@ use click_packet::Packet;
 /// - Handlers: none.
 ///
 /// Example: `FromDevice(a) -> Strip(14) -> CheckIPHeader -> Discard;`
-#[tactic(auto, unfolding(crate::specs::Fresh::strip))]
+#[tactic(auto, unfolding(crate::specs::Made::strip))]
 pub fn make_strip(arguments: &Arguments) -> Result<State, ArgFault>
     ensures { result ≡ strip arguments.now }
 {
@@ -36,7 +36,7 @@ pub fn make_strip(arguments: &Arguments) -> Result<State, ArgFault>
 /// - Handlers: none.
 ///
 /// Example: `FromDevice(a) -> l :: CheckLength(1500) -> Discard; l [1] -> Discard;`
-#[tactic(auto, unfolding(crate::specs::Fresh::check_length))]
+#[tactic(auto, unfolding(crate::specs::Made::check_length))]
 pub fn make_check_length(arguments: &Arguments) -> Result<State, ArgFault>
     ensures { result ≡ check_length arguments.now }
 {
@@ -45,12 +45,12 @@ pub fn make_check_length(arguments: &Arguments) -> Result<State, ArgFault>
 }
 
 /// Where a packet goes after a CheckLength: one that is too long goes aside.
-pub fn length_fate(max: u16, packet: &Packet) -> Fate
-    ensures { result ≡ (if nat_le (length packet.now.bytes) max then Fate.Onward else Fate.Aside) }
+pub fn length_verdict(max: u16, packet: &Packet) -> Verdict
+    ensures { result ≡ (if nat_le (length packet.now.bytes) max then Verdict.Forward else Verdict.SideOutput) }
 {
     if packet.bytes().len() <= usize::from(max) {
-        Fate::Onward
+        Verdict::Forward
     } else {
-        Fate::Aside
+        Verdict::SideOutput
     }
 }

@@ -1,7 +1,6 @@
 //! Elements that look up routes.
 
-ghost use Rattle.click_classes.specs.Fresh.{static_ip_lookup};
-ghost use Rattle.click_classes.specs.Made.{ByWords};
+ghost use Rattle.click_classes.specs.Made.{static_ip_lookup, ByWords};
 ghost use Rattle.click_classes.specs.Steps.{OrNoMemory};
 
 use crate::arguments::Arguments;
@@ -23,7 +22,7 @@ use std::alloc::Global;
 /// - Write handlers: none.
 ///
 /// Example: `FromDevice(a) -> rt :: StaticIPLookup(0.0.0.0/0 0, 10.0.0.0/8 10.9.9.9 1); rt -> Discard; rt [1] -> Discard;`
-#[tactic(auto, unfolding(crate::specs::Fresh::static_ip_lookup))]
+#[tactic(auto, unfolding(crate::specs::Made::static_ip_lookup))]
 pub fn make_static_ip_lookup(alloc: Global, arguments: &Arguments) -> Result<State, ArgFault>
     ensures { OrNoMemory (ByWords 0 1024 static_ip_lookup arguments.now) result }
 {

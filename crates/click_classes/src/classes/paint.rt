@@ -1,11 +1,11 @@
 //! Elements that paint packets or look at the paint.
 
 ghost use Rattle.std.specs.Prelude.{◌≡◌, ◌==◌, if◌then◌else◌};
-ghost use Rattle.click_classes.specs.Fresh.{paint, paint_tee};
+ghost use Rattle.click_classes.specs.Made.{paint, paint_tee};
 
-use crate::acting::Fate;
 use crate::arguments::Arguments;
 use crate::fault::ArgFault;
+use crate::packet_effects::Verdict;
 use crate::state::State;
 use click_packet::Packet;
 
@@ -17,7 +17,7 @@ use click_packet::Packet;
 /// - Handlers: none.
 ///
 /// Example: `FromDevice(a) -> Paint(3) -> Discard;`
-#[tactic(auto, unfolding(crate::specs::Fresh::paint))]
+#[tactic(auto, unfolding(crate::specs::Made::paint))]
 pub fn make_paint(arguments: &Arguments) -> Result<State, ArgFault>
     ensures { result ≡ paint arguments.now }
 {
@@ -36,7 +36,7 @@ pub fn make_paint(arguments: &Arguments) -> Result<State, ArgFault>
 /// - Handlers: none.
 ///
 /// Example: `FromDevice(a) -> t :: PaintTee(3) -> Discard; t [1] -> Discard;`
-#[tactic(auto, unfolding(crate::specs::Fresh::paint_tee))]
+#[tactic(auto, unfolding(crate::specs::Made::paint_tee))]
 pub fn make_paint_tee(arguments: &Arguments) -> Result<State, ArgFault>
     ensures { result ≡ paint_tee arguments.now }
 {
@@ -47,12 +47,12 @@ pub fn make_paint_tee(arguments: &Arguments) -> Result<State, ArgFault>
 }
 
 /// Where a packet goes after a PaintTee: its copy goes too if it has the colour.
-pub fn paint_tee_fate(colour: u8, packet: &Packet) -> Fate
-    ensures { result ≡ (if packet.now.paint == colour then Fate.Copied else Fate.Onward) }
+pub fn paint_tee_verdict(colour: u8, packet: &Packet) -> Verdict
+    ensures { result ≡ (if packet.now.paint == colour then Verdict.Copied else Verdict.Forward) }
 {
     if packet.paint() == colour {
-        Fate::Copied
+        Verdict::Copied
     } else {
-        Fate::Onward
+        Verdict::Forward
     }
 }

@@ -1,7 +1,7 @@
 //! Classes without arguments.
 
 ghost use Rattle.std.specs.Prelude.{◌≡◌, length};
-ghost use Rattle.click_classes.specs.Fresh.{without_arguments};
+ghost use Rattle.click_classes.specs.Made.{without_arguments};
 ghost use Rattle.click_classes.specs.Acts.{up_by};
 
 use crate::arguments::Arguments;
@@ -10,7 +10,7 @@ use crate::state::State;
 use click_packet::Packet;
 
 /// This state, where there is no argument.
-#[tactic(auto, unfolding(crate::specs::Fresh::without_arguments))]
+#[tactic(auto, unfolding(crate::specs::Made::without_arguments))]
 pub fn without_arguments(state: State, arguments: &Arguments) -> Result<State, ArgFault>
     ensures { result ≡ without_arguments state arguments.now }
 {

@@ -1,7 +1,7 @@
 //! Queues.
 
 ghost use Rattle.std.specs.Prelude.{◌≡◌, ◌≤◌, [], Ok, IfOk, length};
-ghost use Rattle.click_classes.specs.Fresh.{capacity, queue, front_drop_queue};
+ghost use Rattle.click_classes.specs.Made.{capacity, queue, front_drop_queue};
 ghost use Rattle.click_classes.specs.kept.Answers.{IsOrNoMemory};
 ghost use Rattle.click_classes.specs.Acts.{queued, front_queued};
 
@@ -14,7 +14,7 @@ use click_packet::Packet;
 use std::alloc::Global;
 
 /// How many packets there is room for.
-#[tactic(auto, unfolding(crate::specs::Fresh::capacity))]
+#[tactic(auto, unfolding(crate::specs::Made::capacity))]
 fn capacity(arguments: &Arguments) -> Result<u64, ArgFault>
     ensures value { result ≡ capacity arguments.now }
     ensures bound { IfOk result (λ n. n ≤ 10000) }
@@ -52,7 +52,7 @@ fn list(alloc: Global, capacity: u64) -> Result<PacketList, ArgFault>
 ///   packets go.
 ///
 /// Example: `FromDevice(a) -> q :: Queue(64) -> ToDevice(b);`
-#[tactic(auto, unfolding(crate::specs::Fresh::queue))]
+#[tactic(auto, unfolding(crate::specs::Made::queue))]
 pub fn make_queue(alloc: Global, arguments: &Arguments) -> Result<State, ArgFault>
     ensures { IsOrNoMemory (queue arguments.now) result }
 {
@@ -74,7 +74,7 @@ pub fn make_queue(alloc: Global, arguments: &Arguments) -> Result<State, ArgFaul
 /// - Handlers: as of Queue.
 ///
 /// Example: `FromDevice(a) -> q :: FrontDropQueue(2) -> ToDevice(b);`
-#[tactic(auto, unfolding(crate::specs::Fresh::front_drop_queue))]
+#[tactic(auto, unfolding(crate::specs::Made::front_drop_queue))]
 pub fn make_front_drop_queue(alloc: Global, arguments: &Arguments) -> Result<State, ArgFault>
     ensures { IsOrNoMemory (front_drop_queue arguments.now) result }
 {
@@ -106,7 +106,7 @@ pub fn store(list: &mut PacketList, drops: &mut u64, highest: &mut usize, packet
 
 /// Stores a packet last; a full queue drops its first packet for it.
 #[inline(never)]
-pub fn store_for_the_first(
+pub fn store_dropping_first(
     list: &mut PacketList,
     drops: &mut u64,
     highest: &mut usize,

@@ -1,7 +1,7 @@
 //! Elements that choose among their inputs.
 
 ghost use Rattle.std.specs.Prelude.{◌≡◌};
-ghost use Rattle.click_classes.specs.Fresh.{without_arguments};
+ghost use Rattle.click_classes.specs.Made.{without_arguments};
 
 use crate::arguments::Arguments;
 use crate::classes::plain::without_arguments;

@@ -3,8 +3,7 @@
 ghost use Rattle.std.specs.Prelude.{◌≡◌, ◌-◌, ◌^◌, ◌&&◌, None, true, slice_get, length, nat_le};
 ghost use Rattle.click_classes.specs.Acts.{is_below};
 ghost use Rattle.click_classes.specs.Values.{number_in, number_or_minus_one, truth};
-ghost use Rattle.click_classes.specs.Fresh.{optional, infinite_source};
-ghost use Rattle.click_classes.specs.Made.{ByFirst};
+ghost use Rattle.click_classes.specs.Made.{optional, infinite_source, ByFirst};
 ghost use Rattle.click_classes.specs.kept.Answers.{AreBytes};
 ghost use Rattle.click_classes.specs.Steps.{OrNoMemory};
 
@@ -13,7 +12,7 @@ use crate::fault::ArgFault;
 use crate::state::State;
 use crate::values::number::{number_in, number_or_minus_one};
 use crate::values::truth::truth;
-use click_text::sequence::Sequence;
+use click_base::sequence::Sequence;
 use click_text::unquote;
 use std::alloc::Global;
 
@@ -93,7 +92,7 @@ pub fn has_next(bytes: &Sequence<u8>, limit: Option<u64>, active: bool, count: u
 /// - Write handlers: `active`, a truth value (not a truth value); `reset`: `count` is 0.
 ///
 /// Example: `InfiniteSource("ab", 5, 2) -> Discard;`
-#[tactic(auto, unfolding(crate::specs::Fresh::infinite_source))]
+#[tactic(auto, unfolding(crate::specs::Made::infinite_source))]
 pub fn make_infinite_source(alloc: Global, arguments: &Arguments) -> Result<State, ArgFault>
     ensures { OrNoMemory (ByFirst 4 infinite_source arguments.now) result }
 {

@@ -1,7 +1,7 @@
 //! Switches.
 
 ghost use Rattle.std.specs.Prelude.{◌≡◌};
-ghost use Rattle.click_classes.specs.Fresh.{without_arguments, switch_port, suppressor, switch, pull_switch};
+ghost use Rattle.click_classes.specs.Made.{without_arguments, switch_port, suppressor, switch, pull_switch};
 
 use crate::arguments::Arguments;
 use crate::classes::plain::without_arguments;
@@ -10,7 +10,7 @@ use crate::state::State;
 use crate::values::number::number_or_minus_one;
 
 /// The port that is used, None for -1.
-#[tactic(auto, unfolding(crate::specs::Fresh::switch_port))]
+#[tactic(auto, unfolding(crate::specs::Made::switch_port))]
 fn switch_port(arguments: &Arguments) -> Result<Option<u8>, ArgFault>
     ensures { result ≡ switch_port arguments.now }
 {
@@ -35,7 +35,7 @@ fn switch_port(arguments: &Arguments) -> Result<Option<u8>, ArgFault>
 /// - Write handlers: `switch`, -1 or a number below the number of outputs (not a number, out of range).
 ///
 /// Example: `FromDevice(a) -> s :: Switch(1); s -> Discard; s [1] -> Discard;`
-#[tactic(auto, unfolding(crate::specs::Fresh::switch))]
+#[tactic(auto, unfolding(crate::specs::Made::switch))]
 pub fn make_switch(arguments: &Arguments) -> Result<State, ArgFault>
     ensures { result ≡ switch arguments.now }
 {
@@ -52,7 +52,7 @@ pub fn make_switch(arguments: &Arguments) -> Result<State, ArgFault>
 /// - Write handlers: `switch`, -1 or a number below the number of inputs (not a number, out of range).
 ///
 /// Example: `FromDevice(a) -> Queue -> s :: PullSwitch(0) -> ToDevice(b);`
-#[tactic(auto, unfolding(crate::specs::Fresh::pull_switch))]
+#[tactic(auto, unfolding(crate::specs::Made::pull_switch))]
 pub fn make_pull_switch(arguments: &Arguments) -> Result<State, ArgFault>
     ensures { result ≡ pull_switch arguments.now }
 {

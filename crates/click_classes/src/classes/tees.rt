@@ -1,7 +1,7 @@
 //! Elements that copy packets.
 
 ghost use Rattle.std.specs.Prelude.{◌≡◌};
-ghost use Rattle.click_classes.specs.Fresh.{copies, tee, pull_tee};
+ghost use Rattle.click_classes.specs.Made.{copies, tee, pull_tee};
 
 use crate::arguments::Arguments;
 use crate::fault::ArgFault;
@@ -9,7 +9,7 @@ use crate::state::State;
 use crate::values::number::number_in;
 
 /// How many outputs there have to be, if that is said.
-#[tactic(auto, unfolding(crate::specs::Fresh::copies))]
+#[tactic(auto, unfolding(crate::specs::Made::copies))]
 fn copies(arguments: &Arguments) -> Result<Option<u16>, ArgFault>
     ensures { result ≡ copies arguments.now }
 {
@@ -31,7 +31,7 @@ fn copies(arguments: &Arguments) -> Result<Option<u16>, ArgFault>
 /// - Handlers: none.
 ///
 /// Example: `FromDevice(a) -> t :: Tee(2); t -> Discard; t [1] -> Discard;`
-#[tactic(auto, unfolding(crate::specs::Fresh::tee))]
+#[tactic(auto, unfolding(crate::specs::Made::tee))]
 pub fn make_tee(arguments: &Arguments) -> Result<State, ArgFault>
     ensures { result ≡ tee arguments.now }
 {
@@ -47,7 +47,7 @@ pub fn make_tee(arguments: &Arguments) -> Result<State, ArgFault>
 /// - Handlers: none.
 ///
 /// Example: `FromDevice(a) -> Queue -> t :: PullTee -> ToDevice(b); t [1] -> Discard;`
-#[tactic(auto, unfolding(crate::specs::Fresh::pull_tee))]
+#[tactic(auto, unfolding(crate::specs::Made::pull_tee))]
 pub fn make_pull_tee(arguments: &Arguments) -> Result<State, ArgFault>
     ensures { result ≡ pull_tee arguments.now }
 {

@@ -8,7 +8,7 @@ use crate::fault::ArgFault;
 use crate::values::address::address;
 use crate::values::number::number_in;
 use crate::values::prefix::{Prefix, read_prefix};
-use click_text::sequence::Sequence;
+use click_base::sequence::Sequence;
 use std::alloc::Global;
 use std::collections::BTreeSet;
 

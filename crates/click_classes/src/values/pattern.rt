@@ -9,7 +9,7 @@ ghost use Rattle.click_classes.specs.kept.Answers.{IsOrNoMemory};
 use crate::fault::ArgFault;
 use crate::values::groups::place;
 use crate::values::number::{all_hex_digits, decimal_in, digit_value, is_hex_digit};
-use click_text::sequence::Sequence;
+use click_base::sequence::Sequence;
 use std::alloc::Global;
 
 /// A condition on a packet: the bytes from the offset on are there and agree with the value in each bit of the mask;

@@ -8,10 +8,10 @@ use Rattle.click_control.specs.declared.start.Start.{Start}
 use Rattle.click_control.specs.declared.start.Start.TheVariants as start
 use Rattle.click_control.specs.declared.session.Line.{Line}
 use Rattle.click_control.specs.declared.session.Line.TheVariants as line
-use Rattle.click_control.specs.declared.said.Said.TheVariants as said
-use Rattle.click_control.specs.declared.line.Found.{Found}
-use Rattle.click_control.specs.declared.line.Found.TheVariants as found
-use Rattle.click_control.specs.Commands.{Reading, in_line, after_return, over, Said, blank, whole, announces, HasNoEnd, is_end, is_last, longest_line, commands_from}
+use Rattle.click_control.specs.declared.parsed.ParsedLine.TheVariants as parsed
+use Rattle.click_control.specs.declared.line.FirstLine.{FirstLine}
+use Rattle.click_control.specs.declared.line.FirstLine.TheVariants as found
+use Rattle.click_control.specs.Commands.{Reading, in_line, after_return, over, ParsedLine, blank, whole, announces, HasNoEnd, is_end, is_last, longest_line, commands_from}
 use Rattle.click_control.specs.Taking.{Pending, to_come, Gives, GivesOne}
 
 abbrev pub reading_of : Start → Reading
@@ -19,20 +19,20 @@ reading_of start.Line = in_line []
 reading_of start.AfterReturn = after_return
 reading_of start.Over = over
 
-abbrev pub says : Rattle.click_control.specs.declared.said.Said.Said → Said
-says said.Blank = blank
-says (said.Whole c) = whole c
-says (said.Announces w handler n) = announces w handler n
+abbrev pub says : Rattle.click_control.specs.declared.parsed.ParsedLine.ParsedLine → ParsedLine
+says parsed.Blank = blank
+says (parsed.Whole c) = whole c
+says (parsed.Announces w handler n) = announces w handler n
 
 -- the command of a line whose payload has no length, or one that is too long
-abbrev pub uncounted : ArgFault → Command
-uncounted fault.NoMemory = command.Syntax
-uncounted fault.ArgumentCount = command.Syntax
-uncounted fault.BadNumber = command.Syntax
-uncounted fault.BadText = command.Syntax
-uncounted fault.OutOfRange = command.DataTooLong
-uncounted fault.BadAddress = command.Syntax
-uncounted fault.BadEntry = command.Syntax
+abbrev pub bad_count : ArgFault → Command
+bad_count fault.NoMemory = command.Syntax
+bad_count fault.ArgumentCount = command.Syntax
+bad_count fault.BadNumber = command.Syntax
+bad_count fault.BadText = command.Syntax
+bad_count fault.OutOfRange = command.DataTooLong
+bad_count fault.BadAddress = command.Syntax
+bad_count fault.BadEntry = command.Syntax
 
 -- how many bytes the end of a line has that begins these bytes
 abbrev pub end_length : List ℕ → ℕ
@@ -78,9 +78,9 @@ pub record IsPartial (bytes : List ℕ) (searched wanted : ℕ) : Type 0 where
   pub waits : Waits (in_line []) bytes wanted
 
 -- what bytes from the beginning of a line on hold
-abbrev pub IsFound : List ℕ → Found → Type 0
-IsFound bytes (found.Partial searched wanted) = IsPartial bytes searched wanted
-IsFound bytes (found.Taken c n s) = IsTaken bytes c n (reading_of s)
+abbrev pub IsFirstLine : List ℕ → FirstLine → Type 0
+IsFirstLine bytes (found.Partial searched wanted) = IsPartial bytes searched wanted
+IsFirstLine bytes (found.Taken c n s) = IsTaken bytes c n (reading_of s)
 
 -- what a session says of its next line
 abbrev pub TakesLine : Pending → Pending → Line → Type 0

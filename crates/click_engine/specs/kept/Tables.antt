@@ -4,41 +4,41 @@ use Rattle.std.specs.declared.vec.Vec.{Vec}
 use Rattle.std.specs.declared.alloc.Global.{Global}
 use Rattle.std.specs.Str.{bytes_eq}
 use Rattle.click_engine.specs.Devices.{Device, element_with}
-use Rattle.click_engine.specs.Wires.{is_port}
-use Rattle.click_engine.specs.declared.world.Port.{Port}
+use Rattle.click_engine.specs.Adjacency.{is_port}
+use Rattle.click_engine.specs.declared.run_state.ConnectionEnd.{ConnectionEnd}
 
-abbrev pub rows_of : List (Vec (Option Port) Global) → List (List (Option Port))
-rows_of rows = map (λ (row : Vec (Option Port) Global). row.items) rows
+abbrev pub rows_of : List (Vec (Option ConnectionEnd) Global) → List (List (Option ConnectionEnd))
+rows_of rows = map (λ (row : Vec (Option ConnectionEnd) Global). row.items) rows
 
-abbrev pub entry : List (List (Option Port)) → ℕ → ℕ → Option Port
+abbrev pub entry : List (List (Option ConnectionEnd)) → ℕ → ℕ → Option ConnectionEnd
 entry rows at number = slice_index_or (slice_index_or rows at []) number None
 
-abbrev pub IsTable : List (List (Option Port)) → (ℕ → ℕ → Option Port) → Type 0
+abbrev pub IsTable : List (List (Option ConnectionEnd)) → (ℕ → ℕ → Option ConnectionEnd) → Type 0
 IsTable rows f = (at number : ℕ) → entry rows at number ≡ f at number
 
 -- a port past all elements, which stands for none
-abbrev pub nowhere : Port
+abbrev pub nowhere : ConnectionEnd
 nowhere = record { element = 2 ^ 64 - 1; port = 0 }
 
-abbrev pub far_of : Option Port → Port
+abbrev pub far_of : Option ConnectionEnd → ConnectionEnd
 far_of None = nowhere
 far_of (Some p) = p
 
 -- what a row's first port is joined to
-abbrev pub first_far : List (Option Port) → Port
+abbrev pub first_far : List (Option ConnectionEnd) → ConnectionEnd
 first_far row = far_of (slice_index_or row 0 None)
 
 -- what the first port of each element is joined to
-abbrev pub AreFirst : List Port → (ℕ → ℕ → Option Port) → Type 0
+abbrev pub AreFirst : List ConnectionEnd → (ℕ → ℕ → Option ConnectionEnd) → Type 0
 AreFirst ports f = (at : ℕ) → slice_index_or ports at nowhere ≡ far_of (f at 0)
 
 -- what was noted, else the far port where it is its turn
-abbrev pub first_of : Option Port → Bool → Port → Option Port
+abbrev pub first_of : Option ConnectionEnd → Bool → ConnectionEnd → Option ConnectionEnd
 first_of None here far = if here then Some far else None
 first_of (Some noted) here far = Some noted
 
 -- the far port was noted at the near one, unless something was
-abbrev pub IsNoted : List (List (Option Port)) → List (List (Option Port)) → Port → Port → Type 0
+abbrev pub IsNoted : List (List (Option ConnectionEnd)) → List (List (Option ConnectionEnd)) → ConnectionEnd → ConnectionEnd → Type 0
 IsNoted old new near far = (at number : ℕ) → entry new at number ≡ first_of (entry old at number) (is_port near at number) far
 
 -- names and places, side by side

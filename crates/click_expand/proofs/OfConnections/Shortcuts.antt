@@ -23,7 +23,7 @@ module _ (instances : List Instance) where
     -- from what lies behind a port, that input is reached in so many steps or fewer
     abbrev Reaches : ℕ → Reached → Type 0
     Reaches n next.Nothing = ⊥
-    Reaches n (next.Leaf j) = j ≡ i
+    Reaches n (next.PrimitiveElement j) = j ≡ i
     Reaches zero (next.Start s) = ⊥
     Reaches (suc n) (next.Start s) = (k : Instance) × (slice_get instances s.within ≡ Some k) × (p : ScopePort) × Contains (ends k.scope s.port) p × Reaches n (reached_by k p.owner p.number)
 
@@ -32,7 +32,7 @@ module _ (instances : List Instance) where
 
     reaches-more : (n : ℕ) (m : Reached) → Reaches n m → Reaches (suc n) m
     reaches-more n next.Nothing h = absurd h
-    reaches-more n (next.Leaf j) h = h
+    reaches-more n (next.PrimitiveElement j) h = h
     reaches-more zero (next.Start s) h = absurd h
     reaches-more (suc n) (next.Start s) h = (h.0, h.1, h.2, h.3, reaches-more n (reached_by h.0 h.2.owner h.2.number) h.4)
 
@@ -44,7 +44,7 @@ module _ (instances : List Instance) where
       pub there : slice_get instances place ≡ Some kept
       pub scope : kept.scope ≡ inner
       pub into : (n : ℕ) → inward (slice_get k.parts e) n ≡ next.Start (instance_port place (scope_port owner.Input n))
-      pub out : (n : ℕ) → outward kept.around n ≡ next.Start (instance_port u (scope_port (owner.Element e) n))
+      pub out : (n : ℕ) → outward kept.enclosing n ≡ next.Start (instance_port u (scope_port (owner.Element e) n))
       pub is_body : body k.scope e ≡ Some kept.scope
 
     inside-part : (u e v : ℕ) (k : Instance) → slice_get instances u ≡ Some k → slice_get k.parts e ≡ Some (part.Inner v) → (inner : ℕ) → body k.scope e ≡ Some inner → IsInside u e inner k
@@ -84,12 +84,12 @@ module _ (instances : List Instance) where
           inside_compound s j k d a (over s e n inner m a (scope_port (owner.Element j) k) before there through (subst (λ z. LeadsInScope ends body s z (scope_port (owner.Element j) k)) is r)) some l
 
       -- a way to an input leads out of an instance at one of its outputs
-      abbrev Leaves : ℕ → Instance → ScopePort → Type 0
-      Leaves n k a = (m : ℕ) × LeadsInScope ends body k.scope a (scope_port owner.Output m) × Reaches ends i n (outward k.around m)
+      abbrev PrimitiveElements : ℕ → Instance → ScopePort → Type 0
+      PrimitiveElements n k a = (m : ℕ) × LeadsInScope ends body k.scope a (scope_port owner.Output m) × Reaches ends i n (outward k.enclosing m)
 
       -- or ends in it
       abbrev Parts : ℕ → Instance → ScopePort → Type 0
-      Parts n k a = Lands ends body k.scope a ⊎ Leaves n k a
+      Parts n k a = Lands ends body k.scope a ⊎ PrimitiveElements n k a
 
       module _ (n u : ℕ) (k : Instance) (a : ScopePort) (there : slice_get instances u ≡ Some k)
           (below : (v : ℕ) (m : Instance) (b : ScopePort) → slice_get instances v ≡ Some m → Reaches ends i n (next.Start (instance_port v b)) → Parts n m b) where
@@ -101,15 +101,15 @@ module _ (instances : List Instance) where
             inr (q, over k.scope e number inner m a (scope_port owner.Output q) (by_one_connection k.scope a (scope_port (owner.Element e) number) c) is through r, out)
 
         parts-behind : (e number : ℕ) → Contains (ends k.scope a) (scope_port (owner.Element e) number) → (w : Instance) → body k.scope e ≡ Some w.scope →
-            ((m : ℕ) → outward w.around m ≡ next.Start (instance_port u (scope_port (owner.Element e) m))) → Parts n w (scope_port owner.Input number) → Parts n k a
+            ((m : ℕ) → outward w.enclosing m ≡ next.Start (instance_port u (scope_port (owner.Element e) m))) → Parts n w (scope_port owner.Input number) → Parts n k a
         parts-behind e number c w is out (inl l) = inl (inside_compound k.scope e number w.scope a (by_one_connection k.scope a (scope_port (owner.Element e) number) c) is l)
         parts-behind e number c w is out (inr (m, r, h)) =
             parts-over e number w.scope m c is r (below u k (scope_port (owner.Element e) m) there (subst (Reaches ends i n) (out m) h))
 
         parts-element : (e number : ℕ) → Contains (ends k.scope a) (scope_port (owner.Element e) number) → (o : Option InstancePart) → slice_get k.parts e ≡ o → Reaches ends i n (inward o number) → Parts n k a
         parts-element e number c None is h = absurd h
-        parts-element e number c (Some (part.Leaf l)) is h =
-            inl (on_element k.scope e number a (by_one_connection k.scope a (scope_port (owner.Element e) number) c) (nested.leaf u e l k there is))
+        parts-element e number c (Some (part.PrimitiveElement l)) is h =
+            inl (on_element k.scope e number a (by_one_connection k.scope a (scope_port (owner.Element e) number) c) (nested.primitive_element u e l k there is))
         parts-element e number c (Some (part.Inner v)) is h =
             let r = nested.inner u e v k there is in
             let w = inside-part u e v k there is r.0.scope r.3 in
@@ -129,7 +129,7 @@ module _ (instances : List Instance) where
 
       parts-more : (n : ℕ) (k : Instance) (a : ScopePort) → Parts n k a → Parts (suc n) k a
       parts-more n k a (inl l) = inl l
-      parts-more n k a (inr (m, r, h)) = inr (m, r, reaches-more ends i n (outward k.around m) h)
+      parts-more n k a (inr (m, r, h)) = inr (m, r, reaches-more ends i n (outward k.enclosing m) h)
 
       parts : (n u : ℕ) (k : Instance) (a : ScopePort) → slice_get instances u ≡ Some k → Reaches ends i (suc n) (next.Start (instance_port u a)) → Parts n k a
       parts zero u k a there h = parts-at zero u k a there (λ v m b e f. absurd f) h
@@ -140,9 +140,9 @@ module _ (instances : List Instance) where
       parts-within (suc n) u k a there h = parts-more n k a (parts n u k a there h)
 
       -- where connections lead through an instance from there, the way goes out of it
-      leaves-through : (n : ℕ) (k : Instance) (q : ℕ) (outs : List ScopePort) → LeadsThrough ends body k.scope q outs → Parts n k (scope_port owner.Input q) → Leaves n k (scope_port owner.Input q)
-      leaves-through n k q outs l (inl h) = absurd (l.no_landing h)
-      leaves-through n k q outs l (inr h) = h
+      goes-out-through : (n : ℕ) (k : Instance) (q : ℕ) (outs : List ScopePort) → LeadsThrough ends body k.scope q outs → Parts n k (scope_port owner.Input q) → PrimitiveElements n k (scope_port owner.Input q)
+      goes-out-through n k q outs l (inl h) = absurd (l.no_landing h)
+      goes-out-through n k q outs l (inr h) = h
 
     module _ (ends short : ℕ → ScopePort → List ScopePort) (i : FlatInput) where
       -- the way from a port goes out of the instance that others lead through alike
@@ -167,9 +167,9 @@ module _ (instances : List Instance) where
           complete-by s _ _ (alike x number other inner is l) e c h =
               let w = inside-body u x inner k there (ap (λ z. body z x) (sym e) ∙ is) in
               let t = subst (λ z. LeadsThrough ends body z number (short z (scope_port owner.Input other))) (sym w.scope) l in
-              let way = leaves-through ends i n w.kept number (short w.kept.scope (scope_port owner.Input other)) t
+              let way = goes-out-through ends i n w.kept number (short w.kept.scope (scope_port owner.Input other)) t
               (parts-within ends i n w.place w.kept (scope_port owner.Input number) w.there (subst (Reaches ends i n) (w.into number) h)) in
-              let r = below (outward w.kept.around way.0) way.2 in
+              let r = below (outward w.kept.enclosing way.0) way.2 in
               let inner_step : Reaches short i (suc r.0) (next.Start (instance_port w.place (scope_port owner.Input other))) =
               (w.kept, w.there, scope_port owner.Output way.0, t.complete way.0 way.1, r.1) in (
                 suc (suc r.0),
@@ -184,8 +184,8 @@ module _ (instances : List Instance) where
               by (inl stood) = let q = stood.each p c in complete-by k.scope p q.0 q.2 refl q.1 r
               by (inr (q, is, l)) =
                   let chain : Reaches ends i (suc n) (next.Start (instance_port u (scope_port owner.Input q))) = subst (λ z. Reaches ends i (suc n) (next.Start (instance_port u z))) is (k, there, p, c, r) in
-                  let way = leaves-through ends i n k q (short k.scope a) l (parts ends i n u k (scope_port owner.Input q) there chain) in
-                  let rest = below (outward k.around way.0) way.2 in
+                  let way = goes-out-through ends i n k q (short k.scope a) l (parts ends i n u k (scope_port owner.Input q) there chain) in
+                  let rest = below (outward k.enclosing way.0) way.2 in
                   (suc rest.0, (k, there, scope_port owner.Output way.0, l.complete way.0 way.1, rest.1))
 
         sound-by : (s : ℕ) (p q : ScopePort) → StandsIn ends body short s p q → s ≡ k.scope → Contains (ends s a) p → ((m : Reached) → Reaches short i n m → ReachesIn ends i m) →
@@ -215,13 +215,13 @@ module _ (instances : List Instance) where
 
       complete : ((s : ℕ) (a p : ScopePort) → Contains (ends s a) p → IsShortened ends body short s) → (n : ℕ) (m : Reached) → Reaches ends i n m → ReachesIn short i m
       complete is n next.Nothing h = absurd h
-      complete is n (next.Leaf j) h = (zero, h)
+      complete is n (next.PrimitiveElement j) h = (zero, h)
       complete is zero (next.Start s) h = absurd h
       complete is (suc n) (next.Start s) h = complete-step n s.within h.0 s.port h.1 (λ m r. complete is n m r) (is h.0.scope s.port h.2 h.3) h.2 h.3 h.4
 
       sound : ((s : ℕ) (a p : ScopePort) → Contains (short s a) p → IsShortened ends body short s) → (n : ℕ) (m : Reached) → Reaches short i n m → ReachesIn ends i m
       sound is n next.Nothing h = absurd h
-      sound is n (next.Leaf j) h = (zero, h)
+      sound is n (next.PrimitiveElement j) h = (zero, h)
       sound is zero (next.Start s) h = absurd h
       sound is (suc n) (next.Start s) h = sound-step n s.within h.0 s.port h.1 (λ m r. sound is n m r) (is h.0.scope s.port h.2 h.3) h.2 h.3 h.4
 
@@ -237,17 +237,17 @@ module _ (instances : List Instance) where
     steps-reach : (s : InstancePort) (i : FlatInput) (n : ℕ) (m : Reached) → StepsTo instances xs s m → Reaches (ends_at xs) i n m → ReachesIn (ends_at xs) i (next.Start s)
     steps-reach s i n m st h = (
       suc n,
-      (st.used, st.used_there, st.to, subst (λ o. Contains (index_ends o s.port) st.to) (sym st.index_there) st.joined, subst (Reaches (ends_at xs) i n) st.is h),
+      (st.used, st.instance_is_there, st.to, subst (λ o. Contains (index_ends o s.port) st.to) (sym st.index_there) st.joined, subst (Reaches (ends_at xs) i n) st.is h),
     )
 
     arrives-reach : (s : InstancePort) (i : FlatInput) → Arrives instances xs s i → ReachesIn (ends_at xs) i (next.Start s)
-    arrives-reach _ _ (at_once s i st) = steps-reach s i zero (next.Leaf i) st refl
+    arrives-reach _ _ (at_once s i st) = steps-reach s i zero (next.PrimitiveElement i) st refl
     arrives-reach _ _ (after_connection s t i st w) = let r = arrives-reach t i w in steps-reach s i r.0 (next.Start t) st r.1
 
     arrives-by : (s : InstancePort) (i : FlatInput) (n : ℕ) → ((t : InstancePort) → Reaches (ends_at xs) i n (next.Start t) → Arrives instances xs t i) → (m : Reached) → StepsTo instances xs s m → Reaches (ends_at xs) i n m →
         Arrives instances xs s i
     arrives-by s i n below next.Nothing st h = absurd h
-    arrives-by s i n below (next.Leaf j) st h = at_once s i (subst (λ z. StepsTo instances xs s (next.Leaf z)) h st)
+    arrives-by s i n below (next.PrimitiveElement j) st h = at_once s i (subst (λ z. StepsTo instances xs s (next.PrimitiveElement z)) h st)
     arrives-by s i n below (next.Start t) st h = after_connection s t i st (below t h)
 
     reach-arrives : (i : FlatInput) (n : ℕ) (s : InstancePort) → Reaches (ends_at xs) i n (next.Start s) → Arrives instances xs s i
@@ -255,7 +255,7 @@ module _ (instances : List Instance) where
     reach-arrives i (suc n) s h =
         let x = index-of xs h.0.scope s.port h.2 h.3 in
         let m = reached_by h.0 h.2.owner h.2.number in
-        arrives-by s i n (λ t r. reach-arrives i n t r) m (record { used = h.0; used_there = h.1; index = x.0; index_there = x.1; to = h.2; joined = x.2; is = refl }) h.4
+        arrives-by s i n (λ t r. reach-arrives i n t r) m (record { used = h.0; instance_is_there = h.1; index = x.0; index_there = x.1; to = h.2; joined = x.2; is = refl }) h.4
 
   connects-by : (xs ys : List ConnectionIndex) → ((s : InstancePort) (i : FlatInput) → Arrives instances xs s i → Arrives instances ys s i) → (k : Connection) → Connects instances xs k → Connects instances ys k
   connects-by xs ys f k h =
@@ -269,7 +269,7 @@ module _ (instances : List Instance) where
             there = w.there;
             element = w.element;
             owner = w.owner;
-            is_leaf = w.is_leaf;
+            is_primitive_element = w.is_primitive_element;
             is_from = record { to = w.is_from.to; arrives = f (instance_port h.within h.is_from.port) w.is_from.to w.is_from.arrives; is = w.is_from.is };
           };
         };

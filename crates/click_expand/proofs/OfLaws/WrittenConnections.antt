@@ -12,17 +12,17 @@ use Rattle.click_text.specs.declared.syntax.Config.{Config}
 use Rattle.click_text.specs.Spans.{bytes_at}
 use Rattle.click_scopes.specs.Scopes.{Scope, whole, statement_elements}
 use Rattle.click_scopes.specs.Classes.{compound}
-use Rattle.click_scopes.specs.Elements.{Placed, place, Role, pseudo, refers, makes, role_of_head, has_name, Local}
-use Rattle.click_scopes.specs.Faults.{End, WrittenConnection, ScopeNames, scope_names, written_end, number_behind, number_after_all, joints_behind, joints_from, statement_joints, scope_locals, scope_joints, first_token}
+use Rattle.click_scopes.specs.Elements.{Placed, place, Role, pseudo, refers, makes, role_of_head, has_name, ScopeElement}
+use Rattle.click_scopes.specs.Faults.{End, WrittenConnection, ScopeNames, scope_names, written_end, number_behind, number_after_all, written_connections_behind, written_connections_from, statement_connections, elements_of_scope, scope_connections, first_token}
 use Rattle.click_expand.specs.Parameters.{Bindings}
-use Rattle.click_expand.specs.Instances.{Leaf, AreLeaves, no_elements, leaf, branch, LeadsTo, to_whole, to_inner}
+use Rattle.click_expand.specs.Instances.{PrimitiveElement, ArePrimitiveElements, no_elements, primitive_element, branch, LeadsTo, to_whole, to_inner}
 use Rattle.click_expand.specs.Connections.{Node, output_of, input_of, begin_node, end_node, Leads, by_connection, further}
 use Rattle.click_expand.specs.Flat.{IsFlat}
 use Rattle.click_expand.specs.OneScope.{HasNoCompounds, IsConnectionAsWritten}
 use Rattle.click_expand.specs.declared.flat.Connection.{Connection}
 use Rattle.click_expand.specs.declared.flat.Flat.{Flat}
-use Rattle.click_scopes.proofs.Once.{contains-nil, contains-cons}
-use Rattle.click_scopes.proofs.Contained.{contains-here, contains-behind}
+use Rattle.click_scopes.proofs.OfBodies.OneBodyPlace.{contains-nil, contains-cons}
+use Rattle.click_scopes.proofs.OfLists.ListParts.{contains-here, contains-behind}
 
 module _ (c : Config) where
   abbrev top : ScopeNames
@@ -48,8 +48,8 @@ module _ (c : Config) where
   end-own : (n : ℕ) (p : Placed) → IsOwn (written_end c top n p)
   end-own n p e = role-own top.declared p.element.head p.element.text e
 
-  behind-own : (visible : List Statement) (n : ℕ) (a : End) (ls : List Link) (j : WrittenConnection) → IsOwn a → Contains (joints_behind c top visible n a ls) j → AreOwn j
-  unfolding joints_behind
+  behind-own : (visible : List Statement) (n : ℕ) (a : End) (ls : List Link) (j : WrittenConnection) → IsOwn a → Contains (written_connections_behind c top visible n a ls) j → AreOwn j
+  unfolding written_connections_behind
   behind-own visible n a [] j p i = absurd (contains-nil j i)
   behind-own visible n a (l ∷ ls) j p i =
       let q = end-own n (place visible l.element) in
@@ -58,7 +58,7 @@ module _ (c : Config) where
         | inr k ↦ behind-own visible (number_behind c top n (place visible l.element)) (written_end c top n (place visible l.element)) ls j q k
       ]
 
-  statement-own : (visible : List Statement) (n : ℕ) (st : Statement) (j : WrittenConnection) → Contains (statement_joints c top visible n st) j → AreOwn j
+  statement-own : (visible : List Statement) (n : ℕ) (st : Statement) (j : WrittenConnection) → Contains (statement_connections c top visible n st) j → AreOwn j
   statement-own visible n (statement.Chain k) j i =
       behind-own visible (number_behind c top n (place visible k.first)) (written_end c top n (place visible k.first)) k.links j (end-own n (place visible k.first)) i
   statement-own visible n (statement.Declaration d) j i = absurd (contains-nil j i)
@@ -66,16 +66,16 @@ module _ (c : Config) where
   statement-own visible n (statement.Synonym m d) j i = absurd (contains-nil j i)
   statement-own visible n (statement.Requirement t) j i = absurd (contains-nil j i)
 
-  statements-own : (visible : List Statement) (n : ℕ) (ss : List Statement) (j : WrittenConnection) → Contains (joints_from c top visible n ss) j → AreOwn j
-  unfolding joints_from
+  statements-own : (visible : List Statement) (n : ℕ) (ss : List Statement) (j : WrittenConnection) → Contains (written_connections_from c top visible n ss) j → AreOwn j
+  unfolding written_connections_from
   statements-own visible n [] j i = absurd (contains-nil j i)
   statements-own visible n (st ∷ ss) j i =
-      elim (Contains-append_cases (statement_joints c top visible n st) _ j i) [
+      elim (Contains-append_cases (statement_connections c top visible n st) _ j i) [
         | inl k ↦ statement-own visible n st j k
         | inr k ↦ statements-own (st ∷ visible) (number_after_all c top n (map (place visible) (statement_elements st))) ss j k
       ]
 
-  pub whole-roles : (j : WrittenConnection) → Contains (scope_joints c whole []) j → (j.from.role ≡ pseudo → ⊥) × (j.to.role ≡ pseudo → ⊥)
+  pub whole-roles : (j : WrittenConnection) → Contains (scope_connections c whole []) j → (j.from.role ≡ pseudo → ⊥) × (j.to.role ≡ pseudo → ⊥)
   whole-roles j i = statements-own [] 0 c.statements j i
 
   begins-own : (e : End) (r : Role) (port : ℕ) → (r ≡ pseudo → ⊥) → begin_node [] e r port ≡ output_of (e.name ∷ []) port
@@ -89,54 +89,54 @@ module _ (c : Config) where
   ends-own e makes port h = refl
 
   -- no element among these is a compound
-  abbrev IsFree : List Local → Type 0
-  IsFree ls = (l : Local) (b : ℕ) → Contains ls l → l.meaning ≡ Some (compound b) → ⊥
+  abbrev IsFree : List ScopeElement → Type 0
+  IsFree ls = (l : ScopeElement) (b : ℕ) → Contains ls l → l.meaning ≡ Some (compound b) → ⊥
 
-  free-tail : (l : Local) (ls : List Local) → IsFree (l ∷ ls) → IsFree ls
+  free-tail : (l : ScopeElement) (ls : List ScopeElement) → IsFree (l ∷ ls) → IsFree ls
   free-tail l ls h k b i = h k b (contains-behind l ls k i)
 
-  leaf-local : {s : Scope} {around : List Scope} {path : List (List ℕ)} {bindings : Bindings} {ls : List Local} {leaves : List Leaf} {n : ℕ} → IsFree ls →
-      AreLeaves c s around path bindings ls leaves n → (i : ℕ) (k : Leaf) → slice_get leaves i ≡ Some k →
-      (l : Local) × (slice_get ls i ≡ Some l) × (k.path ≡ path ++ l.name ∷ [])
-  leaf-local h (no_elements s around path bindings) i k e = absurd (cc e)
-  leaf-local h (leaf s around path bindings l ls class text leaves n m r a) zero k e =
-      let x : Leaf = record { path = path ++ l.name ∷ []; class = class; text = text; first = first_token c l.head } in
+  primitive_element-scope_element : {s : Scope} {enclosing : List Scope} {path : List (List ℕ)} {bindings : Bindings} {ls : List ScopeElement} {primitive_elements : List PrimitiveElement} {n : ℕ} → IsFree ls →
+      ArePrimitiveElements c s enclosing path bindings ls primitive_elements n → (i : ℕ) (k : PrimitiveElement) → slice_get primitive_elements i ≡ Some k →
+      (l : ScopeElement) × (slice_get ls i ≡ Some l) × (k.path ≡ path ++ l.name ∷ [])
+  primitive_element-scope_element h (no_elements s enclosing path bindings) i k e = absurd (cc e)
+  primitive_element-scope_element h (primitive_element s enclosing path bindings l ls class text primitive_elements n m r a) zero k e =
+      let x : PrimitiveElement = record { path = path ++ l.name ∷ []; class = class; text = text; first = first_token c l.head } in
       let f : x ≡ k = cc e in
-      (l, refl, ap (λ (y : Leaf). y.path) (sym f))
-  leaf-local h (leaf s around path bindings l ls class text leaves n m r a) (suc i) k e = leaf-local (free-tail l ls h) a i k e
-  leaf-local h (branch s around path bindings l ls b visible outer spans values inner leaves m n d r v st a g) i k e = absurd (h l b (contains-here l ls) d)
+      (l, refl, ap (λ (y : PrimitiveElement). y.path) (sym f))
+  primitive_element-scope_element h (primitive_element s enclosing path bindings l ls class text primitive_elements n m r a) (suc i) k e = primitive_element-scope_element (free-tail l ls h) a i k e
+  primitive_element-scope_element h (branch s enclosing path bindings l ls b visible outer spans values inner primitive_elements m n d r v st a g) i k e = absurd (h l b (contains-here l ls) d)
 
-  local-leaf : {s : Scope} {around : List Scope} {path : List (List ℕ)} {bindings : Bindings} {ls : List Local} {leaves : List Leaf} {n : ℕ} → IsFree ls →
-      AreLeaves c s around path bindings ls leaves n → (i : ℕ) (l : Local) → slice_get ls i ≡ Some l →
-      (k : Leaf) × (slice_get leaves i ≡ Some k) × (k.path ≡ path ++ l.name ∷ [])
-  local-leaf h (no_elements s around path bindings) i l e = absurd (cc e)
-  local-leaf h (leaf s around path bindings x ls class text leaves n m r a) zero l e =
-      let f : x ≡ l = cc e in (_, refl, ap (λ (y : Local). path ++ y.name ∷ []) f)
-  local-leaf h (leaf s around path bindings x ls class text leaves n m r a) (suc i) l e = local-leaf (free-tail x ls h) a i l e
-  local-leaf h (branch s around path bindings x ls b visible outer spans values inner leaves m n d r v st a g) i l e = absurd (h x b (contains-here x ls) d)
+  scope_element-primitive_element : {s : Scope} {enclosing : List Scope} {path : List (List ℕ)} {bindings : Bindings} {ls : List ScopeElement} {primitive_elements : List PrimitiveElement} {n : ℕ} → IsFree ls →
+      ArePrimitiveElements c s enclosing path bindings ls primitive_elements n → (i : ℕ) (l : ScopeElement) → slice_get ls i ≡ Some l →
+      (k : PrimitiveElement) × (slice_get primitive_elements i ≡ Some k) × (k.path ≡ path ++ l.name ∷ [])
+  scope_element-primitive_element h (no_elements s enclosing path bindings) i l e = absurd (cc e)
+  scope_element-primitive_element h (primitive_element s enclosing path bindings x ls class text primitive_elements n m r a) zero l e =
+      let f : x ≡ l = cc e in (_, refl, ap (λ (y : ScopeElement). path ++ y.name ∷ []) f)
+  scope_element-primitive_element h (primitive_element s enclosing path bindings x ls class text primitive_elements n m r a) (suc i) l e = scope_element-primitive_element (free-tail x ls h) a i l e
+  scope_element-primitive_element h (branch s enclosing path bindings x ls b visible outer spans values inner primitive_elements m n d r v st a g) i l e = absurd (h x b (contains-here x ls) d)
 
   module _ (none : HasNoCompounds c) where
     pub only-whole : {path : List (List ℕ)} {s : Scope} {visible : List Statement} → LeadsTo c path s visible → (path ≡ []) × (s ≡ whole) × (visible ≡ [])
     only-whole to_whole = (refl, refl, refl)
     only-whole (to_inner path s visible before after l b inner outer t e m st) =
         let i = only-whole t in
-        let f : scope_locals c whole [] ≡ before ++ l ∷ after = rw (i.1, i.2) at e in
-        let g : Contains (scope_locals c whole []) l = subst (λ xs. Contains xs l) (sym f) (Contains-append_right before (l ∷ after) l (contains-here l after)) in
+        let f : elements_of_scope c whole [] ≡ before ++ l ∷ after = rw (i.1, i.2) at e in
+        let g : Contains (elements_of_scope c whole []) l = subst (λ xs. Contains xs l) (sym f) (Contains-append_right before (l ∷ after) l (contains-here l after)) in
         absurd (none l b g m)
 
     -- the nodes of one connection of the whole text
     pub record IsWire (a b : Node) : Type 0 where
-      pub joint : WrittenConnection
-      pub there : Contains (scope_joints c whole []) joint
-      pub begins : a ≡ output_of (joint.from.name ∷ []) joint.out_port
-      pub ends : b ≡ input_of (joint.to.name ∷ []) joint.in_port
+      pub written_connection : WrittenConnection
+      pub there : Contains (scope_connections c whole []) written_connection
+      pub begins : a ≡ output_of (written_connection.from.name ∷ []) written_connection.out_port
+      pub ends : b ≡ input_of (written_connection.to.name ∷ []) written_connection.in_port
 
-    wire-at : (path : List (List ℕ)) (j : WrittenConnection) → path ≡ [] → Contains (scope_joints c whole []) j →
+    wire-at : (path : List (List ℕ)) (j : WrittenConnection) → path ≡ [] → Contains (scope_connections c whole []) j →
         IsWire (begin_node path j.from j.from.role j.out_port) (end_node path j.to j.to.role j.in_port)
     wire-at path j e i =
         let r = whole-roles j i in
         record {
-          joint = j;
+          written_connection = j;
           there = i;
           begins = rw e (begins-own j.from j.from.role j.out_port r.0);
           ends = rw e (ends-own j.to j.to.role j.in_port r.1);
@@ -145,7 +145,7 @@ module _ (c : Config) where
     pub leads-one : {a b : Node} → Leads c a b → IsWire a b
     leads-one (by_connection path s visible j t m) =
         let i = only-whole t in
-        let n : Contains (scope_joints c whole []) j = rw (i.1, i.2) at m in
+        let n : Contains (scope_connections c whole []) j = rw (i.1, i.2) at m in
         wire-at path j i.0 n
     leads-one (further a b d l r) =
         let x = leads-one l in
@@ -157,15 +157,15 @@ module _ (c : Config) where
     pub written-of : (f : Flat) (k : Connection) → IsFlat c f → Contains f.connections k → IsConnectionAsWritten c k
     written-of f k h i =
         let j = h.meant.connections.sound k i in
-        let from = leaf-local none h.meant.elements k.from j.from j.from_there in
-        let to = leaf-local none h.meant.elements k.to j.to j.to_there in
+        let from = primitive_element-scope_element none h.meant.elements k.from j.from j.from_there in
+        let to = primitive_element-scope_element none h.meant.elements k.to j.to j.to_there in
         let w = leads-one j.leads in
         let b = w.begins in
         let e = w.ends in
         let p = from.2 in
         let q = to.2 in
         record {
-          joint = w.joint;
+          written_connection = w.written_connection;
           there = w.there;
           from = (from.0, from.1, cc (b, p));
           out_port = cc b;
@@ -175,9 +175,9 @@ module _ (c : Config) where
 
     pub all-written : (f : Flat) (k : Connection) → IsFlat c f → IsConnectionAsWritten c k → Contains f.connections k
     all-written f k h w =
-        let j = w.joint in
-        let from = local-leaf none h.meant.elements k.from w.from.0 w.from.1 in
-        let to = local-leaf none h.meant.elements k.to w.to.0 w.to.1 in
+        let j = w.written_connection in
+        let from = scope_element-primitive_element none h.meant.elements k.from w.from.0 w.from.1 in
+        let to = scope_element-primitive_element none h.meant.elements k.to w.to.0 w.to.1 in
         let r = whole-roles j w.there in
         let l : Leads c (begin_node [] j.from j.from.role j.out_port) (end_node [] j.to j.to.role j.in_port) = by_connection [] whole [] j to_whole w.there in
         let a : begin_node [] j.from j.from.role j.out_port ≡ output_of from.0.path k.out_port =

@@ -4,7 +4,7 @@ use Rattle.std.specs.Map.{lookup}
 use Rattle.click_text.specs.declared.syntax.Span.{Span}
 use Rattle.click_text.specs.declared.syntax.Config.{Config}
 use Rattle.click_text.specs.Spans.{bytes_at}
-use Rattle.click_expand.specs.Instances.{Leaf}
+use Rattle.click_expand.specs.Instances.{PrimitiveElement}
 use Rattle.click_expand.specs.kept.KnownInstances.{KnownInstance, AreInstances}
 use Rattle.click_expand.specs.kept.ParameterValues.{IsRead, IsOwn}
 use Rattle.click_expand.specs.declared.instances.tree.Place.{Place}
@@ -22,7 +22,7 @@ same_argument a b = nat_eq a.within b.within && nat_eq a.place b.place
 pub record IsArgumentKept (c : Config) (instances : List InstanceKept) (text : List ℕ) (a : Argument) (s : Span) : Type 0 where
   pub ordered : s.start ≤ s.end
   pub within : s.end ≤ length text
-  pub value : (places : List Place) (known : List KnownInstance) (leaves : List Leaf) → AreInstances c instances places known leaves → IsOwn known a (bytes_at text s)
+  pub value : (places : List Place) (known : List KnownInstance) (primitive_elements : List PrimitiveElement) → AreInstances c instances places known primitive_elements → IsOwn known a (bytes_at text s)
 
 -- so for each argument that is kept
 abbrev pub AreKept : Config → List InstanceKept → TextBuffer → Type 0

@@ -6,7 +6,7 @@ use Rattle.click_text.specs.declared.syntax.Config.{Config}
 use Rattle.click_scopes.specs.Elements.{string_or_empty}
 use Rattle.click_expand.specs.Parameters.{Bindings, IsReplaced}
 use Rattle.click_expand.specs.kept.KnownInstances.{KnownInstance}
-use Rattle.click_scopes.specs.declared.scope_elements.Local.{Local as LocalKept}
+use Rattle.click_scopes.specs.declared.scope_elements.ScopeElement.{ScopeElement as ScopeElementKept}
 use Rattle.click_expand.specs.declared.texts.parameter_values.UnreadText.{UnreadText}
 use Rattle.click_expand.specs.declared.texts.parameter_values.Argument.{Argument}
 use Rattle.click_expand.specs.declared.texts.parameter_values.ParameterValue.{ParameterValue}
@@ -21,17 +21,17 @@ spans_found None element = []
 spans_found (Some one) element = spans_by (slice_get one element)
 
 -- the string of an element
-abbrev pub string_kept : List ℕ → Option LocalKept → List ℕ
+abbrev pub string_kept : List ℕ → Option ScopeElementKept → List ℕ
 string_kept text None = []
 string_kept text (Some l) = string_or_empty text l.text
 
-abbrev pub string_found : List ℕ → Option (Vec LocalKept Global) → ℕ → List ℕ
+abbrev pub string_found : List ℕ → Option (Vec ScopeElementKept Global) → ℕ → List ℕ
 string_found text None element = []
 string_found text (Some ls) element = string_kept text (slice_get ls.items element)
 
 -- with its parameters replaced by what they are in its instance, a text is this one
 abbrev pub IsRead : Config → List KnownInstance → UnreadText → List ℕ → Type 0
-IsRead c known r out = (x : KnownInstance) × (slice_get known r.within ≡ Some x) × IsReplaced c x.bindings (x.scope ∷ x.around) r.rest.now out
+IsRead c known r out = (x : KnownInstance) × (slice_get known r.within ≡ Some x) × IsReplaced c x.bindings (x.scope ∷ x.enclosing) r.rest.now out
 
 -- the arguments of the body that an instance is of
 abbrev pub own_arguments : Bindings → List (List ℕ)

@@ -2,9 +2,9 @@
 use Rattle.std.specs.Prelude.{◌≡◌, ◌⊎◌, ℕ, ◌<◌, List, [], ◌∷◌, length, slice_get, Contains, nat_eq, Option, Some, None, Vec}
 use Rattle.std.specs.Global.{Global}
 use Rattle.std.specs.Map.{lookup}
-use Rattle.click_scopes.specs.declared.classes.ClassOf.{ClassOf}
-use Rattle.click_scopes.specs.declared.classes.ClassOf.TheVariants as class
-use Rattle.click_scopes.specs.declared.scope_elements.Local.{Local as LocalKept}
+use Rattle.click_scopes.specs.declared.classes.ResolvedClass.{ResolvedClass}
+use Rattle.click_scopes.specs.declared.classes.ResolvedClass.TheVariants as class
+use Rattle.click_scopes.specs.declared.scope_elements.ScopeElement.{ScopeElement as ScopeElementKept}
 use Rattle.click_scopes.specs.declared.written_connections.Owner.TheVariants as owner
 use Rattle.click_expand.specs.declared.connections.connection_index.ScopePort.{ScopePort}
 use Rattle.click_expand.specs.declared.connections.connection_index.ConnectionIndex.{ConnectionIndex}
@@ -16,22 +16,22 @@ use Rattle.click_expand.specs.declared.connections.passthrough.ScopeShortcuts.{S
 use Rattle.click_expand.specs.kept.Wiring.{scope_port, same_port, ends_in, Gains, HasAll}
 
 -- the body that a class stands for
-abbrev pub class_body : Option ClassOf → Option ℕ
+abbrev pub class_body : Option ResolvedClass → Option ℕ
 class_body None = None
 class_body (Some (class.Primitive s)) = None
 class_body (Some (class.Compound b)) = Some b
 
-abbrev pub local_body : Option LocalKept → Option ℕ
-local_body None = None
-local_body (Some l) = class_body l.class
+abbrev pub scope_element_body : Option ScopeElementKept → Option ℕ
+scope_element_body None = None
+scope_element_body (Some l) = class_body l.class
 
-abbrev pub scope_body : ℕ → Option (Vec LocalKept Global) → Option ℕ
+abbrev pub scope_body : ℕ → Option (Vec ScopeElementKept Global) → Option ℕ
 scope_body i None = None
-scope_body i (Some ls) = local_body (slice_get ls.items i)
+scope_body i (Some ls) = scope_element_body (slice_get ls.items i)
 
 -- the body that an element of a scope stands for
-abbrev pub body_at : List (Vec LocalKept Global) → ℕ → ℕ → Option ℕ
-body_at locals s i = scope_body i (slice_get locals s)
+abbrev pub body_at : List (Vec ScopeElementKept Global) → ℕ → ℕ → Option ℕ
+body_at scope_elements s i = scope_body i (slice_get scope_elements s)
 
 abbrev pub index_ends : Option ConnectionIndex → ScopePort → List ScopePort
 index_ends None a = []
@@ -154,7 +154,7 @@ AreAlike ends body short s x = (n k : ℕ) → lookup (nat_eq n) x.alike.entries
 
 -- Each element of an instance is a flat element, or the instance of the body that it stands for.
 pub record AreNested (body : ℕ → ℕ → Option ℕ) (instances : List Instance) : Type 0 where
-  pub leaf : (u i l : ℕ) (k : Instance) → slice_get instances u ≡ Some k → slice_get k.parts i ≡ Some (part.Leaf l) → body k.scope i ≡ None
+  pub primitive_element : (u i l : ℕ) (k : Instance) → slice_get instances u ≡ Some k → slice_get k.parts i ≡ Some (part.PrimitiveElement l) → body k.scope i ≡ None
   pub inner : (u i v : ℕ) (k : Instance) → slice_get instances u ≡ Some k → slice_get k.parts i ≡ Some (part.Inner v) →
-      (m : Instance) × (slice_get instances v ≡ Some m) × ((p : Place) × (m.around ≡ Some p) × (p.within ≡ u) × (p.element ≡ i)) × (body k.scope i ≡ Some m.scope)
+      (m : Instance) × (slice_get instances v ≡ Some m) × ((p : Place) × (m.enclosing ≡ Some p) × (p.within ≡ u) × (p.element ≡ i)) × (body k.scope i ≡ Some m.scope)
   pub part : (u i b : ℕ) (k : Instance) → slice_get instances u ≡ Some k → body k.scope i ≡ Some b → (v : ℕ) × (slice_get k.parts i ≡ Some (part.Inner v))

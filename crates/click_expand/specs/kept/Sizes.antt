@@ -1,14 +1,14 @@
 -- How much a configuration stands for, as the code counts it: up to one more than the limits.
 use Rattle.std.specs.Prelude.{◌≡◌, ℕ, ◌+◌, List, length, min}
 use Rattle.click_text.specs.declared.syntax.Config.{Config}
-use Rattle.click_expand.specs.Instances.{Leaf, LeavesOf}
+use Rattle.click_expand.specs.Instances.{PrimitiveElement, PrimitiveElementsOf}
 use Rattle.click_expand.specs.Flat.{most_elements, most_paths}
 use Rattle.click_expand.specs.declared.instances.sizes.Size.{Size}
 
--- the numbers of leaves and of paths, or one more than the limit of each
-pub record IsSize (leaves : List Leaf) (paths : ℕ) (size : Size) : Type 0 where
-  pub elements : size.elements ≡ min (length leaves) (most_elements + 1)
+-- the numbers of primitive elements and of paths, or one more than the limit of each
+pub record IsSize (primitive_elements : List PrimitiveElement) (paths : ℕ) (size : Size) : Type 0 where
+  pub elements : size.elements ≡ min (length primitive_elements) (most_elements + 1)
   pub all_paths : size.paths ≡ min paths (most_paths + 1)
 
 abbrev pub IsSizeOf : Config → Size → Type 0
-IsSizeOf c size = (leaves : List Leaf) (paths : ℕ) → LeavesOf c leaves paths → IsSize leaves paths size
+IsSizeOf c size = (primitive_elements : List PrimitiveElement) (paths : ℕ) → PrimitiveElementsOf c primitive_elements paths → IsSize primitive_elements paths size

@@ -9,7 +9,7 @@ use Rattle.click_expand.specs.declared.texts.writing.TextPart.TheVariants as par
 
 -- the same for plain bytes
 abbrev pub IsReadAt : Config → List KnownInstance → ℕ → List ℕ → List ℕ → Type 0
-IsReadAt c known u bytes out = (x : KnownInstance) × (slice_get known u ≡ Some x) × IsReplaced c x.bindings (x.scope ∷ x.around) bytes out
+IsReadAt c known u bytes out = (x : KnownInstance) × (slice_get known u ≡ Some x) × IsReplaced c x.bindings (x.scope ∷ x.enclosing) bytes out
 
 -- the whole that is read is what stands for the part, and after it what is read of the rest
 abbrev pub Parts : Config → List KnownInstance → ℕ → List ℕ → List ℕ → TextPart → Type 0

@@ -24,7 +24,7 @@ abbrev pub instance_port : ℕ → ScopePort → InstancePort
 instance_port u p = record { within = u; port = p }
 
 abbrev pub flat_input : ℕ → ℕ → FlatInput
-flat_input l n = record { leaf = l; number = n }
+flat_input l n = record { primitive_element = l; number = n }
 
 abbrev pub same_owner : Owner → Owner → Bool
 same_owner owner.Input owner.Input = true
@@ -40,10 +40,10 @@ same_start a b = nat_eq a.within b.within && same_port a.port b.port
 
 -- a connection as written leads from one port of its scope to another
 pub record IsJoined (ks : List WrittenConnection) (a b : ScopePort) : Type 0 where
-  pub joint : WrittenConnection
-  pub there : Contains ks joint
-  pub from : a ≡ scope_port joint.from.owner joint.out_port
-  pub to : b ≡ scope_port joint.to.owner joint.in_port
+  pub written_connection : WrittenConnection
+  pub there : Contains ks written_connection
+  pub from : a ≡ scope_port written_connection.from.owner written_connection.out_port
+  pub to : b ≡ scope_port written_connection.to.owner written_connection.in_port
 
 -- the ports that those at a port are joined to
 abbrev pub ends_or_none : Option (Vec ScopePort Global) → List ScopePort
@@ -73,19 +73,19 @@ outward (Some p) n = next.Start (instance_port p.within (scope_port (owner.Eleme
 -- into an element
 abbrev pub inward : Option InstancePart → ℕ → Reached
 inward None n = next.Nothing
-inward (Some (part.Leaf l)) n = next.Leaf (flat_input l n)
+inward (Some (part.PrimitiveElement l)) n = next.PrimitiveElement (flat_input l n)
 inward (Some (part.Inner v)) n = next.Start (instance_port v (scope_port owner.Input n))
 
 -- what lies behind a port that a connection leads to, in that instance
 abbrev pub reached_by : Instance → Owner → ℕ → Reached
 reached_by k owner.Input n = next.Nothing
-reached_by k owner.Output n = outward k.around n
+reached_by k owner.Output n = outward k.enclosing n
 reached_by k (owner.Element i) n = inward (slice_get k.parts i) n
 
 -- one connection leads on from a start
 pub record StepsTo (instances : List Instance) (indices : List ConnectionIndex) (s : InstancePort) (n : Reached) : Type 0 where
   pub used : Instance
-  pub used_there : slice_get instances s.within ≡ Some used
+  pub instance_is_there : slice_get instances s.within ≡ Some used
   pub index : ConnectionIndex
   pub index_there : slice_get indices used.scope ≡ Some index
   pub to : ScopePort
@@ -98,17 +98,17 @@ all_reached k ends = map (λ (e : ScopePort). reached_by k e.owner e.number) end
 
 -- connections lead on from a start to an input of a flat element
 pub data Arrives (instances : List Instance) (indices : List ConnectionIndex) : InstancePort → FlatInput → Type 0 where
-  at_once : (s : InstancePort) (i : FlatInput) → StepsTo instances indices s (next.Leaf i) → Arrives instances indices s i
+  at_once : (s : InstancePort) (i : FlatInput) → StepsTo instances indices s (next.PrimitiveElement i) → Arrives instances indices s i
   after_connection : (s t : InstancePort) (i : FlatInput) → StepsTo instances indices s (next.Start t) → Arrives instances indices t i → Arrives instances indices s i
 
 abbrev pub connection : ℕ → ℕ → FlatInput → Connection
-connection leaf number i = record { from = leaf; out_port = number; to = i.leaf; in_port = i.number }
+connection primitive_element number i = record { from = primitive_element; out_port = number; to = i.primitive_element; in_port = i.number }
 
 -- a connection from a flat element, found by a search from there
-pub record IsFrom (instances : List Instance) (indices : List ConnectionIndex) (leaf : ℕ) (s : InstancePort) (k : Connection) : Type 0 where
+pub record IsFrom (instances : List Instance) (indices : List ConnectionIndex) (primitive_element : ℕ) (s : InstancePort) (k : Connection) : Type 0 where
   pub to : FlatInput
   pub arrives : Arrives instances indices s to
-  pub is : k ≡ connection leaf s.port.number to
+  pub is : k ≡ connection primitive_element s.port.number to
 
 -- a connection from that port of an instance, which is an output of a flat element
 pub record IsFromPort (instances : List Instance) (indices : List ConnectionIndex) (within : ℕ) (p : ScopePort) (k : Connection) : Type 0 where
@@ -116,18 +116,18 @@ pub record IsFromPort (instances : List Instance) (indices : List ConnectionInde
   pub there : slice_get instances within ≡ Some used
   pub element : ℕ
   pub owner : p.owner ≡ owner.Element element
-  pub is_leaf : slice_get used.parts element ≡ Some (part.Leaf k.from)
+  pub is_primitive_element : slice_get used.parts element ≡ Some (part.PrimitiveElement k.from)
   pub is_from : IsFrom instances indices k.from (instance_port within p) k
 
 -- a connection from an instance
-pub record IsFromUse (instances : List Instance) (indices : List ConnectionIndex) (within : ℕ) (k : Connection) : Type 0 where
+pub record IsFromInstance (instances : List Instance) (indices : List ConnectionIndex) (within : ℕ) (k : Connection) : Type 0 where
   pub port : ScopePort
   pub is_from : IsFromPort instances indices within port k
 
 -- a connection of flat elements
 pub record Connects (instances : List Instance) (indices : List ConnectionIndex) (k : Connection) : Type 0 where
   pub within : ℕ
-  pub is_from : IsFromUse instances indices within k
+  pub is_from : IsFromInstance instances indices within k
 
 -- further parts stand after these, each of them such a part
 pub record Gains {X : Type 0} (P : X → Type 0) (old new : List X) : Type 0 where
@@ -144,22 +144,22 @@ IsOn ns s = Contains ns (next.Start s)
 
 -- a connection from an output to an input that is among these
 abbrev pub IsConnectionInto : ℕ → ℕ → List Reached → Connection → Type 0
-IsConnectionInto leaf number ns k = (i : FlatInput) × Contains ns (next.Leaf i) × (k ≡ connection leaf number i)
+IsConnectionInto primitive_element number ns k = (i : FlatInput) × Contains ns (next.PrimitiveElement i) × (k ≡ connection primitive_element number i)
 
 -- the starts that are seen and the connections that are found after these are taken
-pub record Takes (leaf number : ℕ) (ns : List Reached) (seen_old seen_new : List InstancePort) (found_old found_new : List Connection) : Type 0 where
+pub record Takes (primitive_element number : ℕ) (ns : List Reached) (seen_old seen_new : List InstancePort) (found_old found_new : List Connection) : Type 0 where
   pub seen : Gains (IsOn ns) seen_old seen_new
   pub seen_all : HasAll (IsOn ns) seen_new
-  pub found : Gains (IsConnectionInto leaf number ns) found_old found_new
-  pub found_all : HasAll (IsConnectionInto leaf number ns) found_new
+  pub found : Gains (IsConnectionInto primitive_element number ns) found_old found_new
+  pub found_all : HasAll (IsConnectionInto primitive_element number ns) found_new
 
 -- one connection leads from a start to an input of a flat element
 abbrev pub IsAtOnce : List Instance → List ConnectionIndex → InstancePort → ℕ → ℕ → Connection → Type 0
-IsAtOnce instances indices s leaf number k = (i : FlatInput) × StepsTo instances indices s (next.Leaf i) × (k ≡ connection leaf number i)
+IsAtOnce instances indices s primitive_element number k = (i : FlatInput) × StepsTo instances indices s (next.PrimitiveElement i) × (k ≡ connection primitive_element number i)
 
 -- the same after one connection from a start
-pub record Visits (instances : List Instance) (indices : List ConnectionIndex) (s : InstancePort) (leaf number : ℕ) (seen_old seen_new : List InstancePort) (found_old found_new : List Connection) : Type 0 where
+pub record Visits (instances : List Instance) (indices : List ConnectionIndex) (s : InstancePort) (primitive_element number : ℕ) (seen_old seen_new : List InstancePort) (found_old found_new : List Connection) : Type 0 where
   pub seen : Gains (λ t. StepsTo instances indices s (next.Start t)) seen_old seen_new
   pub seen_all : HasAll (λ t. StepsTo instances indices s (next.Start t)) seen_new
-  pub found : Gains (IsAtOnce instances indices s leaf number) found_old found_new
-  pub found_all : HasAll (IsAtOnce instances indices s leaf number) found_new
+  pub found : Gains (IsAtOnce instances indices s primitive_element number) found_old found_new
+  pub found_all : HasAll (IsAtOnce instances indices s primitive_element number) found_new

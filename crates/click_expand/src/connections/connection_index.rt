@@ -27,7 +27,7 @@ pub struct InstancePort {
 /// An input of a flat element.
 #[derive(Clone, Copy, Debug, PartialEq, Eq)]
 pub struct FlatInput {
-    pub leaf: usize,
+    pub primitive_element: usize,
     pub number: u8,
 }
 
@@ -37,7 +37,7 @@ pub enum Reached {
     /// A port that further connections lead on from.
     Start(InstancePort),
     /// An input of a flat element.
-    Leaf(FlatInput),
+    PrimitiveElement(FlatInput),
     /// Nothing.
     Nothing,
 }
@@ -79,21 +79,24 @@ impl ConnectionIndex {
 }
 
 /// The index of the connections of a scope.
-pub fn index_of(alloc: Global, joints: &[WrittenConnection]) -> Result<ConnectionIndex, AllocError>
-    ensures { IfOk result (λ x. IsIndex joints.now x.ends.entries) }
+pub fn index_of(
+    alloc: Global,
+    written_connections: &[WrittenConnection],
+) -> Result<ConnectionIndex, AllocError>
+    ensures { IfOk result (λ x. IsIndex written_connections.now x.ends.entries) }
 {
     let mut index = ConnectionIndex {
         ends: IndexMap::new(alloc),
         alike: IndexMap::new(alloc),
     };
-    for joint in joints {
+    for written_connection in written_connections {
         let from = ScopePort {
-            owner: joint.from.owner,
-            number: joint.out_port,
+            owner: written_connection.from.owner,
+            number: written_connection.out_port,
         };
         let to = ScopePort {
-            owner: joint.to.owner,
-            number: joint.in_port,
+            owner: written_connection.to.owner,
+            number: written_connection.in_port,
         };
         index.add(alloc, from, to)?;
     }
@@ -101,10 +104,10 @@ pub fn index_of(alloc: Global, joints: &[WrittenConnection]) -> Result<Connectio
 }
 
 /// What lies out of an instance that stands at a place, after its output of that number.
-fn outward(around: Option<Place>, number: u8) -> Reached
-    ensures { result ≡ spec.outward around number }
+fn outward(enclosing: Option<Place>, number: u8) -> Reached
+    ensures { result ≡ spec.outward enclosing number }
 {
-    match around {
+    match enclosing {
         None => Reached::Nothing,
         Some(place) => Reached::Start(InstancePort {
             within: place.within,
@@ -122,7 +125,12 @@ fn inward(part: Option<InstancePart>, number: u8) -> Reached
 {
     match part {
         None => Reached::Nothing,
-        Some(InstancePart::Leaf(leaf)) => Reached::Leaf(FlatInput { leaf, number }),
+        Some(InstancePart::PrimitiveElement(primitive_element)) => Reached::PrimitiveElement(
+            FlatInput {
+                primitive_element,
+                number,
+            },
+        ),
         Some(InstancePart::Inner(within)) => Reached::Start(InstancePort {
             within,
             port: ScopePort {
@@ -139,7 +147,7 @@ pub fn next_of(one: &Instance, to: ScopePort) -> Reached
 {
     match to.owner {
         Owner::Input => Reached::Nothing,
-        Owner::Output => outward(one.around, to.number),
+        Owner::Output => outward(one.enclosing, to.number),
         Owner::Element(element) => inward(one.parts.as_slice().get(element).copied(), to.number),
     }
 }

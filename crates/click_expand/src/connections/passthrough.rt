@@ -10,8 +10,8 @@ ghost use Rattle.click_expand.specs.kept.Passthrough as spec;
 ghost use Rattle.click_expand.specs.kept.Passthrough.{AreAlike, AreEndsOf, AreFound, AreShortened, AreStoodFor, HasShortcuts, IsLike, IsOutputOf, IsShortened, LeadAlike, LeadsThrough, GoesOnBehind, StandsIn};
 
 use crate::connections::connection_index::{ConnectionIndex, ScopePort, index_of};
-use click_scopes::{ClassOf, Local, Owner, WrittenConnection};
-use click_text::sequence::Sequence;
+use click_base::sequence::Sequence;
+use click_scopes::{Owner, ResolvedClass, ScopeElement, WrittenConnection};
 use indexmap::{IndexMap, IndexSet};
 use std::alloc::{AllocError, Global};
 
@@ -23,11 +23,11 @@ struct Shortcut {
 }
 
 /// The body that an element of a scope stands for.
-fn body_at(locals: &[Vec<Local>], scope: usize, element: usize) -> Option<usize>
-    ensures { result ≡ spec.body_at locals.now scope element }
+fn body_at(scope_elements: &[Vec<ScopeElement>], scope: usize, element: usize) -> Option<usize>
+    ensures { result ≡ spec.body_at scope_elements.now scope element }
 {
-    match locals.get(scope)?.get(element)?.class {
-        Some(ClassOf::Compound(body)) => Some(body),
+    match scope_elements.get(scope)?.get(element)?.class {
+        Some(ResolvedClass::Compound(body)) => Some(body),
         _ => None,
     }
 }
@@ -49,16 +49,16 @@ fn number_for(done: &[ConnectionIndex], body: usize, number: u8) -> u8
 /// The port that stands in for one that a connection leads to.
 fn port_for(
     done: &[ConnectionIndex],
-    locals: &[Vec<Local>],
+    scope_elements: &[Vec<ScopeElement>],
     scope: usize,
     end: ScopePort,
 ) -> ScopePort
-    ensures { (ends short : ℕ → PortKept → List PortKept) → AreShortened ends (spec.body_at locals.now) short done.now → StandsIn ends (spec.body_at locals.now) short scope end result }
+    ensures { (ends short : ℕ → PortKept → List PortKept) → AreShortened ends (spec.body_at scope_elements.now) short done.now → StandsIn ends (spec.body_at scope_elements.now) short scope end result }
 {
     let Owner::Element(element) = end.owner else {
         return end;
     };
-    match body_at(locals, scope, element) {
+    match body_at(scope_elements, scope, element) {
         Some(body) => ScopePort {
             owner: end.owner,
             number: number_for(done, body, end.number),
@@ -71,16 +71,16 @@ fn port_for(
 fn ports_for(
     alloc: Global,
     done: &[ConnectionIndex],
-    locals: &[Vec<Local>],
+    scope_elements: &[Vec<ScopeElement>],
     scope: usize,
     ends: &[ScopePort],
 ) -> Result<Vec<ScopePort>, AllocError>
-    ensures { (joined short : ℕ → PortKept → List PortKept) → AreShortened joined (spec.body_at locals.now) short done.now →
-        IfOk result (λ ports. AreStoodFor joined (spec.body_at locals.now) short scope ends.now ports.items) }
+    ensures { (joined short : ℕ → PortKept → List PortKept) → AreShortened joined (spec.body_at scope_elements.now) short done.now →
+        IfOk result (λ ports. AreStoodFor joined (spec.body_at scope_elements.now) short scope ends.now ports.items) }
 {
     let mut ports = IndexSet::new(alloc);
     for end in ends {
-        ports.insert(port_for(done, locals, scope, *end))?;
+        ports.insert(port_for(done, scope_elements, scope, *end))?;
     }
     Vec::from_slice(alloc, ports.as_slice())
 }
@@ -89,17 +89,17 @@ fn ports_for(
 fn with_stand_ins(
     alloc: Global,
     done: &[ConnectionIndex],
-    locals: &[Vec<Local>],
+    scope_elements: &[Vec<ScopeElement>],
     scope: usize,
     index: &ConnectionIndex,
 ) -> Result<ConnectionIndex, AllocError>
-    ensures { (ends short : ℕ → PortKept → List PortKept) → AreShortened ends (spec.body_at locals.now) short done.now → ((a : PortKept) → ends scope a ≡ ends_in index.now.ends.entries a) →
-        IfOk result (λ x. AreEndsOf ends (spec.body_at locals.now) short scope (ends_in x.ends.entries)) }
+    ensures { (ends short : ℕ → PortKept → List PortKept) → AreShortened ends (spec.body_at scope_elements.now) short done.now → ((a : PortKept) → ends scope a ≡ ends_in index.now.ends.entries a) →
+        IfOk result (λ x. AreEndsOf ends (spec.body_at scope_elements.now) short scope (ends_in x.ends.entries)) }
 {
     let mut ends = IndexMap::new(alloc);
     for at in 0..index.ends.len() {
         if let Some((port, _)) = index.ends.get_index(at) {
-            let ports = ports_for(alloc, done, locals, scope, index.ends(*port))?;
+            let ports = ports_for(alloc, done, scope_elements, scope, index.ends(*port))?;
             ends.insert(*port, ports)?;
         }
     }
@@ -110,14 +110,14 @@ fn with_stand_ins(
 }
 
 /// Whether an element of the scope is a compound.
-fn has_compounds(locals: &[Vec<Local>], scope: usize) -> bool
-    ensures { result ≡ false → (element : ℕ) → spec.body_at locals.now scope element ≡ None }
+fn has_compounds(scope_elements: &[Vec<ScopeElement>], scope: usize) -> bool
+    ensures { result ≡ false → (element : ℕ) → spec.body_at scope_elements.now scope element ≡ None }
 {
-    let Some(one) = locals.get(scope) else {
+    let Some(one) = scope_elements.get(scope) else {
         return false;
     };
     for element in 0..one.len() {
-        if body_at(locals, scope, element).is_some() {
+        if body_at(scope_elements, scope, element).is_some() {
             return true;
         }
     }
@@ -128,15 +128,15 @@ fn has_compounds(locals: &[Vec<Local>], scope: usize) -> bool
 fn reduced(
     alloc: Global,
     done: &[ConnectionIndex],
-    locals: &[Vec<Local>],
+    scope_elements: &[Vec<ScopeElement>],
     scope: usize,
     index: ConnectionIndex,
 ) -> Result<ConnectionIndex, AllocError>
-    ensures { (ends short : ℕ → PortKept → List PortKept) → AreShortened ends (spec.body_at locals.now) short done.now → ((a : PortKept) → ends scope a ≡ ends_in index.ends.entries a) →
-        IfOk result (λ x. AreEndsOf ends (spec.body_at locals.now) short scope (ends_in x.ends.entries)) }
+    ensures { (ends short : ℕ → PortKept → List PortKept) → AreShortened ends (spec.body_at scope_elements.now) short done.now → ((a : PortKept) → ends scope a ≡ ends_in index.ends.entries a) →
+        IfOk result (λ x. AreEndsOf ends (spec.body_at scope_elements.now) short scope (ends_in x.ends.entries)) }
 {
-    if has_compounds(locals, scope) {
-        return with_stand_ins(alloc, done, locals, scope, &index);
+    if has_compounds(scope_elements, scope) {
+        return with_stand_ins(alloc, done, scope_elements, scope, &index);
     }
     Ok(index)
 }
@@ -186,14 +186,14 @@ fn go_on(
 /// Goes on after a port that a connection leads to. False where that is a flat element's, or an input that leads to an element.
 fn pass(
     done: &[ConnectionIndex],
-    locals: &[Vec<Local>],
+    scope_elements: &[Vec<ScopeElement>],
     scope: usize,
     end: ScopePort,
     seen: &mut IndexSet<ScopePort>,
     outputs: &mut IndexSet<ScopePort>,
 ) -> Result<bool, AllocError>
-    ensures { (ends short : ℕ → PortKept → List PortKept) → AreShortened ends (spec.body_at locals.now) short done.now →
-        IfOk result (λ on. on ≡ true → GoesOnBehind ends (spec.body_at locals.now) short scope (end ∷ []) seen.old.keys seen.new.keys outputs.old.keys outputs.new.keys) }
+    ensures { (ends short : ℕ → PortKept → List PortKept) → AreShortened ends (spec.body_at scope_elements.now) short done.now →
+        IfOk result (λ on. on ≡ true → GoesOnBehind ends (spec.body_at scope_elements.now) short scope (end ∷ []) seen.old.keys seen.new.keys outputs.old.keys outputs.new.keys) }
 {
     match end.owner {
         // No connection leads to a body's own input: that is a wrong use.
@@ -203,7 +203,7 @@ fn pass(
             Ok(true)
         }
         Owner::Element(element) => {
-            let Some(body) = body_at(locals, scope, element) else {
+            let Some(body) = body_at(scope_elements, scope, element) else {
                 return Ok(false);
             };
             let Some(behind) = outputs_through(done, body, end.number) else {
@@ -216,19 +216,19 @@ fn pass(
 }
 
 /// Goes on after each of these ports, up to the first that leads to an element; false there.
-fn pass_all(
+fn search_past_all(
     done: &[ConnectionIndex],
-    locals: &[Vec<Local>],
+    scope_elements: &[Vec<ScopeElement>],
     scope: usize,
     ends: &[ScopePort],
     seen: &mut IndexSet<ScopePort>,
     outputs: &mut IndexSet<ScopePort>,
 ) -> Result<bool, AllocError>
-    ensures { (joined short : ℕ → PortKept → List PortKept) → AreShortened joined (spec.body_at locals.now) short done.now →
-        IfOk result (λ on. on ≡ true → GoesOnBehind joined (spec.body_at locals.now) short scope ends.now seen.old.keys seen.new.keys outputs.old.keys outputs.new.keys) }
+    ensures { (joined short : ℕ → PortKept → List PortKept) → AreShortened joined (spec.body_at scope_elements.now) short done.now →
+        IfOk result (λ on. on ≡ true → GoesOnBehind joined (spec.body_at scope_elements.now) short scope ends.now seen.old.keys seen.new.keys outputs.old.keys outputs.new.keys) }
 {
     for end in ends {
-        if !pass(done, locals, scope, *end, seen, outputs)? {
+        if !pass(done, scope_elements, scope, *end, seen, outputs)? {
             return Ok(false);
         }
     }
@@ -239,13 +239,13 @@ fn pass_all(
 fn outputs_from(
     alloc: Global,
     done: &[ConnectionIndex],
-    locals: &[Vec<Local>],
+    scope_elements: &[Vec<ScopeElement>],
     scope: usize,
     index: &ConnectionIndex,
     from: ScopePort,
 ) -> Result<Option<Vec<ScopePort>>, AllocError>
-    ensures { (ends short : ℕ → PortKept → List PortKept) → AreShortened ends (spec.body_at locals.now) short done.now → AreEndsOf ends (spec.body_at locals.now) short scope (ends_in index.now.ends.entries) →
-        IfOk result (λ r. IfSome r (λ outputs. LeadAlike ends (spec.body_at locals.now) scope (ends_in index.now.ends.entries) from outputs.items)) }
+    ensures { (ends short : ℕ → PortKept → List PortKept) → AreShortened ends (spec.body_at scope_elements.now) short done.now → AreEndsOf ends (spec.body_at scope_elements.now) short scope (ends_in index.now.ends.entries) →
+        IfOk result (λ r. IfSome r (λ outputs. LeadAlike ends (spec.body_at scope_elements.now) scope (ends_in index.now.ends.entries) from outputs.items)) }
 {
     let mut seen = IndexSet::new(alloc);
     let mut outputs = IndexSet::new(alloc);
@@ -254,7 +254,7 @@ fn outputs_from(
     while at < seen.len() {
         let port = seen.as_slice()[at];
         let ends = index.ends(port);
-        if !pass_all(done, locals, scope, ends, &mut seen, &mut outputs)? {
+        if !search_past_all(done, scope_elements, scope, ends, &mut seen, &mut outputs)? {
             return Ok(None);
         }
         at += 1;
@@ -313,17 +313,17 @@ impl ScopeShortcuts {
     }
 
     /// Adds the shortcut from a port, or the input that it is like, where it is an input that leads through the scope.
-    fn look(
+    fn add_shortcut_from(
         &mut self,
         alloc: Global,
         done: &[ConnectionIndex],
-        locals: &[Vec<Local>],
+        scope_elements: &[Vec<ScopeElement>],
         scope: usize,
         index: &ConnectionIndex,
         from: ScopePort,
     ) -> Result<(), AllocError>
-        ensures { (ends short : ℕ → PortKept → List PortKept) → AreShortened ends (spec.body_at locals.now) short done.now → AreEndsOf ends (spec.body_at locals.now) short scope (ends_in index.now.ends.entries) →
-            AreFound ends (spec.body_at locals.now) scope (ends_in index.now.ends.entries) self.old → OnOk result (AreFound ends (spec.body_at locals.now) scope (ends_in index.now.ends.entries) self.new) }
+        ensures { (ends short : ℕ → PortKept → List PortKept) → AreShortened ends (spec.body_at scope_elements.now) short done.now → AreEndsOf ends (spec.body_at scope_elements.now) short scope (ends_in index.now.ends.entries) →
+            AreFound ends (spec.body_at scope_elements.now) scope (ends_in index.now.ends.entries) self.old → OnOk result (AreFound ends (spec.body_at scope_elements.now) scope (ends_in index.now.ends.entries) self.new) }
     {
         let Owner::Input = from.owner else {
             return Ok(());
@@ -332,7 +332,7 @@ impl ScopeShortcuts {
             self.alike.insert(from.number, number)?;
             return Ok(());
         }
-        match outputs_from(alloc, done, locals, scope, index, from)? {
+        match outputs_from(alloc, done, scope_elements, scope, index, from)? {
             Some(outputs) => self.add(index, from, outputs),
             None => Ok(()),
         }
@@ -340,15 +340,15 @@ impl ScopeShortcuts {
 }
 
 /// The shortcuts through a scope, where those through all bodies before it are known.
-fn found_in(
+fn shortcuts_of(
     alloc: Global,
     done: &[ConnectionIndex],
-    locals: &[Vec<Local>],
+    scope_elements: &[Vec<ScopeElement>],
     scope: usize,
     index: &ConnectionIndex,
 ) -> Result<ScopeShortcuts, AllocError>
-    ensures { (ends short : ℕ → PortKept → List PortKept) → AreShortened ends (spec.body_at locals.now) short done.now → AreEndsOf ends (spec.body_at locals.now) short scope (ends_in index.now.ends.entries) →
-        IfOk result (AreFound ends (spec.body_at locals.now) scope (ends_in index.now.ends.entries)) }
+    ensures { (ends short : ℕ → PortKept → List PortKept) → AreShortened ends (spec.body_at scope_elements.now) short done.now → AreEndsOf ends (spec.body_at scope_elements.now) short scope (ends_in index.now.ends.entries) →
+        IfOk result (AreFound ends (spec.body_at scope_elements.now) scope (ends_in index.now.ends.entries)) }
 {
     let mut found = ScopeShortcuts {
         shortcuts: Vec::new(alloc),
@@ -357,7 +357,7 @@ fn found_in(
     };
     for at in 0..index.ends.len() {
         if let Some((port, _)) = index.ends.get_index(at) {
-            found.look(alloc, done, locals, scope, index, *port)?;
+            found.add_shortcut_from(alloc, done, scope_elements, scope, index, *port)?;
         }
     }
     Ok(found)
@@ -385,31 +385,31 @@ fn with_shortcuts(
 fn shortened(
     alloc: Global,
     done: &[ConnectionIndex],
-    locals: &[Vec<Local>],
+    scope_elements: &[Vec<ScopeElement>],
     scope: usize,
     index: ConnectionIndex,
 ) -> Result<ConnectionIndex, AllocError>
-    ensures { (ends short : ℕ → PortKept → List PortKept) → AreShortened ends (spec.body_at locals.now) short done.now → ((a : PortKept) → ends scope a ≡ ends_in index.ends.entries a) →
-        IfOk result (λ x. ((a : PortKept) → short scope a ≡ ends_in x.ends.entries a) → IsShortened ends (spec.body_at locals.now) short scope × AreAlike ends (spec.body_at locals.now) short scope x) }
+    ensures { (ends short : ℕ → PortKept → List PortKept) → AreShortened ends (spec.body_at scope_elements.now) short done.now → ((a : PortKept) → ends scope a ≡ ends_in index.ends.entries a) →
+        IfOk result (λ x. ((a : PortKept) → short scope a ≡ ends_in x.ends.entries a) → IsShortened ends (spec.body_at scope_elements.now) short scope × AreAlike ends (spec.body_at scope_elements.now) short scope x) }
 {
-    let short = reduced(alloc, done, locals, scope, index)?;
-    let found = found_in(alloc, done, locals, scope, &short)?;
+    let short = reduced(alloc, done, scope_elements, scope, index)?;
+    let found = shortcuts_of(alloc, done, scope_elements, scope, &short)?;
     with_shortcuts(short, found)
 }
 
 /// The indices of all scopes, with the shortcuts through them.
 pub fn all_indices(
     alloc: Global,
-    joints: &[Sequence<WrittenConnection>],
-    locals: &[Vec<Local>],
+    written_connections: &[Sequence<WrittenConnection>],
+    scope_elements: &[Vec<ScopeElement>],
 ) -> Result<Vec<ConnectionIndex>, AllocError>
-    ensures { IfOk result (λ short. (whole : List IndexKept) × AreIndices joints.now whole × (length whole ≡ length short.items)
-        × AreShortened (spec.ends_at whole) (spec.body_at locals.now) (spec.ends_at short.items) short.items) }
+    ensures { IfOk result (λ short. (whole : List IndexKept) × AreIndices written_connections.now whole × (length whole ≡ length short.items)
+        × AreShortened (spec.ends_at whole) (spec.body_at scope_elements.now) (spec.ends_at short.items) short.items) }
 {
     let mut indices = Vec::new(alloc);
-    for (scope, one) in joints.iter().enumerate() {
+    for (scope, one) in written_connections.iter().enumerate() {
         let index = index_of(alloc, one.as_slice())?;
-        indices.push(shortened(alloc, indices.as_slice(), locals, scope, index)?)?;
+        indices.push(shortened(alloc, indices.as_slice(), scope_elements, scope, index)?)?;
     }
     Ok(indices)
 }

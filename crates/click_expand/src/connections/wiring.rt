@@ -4,13 +4,13 @@ ghost use Rattle.std.specs.Prelude.{◌≡◌, ◌≤◌, ◌<◌, ◌∷◌, []
 ghost use Rattle.click_expand.specs.declared.flat.Connection.{Connection as Joined};
 ghost use Rattle.click_scopes.specs.kept.Nesting.{IsNested};
 ghost use Rattle.click_scopes.specs.Faults.{IsFaultless};
-ghost use Rattle.click_scopes.specs.kept.WrittenConnections.{AreAllJoints};
-ghost use Rattle.click_scopes.specs.kept.ScopeElements.{AreAllLocals};
-ghost use Rattle.click_expand.specs.Instances.{Leaf as Flattened};
+ghost use Rattle.click_scopes.specs.kept.WrittenConnections.{AreAllWrittenConnections};
+ghost use Rattle.click_scopes.specs.kept.ScopeElements.{AreAllScopeElements};
+ghost use Rattle.click_expand.specs.Instances.{PrimitiveElement as Flattened};
 ghost use Rattle.click_expand.specs.kept.KnownInstances.{KnownInstance, AreInstances};
 ghost use Rattle.click_expand.specs.Flat.{AreConnections, AreOrdered, Joins, most_connections};
 ghost use Rattle.click_expand.specs.kept.Wiring as spec;
-ghost use Rattle.click_expand.specs.kept.Wiring.{Connects, IsFrom, IsFromPort, IsFromUse, Gains, HasAll, Takes};
+ghost use Rattle.click_expand.specs.kept.Wiring.{Connects, IsFrom, IsFromPort, IsFromInstance, Gains, HasAll, Takes};
 
 use crate::connections::connection_index::{
     ConnectionIndex, FlatInput, InstancePort, Reached, ScopePort, next_of,
@@ -19,8 +19,8 @@ use crate::connections::order::in_order;
 use crate::connections::passthrough::all_indices;
 use crate::flat::Connection;
 use crate::instances::tree::{Instance, InstancePart, Instances};
-use click_scopes::{Local, Owner, WrittenConnection};
-use click_text::sequence::Sequence;
+use click_base::sequence::Sequence;
+use click_scopes::{Owner, ScopeElement, WrittenConnection};
 use click_text::syntax::Config;
 use indexmap::IndexSet;
 use std::alloc::{AllocError, Global};
@@ -31,18 +31,18 @@ pub const MOST_CONNECTIONS: usize = 16384;
 /// An output of a flat element, by which it is named in its connections, and where a search from it begins.
 #[derive(Clone, Copy)]
 struct Output {
-    leaf: usize,
+    primitive_element: usize,
     start: InstancePort,
 }
 
 /// The connection from an output to an input.
 fn connection(from: Output, to: FlatInput) -> Connection
-    ensures { result ≡ spec.connection from.leaf from.start.port.number to }
+    ensures { result ≡ spec.connection from.primitive_element from.start.port.number to }
 {
     Connection {
-        from: from.leaf,
+        from: from.primitive_element,
         out_port: from.start.port.number,
-        to: to.leaf,
+        to: to.primitive_element,
         in_port: to.number,
     }
 }
@@ -54,14 +54,14 @@ fn take(
     seen: &mut IndexSet<InstancePort>,
     found: &mut IndexSet<Connection>,
 ) -> Result<(), AllocError>
-    ensures { OnOk result (Takes from.leaf from.start.port.number (next ∷ []) seen.old.keys seen.new.keys found.old.keys found.new.keys) }
+    ensures { OnOk result (Takes from.primitive_element from.start.port.number (next ∷ []) seen.old.keys seen.new.keys found.old.keys found.new.keys) }
 {
     match next {
         Reached::Nothing => {}
         Reached::Start(start) => {
             seen.insert(start)?;
         }
-        Reached::Leaf(input) => {
+        Reached::PrimitiveElement(input) => {
             found.insert(connection(from, input))?;
         }
     }
@@ -76,7 +76,7 @@ fn take_all(
     seen: &mut IndexSet<InstancePort>,
     found: &mut IndexSet<Connection>,
 ) -> Result<(), AllocError>
-    ensures { OnOk result (Takes from.leaf from.start.port.number (spec.all_reached one.now ends.now) seen.old.keys seen.new.keys found.old.keys found.new.keys) }
+    ensures { OnOk result (Takes from.primitive_element from.start.port.number (spec.all_reached one.now ends.now) seen.old.keys seen.new.keys found.old.keys found.new.keys) }
 {
     for end in ends {
         take(next_of(one, *end), from, seen, found)?;
@@ -93,7 +93,7 @@ fn visit(
     seen: &mut IndexSet<InstancePort>,
     found: &mut IndexSet<Connection>,
 ) -> Result<(), AllocError>
-    ensures { OnOk result (spec.Visits instances.now indices.now start from.leaf from.start.port.number seen.old.keys seen.new.keys found.old.keys found.new.keys) }
+    ensures { OnOk result (spec.Visits instances.now indices.now start from.primitive_element from.start.port.number seen.old.keys seen.new.keys found.old.keys found.new.keys) }
 {
     let Some(one) = instances.get(start.within) else {
         return Ok(());
@@ -112,8 +112,8 @@ fn search(
     from: Output,
     found: &mut IndexSet<Connection>,
 ) -> Result<(), AllocError>
-    ensures more { OnOk result (Gains (IsFrom instances.now indices.now from.leaf from.start) found.old.keys found.new.keys) }
-    ensures all { OnOk result (length found.new.keys ≤ most_connections → HasAll (IsFrom instances.now indices.now from.leaf from.start) found.new.keys) }
+    ensures more { OnOk result (Gains (IsFrom instances.now indices.now from.primitive_element from.start) found.old.keys found.new.keys) }
+    ensures all { OnOk result (length found.new.keys ≤ most_connections → HasAll (IsFrom instances.now indices.now from.primitive_element from.start) found.new.keys) }
 {
     let mut seen = IndexSet::new(alloc);
     seen.insert(from.start)?;
@@ -144,23 +144,37 @@ fn search_port(
     let Owner::Element(element) = port.owner else {
         return Ok(());
     };
-    let Some(InstancePart::Leaf(leaf)) = one.parts.as_slice().get(element).copied() else {
+    let Some(InstancePart::PrimitiveElement(primitive_element)) = one
+        .parts
+        .as_slice()
+        .get(element)
+        .copied()
+    else {
         return Ok(());
     };
     let start = InstancePort { within, port };
-    search(alloc, instances, indices, Output { leaf, start }, found)
+    search(
+        alloc,
+        instances,
+        indices,
+        Output {
+            primitive_element,
+            start,
+        },
+        found,
+    )
 }
 
 /// Adds the connections from an instance.
-fn search_use(
+fn search_instance(
     alloc: Global,
     instances: &[Instance],
     indices: &[ConnectionIndex],
     within: usize,
     found: &mut IndexSet<Connection>,
 ) -> Result<(), AllocError>
-    ensures more { OnOk result (Gains (IsFromUse instances.now indices.now within) found.old.keys found.new.keys) }
-    ensures all { OnOk result (length found.new.keys ≤ most_connections → HasAll (IsFromUse instances.now indices.now within) found.new.keys) }
+    ensures more { OnOk result (Gains (IsFromInstance instances.now indices.now within) found.old.keys found.new.keys) }
+    ensures all { OnOk result (length found.new.keys ≤ most_connections → HasAll (IsFromInstance instances.now indices.now within) found.new.keys) }
 {
     let Some(one) = instances.get(within) else {
         return Ok(());
@@ -187,7 +201,7 @@ fn search_all(
 {
     let mut found = IndexSet::new(alloc);
     for within in 0..instances.len() {
-        search_use(alloc, instances, indices, within, &mut found)?;
+        search_instance(alloc, instances, indices, within, &mut found)?;
     }
     Ok(found)
 }
@@ -196,20 +210,20 @@ fn search_all(
 pub fn connections_of(
     alloc: Global,
     config: &Config,
-    locals: &[Vec<Local>],
-    joints: &[Sequence<WrittenConnection>],
+    scope_elements: &[Vec<ScopeElement>],
+    written_connections: &[Sequence<WrittenConnection>],
     instances: &Instances,
 ) -> Result<Option<Vec<Connection>>, AllocError>
     requires nested { IsNested config.now }
     requires sound { IsFaultless config.now }
-    requires locals { AreAllLocals config.now locals.now }
-    requires joined { AreAllJoints config.now joints.now }
-    requires used { (leaves : List Flattened) × (known : List KnownInstance) × AreInstances config.now instances.now.instances.items instances.now.leaves.items known leaves }
-    ensures { IfOk result (λ r. (leaves : List Flattened) (known : List KnownInstance) → AreInstances config.now instances.now.instances.items instances.now.leaves.items known leaves →
-        MatchOption r ((ks : List Joined) × AreOrdered ks × ((k : Joined) → Contains ks k → Joins config.now leaves k) × (most_connections < length ks))
-        (λ ks. AreConnections config.now leaves ks.items × (length ks.items ≤ most_connections))) }
+    requires scope_elements { AreAllScopeElements config.now scope_elements.now }
+    requires joined { AreAllWrittenConnections config.now written_connections.now }
+    requires used { (primitive_elements : List Flattened) × (known : List KnownInstance) × AreInstances config.now instances.now.instances.items instances.now.primitive_elements.items known primitive_elements }
+    ensures { IfOk result (λ r. (primitive_elements : List Flattened) (known : List KnownInstance) → AreInstances config.now instances.now.instances.items instances.now.primitive_elements.items known primitive_elements →
+        MatchOption r ((ks : List Joined) × AreOrdered ks × ((k : Joined) → Contains ks k → Joins config.now primitive_elements k) × (most_connections < length ks))
+        (λ ks. AreConnections config.now primitive_elements ks.items × (length ks.items ≤ most_connections))) }
 {
-    let indices = all_indices(alloc, joints, locals)?;
+    let indices = all_indices(alloc, written_connections, scope_elements)?;
     let found = search_all(alloc, instances.instances.as_slice(), indices.as_slice())?;
     let all = in_order(Vec::from_slice(alloc, found.as_slice())?);
     if all.len() > MOST_CONNECTIONS {

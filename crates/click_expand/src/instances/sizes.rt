@@ -1,7 +1,7 @@
 //! How much a configuration stands for, before it is expanded.
 
 ghost use Rattle.std.specs.Prelude.{◌≡◌, ◌+◌, ◌++◌, ◌∷◌, [], min, slice_get, IfOk, OnOk};
-ghost use Rattle.click_scopes.specs.kept.ScopeElements.{AreAllLocals};
+ghost use Rattle.click_scopes.specs.kept.ScopeElements.{AreAllScopeElements};
 ghost use Rattle.click_scopes.specs.kept.Nesting.{IsNested};
 ghost use Rattle.click_scopes.specs.Faults.{IsFaultless};
 ghost use Rattle.click_expand.specs.kept.Sizes.{IsSizeOf};
@@ -9,7 +9,7 @@ ghost use Rattle.click_expand.specs.Flat.{most_elements, most_paths};
 ghost use Rattle.click_expand.specs.kept.Counted as spec;
 ghost use Rattle.click_expand.specs.kept.Counted.{size_or, IsSum};
 
-use click_scopes::{ClassOf, Local};
+use click_scopes::{ResolvedClass, ScopeElement};
 use click_text::syntax::Config;
 use std::alloc::{AllocError, Global};
 
@@ -47,11 +47,11 @@ fn size_at(sizes: &[Size], place: usize) -> Size
 }
 
 /// What is inside an element.
-fn size_inside(sizes: &[Size], class: Option<ClassOf>) -> Size
+fn size_inside(sizes: &[Size], class: Option<ResolvedClass>) -> Size
     ensures { result ≡ spec.size_inside sizes.now class }
 {
     match class {
-        Some(ClassOf::Compound(body)) => size_at(sizes, body),
+        Some(ResolvedClass::Compound(body)) => size_at(sizes, body),
         _ => Size {
             elements: 1,
             paths: 0,
@@ -75,15 +75,15 @@ fn with_element(all: Size, inside: Size) -> Size
 }
 
 /// The size of a scope after those that its elements can mean.
-fn scope_size(sizes: &[Size], locals: &[Local]) -> Size
-    ensures { IsSum sizes.now locals.now result }
+fn scope_size(sizes: &[Size], scope_elements: &[ScopeElement]) -> Size
+    ensures { IsSum sizes.now scope_elements.now result }
 {
     let mut all = Size {
         elements: 0,
         paths: 0,
     };
-    for local in locals {
-        all = with_element(all, size_inside(sizes, local.class));
+    for scope_element in scope_elements {
+        all = with_element(all, size_inside(sizes, scope_element.class));
     }
     all
 }
@@ -97,14 +97,18 @@ fn push_size(sizes: &mut Vec<Size>, size: Size) -> Result<(), AllocError>
 }
 
 /// The size of a configuration, counted once for each scope and not once for each instance.
-pub fn size_of(alloc: Global, config: &Config, locals: &[Vec<Local>]) -> Result<Size, AllocError>
+pub fn size_of(
+    alloc: Global,
+    config: &Config,
+    scope_elements: &[Vec<ScopeElement>],
+) -> Result<Size, AllocError>
     requires nested { IsNested config.now }
     requires sound { IsFaultless config.now }
-    requires locals { AreAllLocals config.now locals.now }
+    requires scope_elements { AreAllScopeElements config.now scope_elements.now }
     ensures { IfOk result (λ size. IsSizeOf config.now size) }
 {
     let mut sizes = Vec::new(alloc);
-    for elements in locals {
+    for elements in scope_elements {
         let size = scope_size(sizes.as_slice(), elements.as_slice());
         push_size(&mut sizes, size)?;
     }

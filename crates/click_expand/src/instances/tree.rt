@@ -1,18 +1,18 @@
 //! The instances of scopes: the whole text, and each compound that a path leads to.
 
 ghost use Rattle.std.specs.Prelude.{◌≡◌, ◌≤◌, ◌<◌, ◌++◌, ◌∷◌, [], ℕ, List, length, slice_get, slice_set, Some, IfOk, OnOk};
-ghost use Rattle.click_scopes.specs.kept.ScopeElements.{AreAllLocals};
+ghost use Rattle.click_scopes.specs.kept.ScopeElements.{AreAllScopeElements};
 ghost use Rattle.click_scopes.specs.kept.Nesting.{IsNested};
 ghost use Rattle.click_scopes.specs.kept.Scoped.{AreScopes};
 ghost use Rattle.click_scopes.specs.Faults.{IsFaultless};
-ghost use Rattle.click_expand.specs.Instances.{Leaf as Flattened, LeavesOf};
+ghost use Rattle.click_expand.specs.Instances.{PrimitiveElement as Flattened, PrimitiveElementsOf};
 ghost use Rattle.click_expand.specs.kept.KnownInstances.{KnownInstance, AreInstances};
 ghost use Rattle.click_expand.specs.declared.instances.tree.Instance.{Instance as InstanceKept};
 ghost use Rattle.click_expand.specs.kept.InstanceWalk as spec;
-ghost use Rattle.click_expand.specs.kept.InstanceWalk.{outer_by, bare_use, with_part, AreInward, home_by, IsHomeIn, AddsFlatElement, IsEntered, IsLeft, IsWalkStep};
+ghost use Rattle.click_expand.specs.kept.InstanceWalk.{outer_by, instance_without_parts, with_part, AreInward, lexical_parent_by, IsLexicalParentIn, AddsFlatElement, IsEntered, IsLeft, IsWalkStep};
 
-use click_scopes::{ClassOf, Local, Scope, Scopes};
-use click_text::sequence::Sequence;
+use click_base::sequence::Sequence;
+use click_scopes::{ResolvedClass, Scope, ScopeElement, Scopes};
 use click_text::syntax::Config;
 use std::alloc::{AllocError, Global};
 
@@ -20,7 +20,7 @@ use std::alloc::{AllocError, Global};
 #[derive(Clone, Copy, Debug, PartialEq, Eq)]
 pub enum InstancePart {
     /// A flat element, by its place in flat order.
-    Leaf(usize),
+    PrimitiveElement(usize),
     /// An instance of a body, by its place among the instances.
     Inner(usize),
 }
@@ -38,9 +38,9 @@ pub struct Instance {
     /// The place of its scope.
     pub scope: usize,
     /// The element that it is; the whole text is none.
-    pub around: Option<Place>,
+    pub enclosing: Option<Place>,
     /// The instance of the scope that its body is written in; the whole text has none.
-    pub home: Option<usize>,
+    pub lexical_parent: Option<usize>,
     /// Its elements, in the order of the text.
     pub parts: Sequence<InstancePart>,
 }
@@ -49,7 +49,7 @@ pub struct Instance {
 #[derive(Drop)]
 pub struct Instances {
     pub instances: Vec<Instance>,
-    pub leaves: Vec<Place>,
+    pub primitive_elements: Vec<Place>,
 }
 
 /// What stands next among the elements of an instance.
@@ -64,26 +64,26 @@ enum NextElement {
 #[derive(Drop)]
 struct Walk {
     instances: Vec<Instance>,
-    leaves: Vec<Place>,
+    primitive_elements: Vec<Place>,
     place: usize,
 }
 
-fn next_class(class: Option<ClassOf>) -> NextElement
+fn next_class(class: Option<ResolvedClass>) -> NextElement
     ensures { result ≡ spec.next_class class }
 {
     match class {
-        Some(ClassOf::Compound(body)) => NextElement::Inner(body),
+        Some(ResolvedClass::Compound(body)) => NextElement::Inner(body),
         _ => NextElement::Flat,
     }
 }
 
 /// What stands at that place among the elements of a scope.
-fn next_in(locals: &[Vec<Local>], scope: usize, element: usize) -> NextElement
-    ensures { result ≡ spec.next_in (slice_get locals.now scope) element }
+fn next_in(scope_elements: &[Vec<ScopeElement>], scope: usize, element: usize) -> NextElement
+    ensures { result ≡ spec.next_in (slice_get scope_elements.now scope) element }
 {
-    match locals.get(scope) {
+    match scope_elements.get(scope) {
         Some(elements) => match elements.as_slice().get(element) {
-            Some(local) => next_class(local.class),
+            Some(scope_element) => next_class(scope_element.class),
             None => NextElement::Nothing,
         },
         None => NextElement::Nothing,
@@ -101,25 +101,29 @@ fn outer_of(scopes: &[Scope], scope: usize) -> usize
 }
 
 /// The instance to look at after one that is not of that scope.
-fn next_home(instances: &[Instance], place: usize, scope: usize) -> Option<usize>
+fn next_lexical_parent(instances: &[Instance], place: usize, scope: usize) -> Option<usize>
     requires { place < length instances.now }
-    ensures { (k : InstanceKept) × (slice_get instances.now place ≡ Some k) × (result ≡ home_by scope k) }
+    ensures { (k : InstanceKept) × (slice_get instances.now place ≡ Some k) × (result ≡ lexical_parent_by scope k) }
 {
     let one = &instances[place];
-    if one.scope == scope { None } else { one.home }
+    if one.scope == scope {
+        None
+    } else {
+        one.lexical_parent
+    }
 }
 
-/// The nearest instance of that scope from home to home.
-fn home_of(instances: &[Instance], place: usize, scope: usize) -> usize
+/// The nearest instance of that scope from lexical parent to lexical parent.
+fn lexical_parent_of(instances: &[Instance], place: usize, scope: usize) -> usize
     requires there { place < length instances.now }
     requires inward { AreInward instances.now }
-    ensures { IsHomeIn instances.now scope place result }
+    ensures { IsLexicalParentIn instances.now scope place result }
 {
-    let mut home = place;
-    while let Some(outward) = next_home(instances, home, scope) {
-        home = outward;
+    let mut lexical_parent = place;
+    while let Some(outward) = next_lexical_parent(instances, lexical_parent, scope) {
+        lexical_parent = outward;
     }
-    home
+    lexical_parent
 }
 
 /// Adds a part to an instance.
@@ -137,19 +141,24 @@ fn add_part(
 }
 
 /// An instance that has no parts yet.
-fn new_use(alloc: Global, scope: usize, around: Option<Place>, home: Option<usize>) -> Instance
-    ensures { result ≡ bare_use scope around home }
+fn new_instance(
+    alloc: Global,
+    scope: usize,
+    enclosing: Option<Place>,
+    lexical_parent: Option<usize>,
+) -> Instance
+    ensures { result ≡ instance_without_parts scope enclosing lexical_parent }
 {
     Instance {
         scope,
-        around,
-        home,
+        enclosing,
+        lexical_parent,
         parts: Sequence::new(alloc),
     }
 }
 
 /// Adds an instance at the end.
-fn push_use(instances: &mut Vec<Instance>, one: Instance) -> Result<(), AllocError>
+fn push_instance(instances: &mut Vec<Instance>, one: Instance) -> Result<(), AllocError>
     ensures { OnOk result (instances.new.items ≡ instances.old.items ++ one ∷ []) }
 {
     instances.push(one)?;
@@ -166,14 +175,18 @@ fn part_count(instances: &[Instance], place: usize) -> usize
 }
 
 /// Adds a flat element to the instance at which the walk is.
-fn add_leaf(walk: &mut Walk) -> Result<(), AllocError>
+fn add_primitive_element(walk: &mut Walk) -> Result<(), AllocError>
     requires { walk.old.place < length walk.old.instances.items }
     ensures { OnOk result ((k : InstanceKept) × (slice_get walk.old.instances.items walk.old.place ≡ Some k) × AddsFlatElement walk.old walk.new k) }
 {
     let element = part_count(walk.instances.as_slice(), walk.place);
-    let leaf = walk.leaves.len();
-    add_part(&mut walk.instances, walk.place, InstancePart::Leaf(leaf))?;
-    walk.leaves.push(Place {
+    let primitive_element = walk.primitive_elements.len();
+    add_part(
+        &mut walk.instances,
+        walk.place,
+        InstancePart::PrimitiveElement(primitive_element),
+    )?;
+    walk.primitive_elements.push(Place {
         within: walk.place,
         element,
     })?;
@@ -187,20 +200,20 @@ fn enter(alloc: Global, scopes: &[Scope], body: usize, walk: &mut Walk) -> Resul
     ensures { OnOk result ((k : InstanceKept) × (slice_get walk.old.instances.items walk.old.place ≡ Some k) × IsEntered scopes.now body walk.old walk.new k) }
 {
     let element = part_count(walk.instances.as_slice(), walk.place);
-    let home = home_of(
+    let lexical_parent = lexical_parent_of(
         walk.instances.as_slice(),
         walk.place,
         outer_of(scopes, body),
     );
     let inner = walk.instances.len();
     add_part(&mut walk.instances, walk.place, InstancePart::Inner(inner))?;
-    let around = Place {
+    let enclosing = Place {
         within: walk.place,
         element,
     };
-    push_use(
+    push_instance(
         &mut walk.instances,
-        new_use(alloc, body, Some(around), Some(home)),
+        new_instance(alloc, body, Some(enclosing), Some(lexical_parent)),
     )?;
     walk.place = inner;
     Ok(())
@@ -209,12 +222,12 @@ fn enter(alloc: Global, scopes: &[Scope], body: usize, walk: &mut Walk) -> Resul
 /// Goes to the instance around, where there is one.
 fn leave(walk: &mut Walk) -> bool
     requires { walk.old.place < length walk.old.instances.items }
-    ensures { (k : InstanceKept) × (slice_get walk.old.instances.items walk.old.place ≡ Some k) × IsLeft k.around walk.old walk.new result }
+    ensures { (k : InstanceKept) × (slice_get walk.old.instances.items walk.old.place ≡ Some k) × IsLeft k.enclosing walk.old walk.new result }
 {
     let one = &walk.instances[walk.place];
-    match one.around {
-        Some(around) => {
-            walk.place = around.within;
+    match one.enclosing {
+        Some(enclosing) => {
+            walk.place = enclosing.within;
             true
         }
         None => false,
@@ -222,32 +235,36 @@ fn leave(walk: &mut Walk) -> bool
 }
 
 /// What the walk finds at its place.
-fn next_of(instances: &[Instance], locals: &[Vec<Local>], place: usize) -> NextElement
+fn next_of(
+    instances: &[Instance],
+    scope_elements: &[Vec<ScopeElement>],
+    place: usize,
+) -> NextElement
     requires { place < length instances.now }
-    ensures { (k : InstanceKept) × (slice_get instances.now place ≡ Some k) × (result ≡ spec.next_in (slice_get locals.now k.scope) (length k.parts)) }
+    ensures { (k : InstanceKept) × (slice_get instances.now place ≡ Some k) × (result ≡ spec.next_in (slice_get scope_elements.now k.scope) (length k.parts)) }
 {
     let one = &instances[place];
-    next_in(locals, one.scope, one.parts.len())
+    next_in(scope_elements, one.scope, one.parts.len())
 }
 
 /// One step of the walk; says whether there are more.
 fn step(
     alloc: Global,
     scopes: &[Scope],
-    locals: &[Vec<Local>],
+    scope_elements: &[Vec<ScopeElement>],
     walk: &mut Walk,
 ) -> Result<bool, AllocError>
     requires there { walk.old.place < length walk.old.instances.items }
     requires inward { AreInward walk.old.instances.items }
-    ensures { IfOk result (λ more. IsWalkStep scopes.now locals.now walk.old walk.new more) }
+    ensures { IfOk result (λ more. IsWalkStep scopes.now scope_elements.now walk.old walk.new more) }
 {
-    match next_of(walk.instances.as_slice(), locals, walk.place) {
+    match next_of(walk.instances.as_slice(), scope_elements, walk.place) {
         NextElement::Inner(body) => {
             enter(alloc, scopes, body, walk)?;
             Ok(true)
         }
         NextElement::Flat => {
-            add_leaf(walk)?;
+            add_primitive_element(walk)?;
             Ok(true)
         }
         NextElement::Nothing => Ok(leave(walk)),
@@ -259,33 +276,33 @@ pub fn instances_of(
     alloc: Global,
     config: &Config,
     scopes: &Scopes,
-    locals: &[Vec<Local>],
+    scope_elements: &[Vec<ScopeElement>],
     paths: usize,
 ) -> Result<Instances, AllocError>
     requires nested { IsNested config.now }
     requires scoped { AreScopes config.now scopes.now.entries.items scopes.now.scopes.items }
-    requires locals { AreAllLocals config.now locals.now }
+    requires scope_elements { AreAllScopeElements config.now scope_elements.now }
     requires sound { IsFaultless config.now }
     requires few { paths ≤ 16384 }
-    requires counted { (leaves : List Flattened) × LeavesOf config.now leaves paths }
-    ensures { IfOk result (λ r. (leaves : List Flattened) (n : ℕ) → LeavesOf config.now leaves n → (known : List KnownInstance) × AreInstances config.now r.instances.items r.leaves.items known leaves) }
+    requires counted { (primitive_elements : List Flattened) × PrimitiveElementsOf config.now primitive_elements paths }
+    ensures { IfOk result (λ r. (primitive_elements : List Flattened) (n : ℕ) → PrimitiveElementsOf config.now primitive_elements n → (known : List KnownInstance) × AreInstances config.now r.instances.items r.primitive_elements.items known primitive_elements) }
 {
     let mut walk = Walk {
         instances: Vec::new(alloc),
-        leaves: Vec::new(alloc),
+        primitive_elements: Vec::new(alloc),
         place: 0,
     };
-    push_use(
+    push_instance(
         &mut walk.instances,
-        new_use(alloc, config.bodies.len(), None, None),
+        new_instance(alloc, config.bodies.len(), None, None),
     )?;
     let scopes = scopes.scopes.as_slice();
     let mut more = true;
     while more {
-        more = step(alloc, scopes, locals, &mut walk)?;
+        more = step(alloc, scopes, scope_elements, &mut walk)?;
     }
     Ok(Instances {
         instances: walk.instances,
-        leaves: walk.leaves,
+        primitive_elements: walk.primitive_elements,
     })
 }

@@ -1,10 +1,10 @@
 //! The elements of a flat configuration.
 
 ghost use Rattle.std.specs.Prelude.{◌≡◌, ◌<◌, ◌≤◌, ◌++◌, ◌∷◌, [], List, map, IfOk, OnOk, MatchOption};
-ghost use Rattle.click_scopes.specs.kept.ScopeElements.{AreAllLocals};
+ghost use Rattle.click_scopes.specs.kept.ScopeElements.{AreAllScopeElements};
 ghost use Rattle.click_scopes.specs.kept.CompoundArguments.{AreAllArguments};
 ghost use Rattle.click_scopes.specs.kept.Nesting.{IsNested};
-ghost use Rattle.click_expand.specs.Instances.{Leaf as Flattened};
+ghost use Rattle.click_expand.specs.Instances.{PrimitiveElement as Flattened};
 ghost use Rattle.click_expand.specs.kept.KnownInstances.{KnownInstance, AreInstances};
 ghost use Rattle.click_expand.specs.Flat.{flat_element, text_size, most_text};
 
@@ -12,8 +12,8 @@ use crate::flat::FlatElement;
 use crate::instances::tree::Instances;
 use crate::texts::flat_elements::element_at;
 use crate::texts::text_buffer::TextBuffer;
-use click_scopes::Local;
-use click_text::sequence::Sequence;
+use click_base::sequence::Sequence;
+use click_scopes::ScopeElement;
 use click_text::syntax::{Config, Span};
 use std::alloc::{AllocError, Global};
 
@@ -29,24 +29,24 @@ fn push_flat(elements: &mut Vec<FlatElement>, element: FlatElement) -> Result<()
 pub fn elements_of(
     alloc: Global,
     config: &Config,
-    locals: &[Vec<Local>],
+    scope_elements: &[Vec<ScopeElement>],
     arguments: &[Sequence<Sequence<Span>>],
     instances: &Instances,
 ) -> Result<Option<Vec<FlatElement>>, AllocError>
     requires nested { IsNested config.now }
-    requires locals { AreAllLocals config.now locals.now }
+    requires scope_elements { AreAllScopeElements config.now scope_elements.now }
     requires arguments { AreAllArguments config.now arguments.now }
-    requires used { (leaves : List Flattened) × (known : List KnownInstance) × AreInstances config.now instances.now.instances.items instances.now.leaves.items known leaves }
-    ensures { IfOk result (λ r. (leaves : List Flattened) (known : List KnownInstance) → AreInstances config.now instances.now.instances.items instances.now.leaves.items known leaves →
-        MatchOption r (most_text < text_size leaves) (λ elements. (elements.items ≡ map flat_element leaves) × (text_size leaves ≤ most_text))) }
+    requires used { (primitive_elements : List Flattened) × (known : List KnownInstance) × AreInstances config.now instances.now.instances.items instances.now.primitive_elements.items known primitive_elements }
+    ensures { IfOk result (λ r. (primitive_elements : List Flattened) (known : List KnownInstance) → AreInstances config.now instances.now.instances.items instances.now.primitive_elements.items known primitive_elements →
+        MatchOption r (most_text < text_size primitive_elements) (λ elements. (elements.items ≡ map flat_element primitive_elements) × (text_size primitive_elements ≤ most_text))) }
 {
     let mut buffer = TextBuffer::new(alloc);
     let mut elements = Vec::new(alloc);
-    for place in instances.leaves.as_slice() {
+    for place in instances.primitive_elements.as_slice() {
         let Some(element) = element_at(
             alloc,
             config,
-            locals,
+            scope_elements,
             arguments,
             instances.instances.as_slice(),
             &mut buffer,

@@ -3,17 +3,17 @@
 ghost use Rattle.std.specs.Prelude.{◌≡◌, ◌<◌, ◌≤◌, List, length, slice_get, ◌∷◌, Some, IfSome};
 ghost use Rattle.click_scopes.specs.Scopes.{body_formals};
 ghost use Rattle.click_scopes.specs.kept.CompoundArguments.{AreAllArguments};
-ghost use Rattle.click_scopes.specs.kept.ScopeElements.{AreAllLocals};
+ghost use Rattle.click_scopes.specs.kept.ScopeElements.{AreAllScopeElements};
 ghost use Rattle.click_expand.specs.Parameters.{scope_value, value_in};
-ghost use Rattle.click_expand.specs.Instances.{Leaf as Flattened};
+ghost use Rattle.click_expand.specs.Instances.{PrimitiveElement as Flattened};
 ghost use Rattle.click_expand.specs.kept.KnownInstances.{KnownInstance, AreInstances};
 ghost use Rattle.click_expand.specs.kept.ParameterValues.{spans_found, string_found, IsValue};
 ghost use Rattle.click_expand.specs.declared.instances.tree.Place.{Place as Placed};
 
 use crate::instances::tree::Instance;
 use crate::texts::parameters::formal_place;
-use click_scopes::{Local, string_inside};
-use click_text::sequence::Sequence;
+use click_base::sequence::Sequence;
+use click_scopes::{ScopeElement, string_inside};
 use click_text::syntax::{Body, Config, Span};
 
 /// A text that is to be read in an instance: the parameters in it have the values that they have there.
@@ -63,17 +63,17 @@ pub fn spans_at(arguments: &[Sequence<Sequence<Span>>], scope: usize, element: u
 /// What stands in the configuration string of an element.
 pub fn string_at<'a>(
     text: &'a [u8],
-    locals: &[Vec<Local>],
+    scope_elements: &[Vec<ScopeElement>],
     scope: usize,
     element: usize,
 ) -> &'a [u8]
-    ensures { result.now ≡ string_found text.now (slice_get locals.now scope) element }
+    ensures { result.now ≡ string_found text.now (slice_get scope_elements.now scope) element }
 {
-    let Some(one) = locals.get(scope) else {
+    let Some(one) = scope_elements.get(scope) else {
         return &[];
     };
     match one.as_slice().get(element) {
-        Some(local) => string_inside(text, local.text),
+        Some(scope_element) => string_inside(text, scope_element.text),
         None => &[],
     }
 }
@@ -81,15 +81,15 @@ pub fn string_at<'a>(
 /// What stands for a parameter of the scope that an instance is of.
 fn own_value<'a>(
     config: &'a Config,
-    locals: &[Vec<Local>],
+    scope_elements: &[Vec<ScopeElement>],
     arguments: &[Sequence<Sequence<Span>>],
     instances: &[Instance],
     at: usize,
     name: &[u8],
 ) -> Option<ParameterValue<'a>>
-    requires locals { AreAllLocals config.now locals.now }
+    requires scope_elements { AreAllScopeElements config.now scope_elements.now }
     requires arguments { AreAllArguments config.now arguments.now }
-    ensures value { (places : List Placed) (known : List KnownInstance) (leaves : List Flattened) (x : KnownInstance) → AreInstances config.now instances.now places known leaves → slice_get known at ≡ Some x →
+    ensures value { (places : List Placed) (known : List KnownInstance) (primitive_elements : List Flattened) (x : KnownInstance) → AreInstances config.now instances.now places known primitive_elements → slice_get known at ≡ Some x →
         IsValue config.now known result (scope_value config.now x.bindings x.scope name.now) }
     ensures before { IfSome result (λ v. v.reading.within < at) }
     ensures short { IfSome result (λ v. length v.reading.rest.now ≤ length config.now.text) }
@@ -99,7 +99,7 @@ fn own_value<'a>(
         return None;
     }
     let one = &instances[at];
-    let Some(outer) = one.around else {
+    let Some(outer) = one.enclosing else {
         return None;
     };
     if outer.within >= at {
@@ -109,7 +109,7 @@ fn own_value<'a>(
     let formals = formals_at(config.bodies.as_slice(), one.scope);
     let place = formal_place(text, formals, name)?;
     let span = spans_at(arguments, scope, outer.element).get(place)?;
-    let string = string_at(text, locals, scope, outer.element);
+    let string = string_at(text, scope_elements, scope, outer.element);
     Some(ParameterValue {
         argument: Argument { within: at, place },
         reading: UnreadText {
@@ -122,33 +122,33 @@ fn own_value<'a>(
 /// What stands for a parameter in an instance: the argument of the nearest body around that has the parameter.
 pub fn value_at<'a>(
     config: &'a Config,
-    locals: &[Vec<Local>],
+    scope_elements: &[Vec<ScopeElement>],
     arguments: &[Sequence<Sequence<Span>>],
     instances: &[Instance],
     from: usize,
     name: &[u8],
 ) -> Option<ParameterValue<'a>>
-    requires locals { AreAllLocals config.now locals.now }
+    requires scope_elements { AreAllScopeElements config.now scope_elements.now }
     requires arguments { AreAllArguments config.now arguments.now }
-    ensures value { (places : List Placed) (known : List KnownInstance) (leaves : List Flattened) (x : KnownInstance) → AreInstances config.now instances.now places known leaves → slice_get known from ≡ Some x →
-        IsValue config.now known result (value_in config.now x.bindings (x.scope ∷ x.around) name.now) }
+    ensures value { (places : List Placed) (known : List KnownInstance) (primitive_elements : List Flattened) (x : KnownInstance) → AreInstances config.now instances.now places known primitive_elements → slice_get known from ≡ Some x →
+        IsValue config.now known result (value_in config.now x.bindings (x.scope ∷ x.enclosing) name.now) }
     ensures before { IfSome result (λ v. v.reading.within < from) }
     ensures short { IfSome result (λ v. length v.reading.rest.now ≤ length config.now.text) }
 {
     let mut at = from;
-    'homes: loop {
-        if let Some(found) = own_value(config, locals, arguments, instances, at, name) {
+    'lexical_parents: loop {
+        if let Some(found) = own_value(config, scope_elements, arguments, instances, at, name) {
             return Some(found);
         }
         if at >= instances.len() {
             return None;
         }
-        let Some(home) = instances[at].home else {
+        let Some(lexical_parent) = instances[at].lexical_parent else {
             return None;
         };
-        if home >= at {
+        if lexical_parent >= at {
             return None;
         }
-        at = home;
+        at = lexical_parent;
     }
 }

@@ -2,8 +2,8 @@
 
 ghost use Rattle.std.specs.Prelude.{◌≡◌, ℕ, ◌<◌, ◌≤◌, ◌+◌, ◌++◌, ◌∷◌, [], List, length, true, false, IfOk, OnOk};
 ghost use Rattle.click_scopes.specs.kept.CompoundArguments.{AreAllArguments};
-ghost use Rattle.click_scopes.specs.kept.ScopeElements.{AreAllLocals};
-ghost use Rattle.click_expand.specs.Instances.{Leaf as Flattened};
+ghost use Rattle.click_scopes.specs.kept.ScopeElements.{AreAllScopeElements};
+ghost use Rattle.click_expand.specs.Instances.{PrimitiveElement as Flattened};
 ghost use Rattle.click_expand.specs.kept.KnownInstances.{KnownInstance, AreInstances};
 ghost use Rattle.click_expand.specs.kept.ParameterValues.{IsRead};
 ghost use Rattle.click_expand.specs.kept.Spread.{Parts, IsShorter};
@@ -16,9 +16,9 @@ use crate::instances::tree::Instance;
 use crate::texts::parameter_values::{Argument, ParameterValue, UnreadText, value_at};
 use crate::texts::parameters::parameter_at;
 use crate::texts::text_buffer::TextBuffer;
-use click_scopes::Local;
+use click_base::sequence::Sequence;
+use click_scopes::ScopeElement;
 use click_text::first_item;
-use click_text::sequence::Sequence;
 use click_text::syntax::{Config, Span};
 use std::alloc::{AllocError, Global};
 
@@ -41,21 +41,28 @@ pub enum TextStep<'a> {
 /// What a text that is not empty begins with.
 fn part_of<'a>(
     config: &'a Config,
-    locals: &[Vec<Local>],
+    scope_elements: &[Vec<ScopeElement>],
     arguments: &[Sequence<Sequence<Span>>],
     instances: &[Instance],
     reading: UnreadText<'a>,
 ) -> TextPart<'a>
-    requires locals { AreAllLocals config.now locals.now }
+    requires scope_elements { AreAllScopeElements config.now scope_elements.now }
     requires arguments { AreAllArguments config.now arguments.now }
     requires some { 0 < length reading.rest.now }
-    ensures parts { (places : List Placed) (known : List KnownInstance) (leaves : List Flattened) (whole : List ℕ) → AreInstances config.now instances.now places known leaves → IsRead config.now known reading.entry whole →
+    ensures parts { (places : List Placed) (known : List KnownInstance) (primitive_elements : List Flattened) (whole : List ℕ) → AreInstances config.now instances.now places known primitive_elements → IsRead config.now known reading.entry whole →
         Parts config.now known reading.entry.within reading.entry.rest.now whole result }
     ensures shorter { IsShorter config.now.text reading.entry.within reading.entry.rest.now result }
 {
     if let Some(parameter) = parameter_at(reading.rest) {
         let name = parameter.name.of(reading.rest);
-        if let Some(value) = value_at(config, locals, arguments, instances, reading.within, name) {
+        if let Some(value) = value_at(
+            config,
+            scope_elements,
+            arguments,
+            instances,
+            reading.within,
+            name,
+        ) {
             return TextPart::Value(parameter.size, value);
         }
     }
@@ -90,21 +97,21 @@ fn push_rest<'a>(
 /// Writes what a text begins with, or adds the steps to write it: whether there is room for it. A value that was written before is not read again.
 fn read_on<'a>(
     config: &'a Config,
-    locals: &[Vec<Local>],
+    scope_elements: &[Vec<ScopeElement>],
     arguments: &[Sequence<Sequence<Span>>],
     instances: &[Instance],
     buffer: &mut TextBuffer,
     steps: &mut Vec<TextStep<'a>>,
     reading: UnreadText<'a>,
 ) -> Result<bool, AllocError>
-    requires locals { AreAllLocals config.now locals.now }
+    requires scope_elements { AreAllScopeElements config.now scope_elements.now }
     requires arguments { AreAllArguments config.now arguments.now }
     requires kept { AreKept config.now instances.now buffer.old }
     ensures kept { IfOk result (λ _. AreKept config.now instances.now buffer.new) }
     ensures room { IfOk result (λ _. buffer.new.room + length buffer.new.text.items ≡ buffer.old.room + length buffer.old.text.items) }
-    ensures led { IfOk result (λ fits. fits ≡ true → (places : List Placed) (known : List KnownInstance) (leaves : List Flattened) (whole : List ℕ) → AreInstances config.now instances.now places known leaves →
+    ensures led { IfOk result (λ fits. fits ≡ true → (places : List Placed) (known : List KnownInstance) (primitive_elements : List Flattened) (whole : List ℕ) → AreInstances config.now instances.now places known primitive_elements →
         AreSteps config.now known (steps.old.items ++ step.Read reading.entry ∷ []) buffer.old.text.items whole → AreSteps config.now known steps.new.items buffer.new.text.items whole) }
-    ensures full { IfOk result (λ fits. fits ≡ false → (places : List Placed) (known : List KnownInstance) (leaves : List Flattened) (whole : List ℕ) → AreInstances config.now instances.now places known leaves →
+    ensures full { IfOk result (λ fits. fits ≡ false → (places : List Placed) (known : List KnownInstance) (primitive_elements : List Flattened) (whole : List ℕ) → AreInstances config.now instances.now places known primitive_elements →
         AreSteps config.now known (steps.old.items ++ step.Read reading.entry ∷ []) buffer.old.text.items whole → buffer.old.room + length buffer.old.text.items < length whole) }
     ensures begin { IfOk result (λ _. BeginWithin (length buffer.old.text.items) steps.old.items → BeginWithin (length buffer.new.text.items) steps.new.items) }
     ensures less { IfOk result (λ fits. weight config.now.text steps.new.items < weight config.now.text (steps.old.items ++ step.Read reading.entry ∷ [])) }
@@ -112,7 +119,7 @@ fn read_on<'a>(
     if reading.rest.is_empty() {
         return Ok(true);
     }
-    match part_of(config, locals, arguments, instances, reading) {
+    match part_of(config, scope_elements, arguments, instances, reading) {
         TextPart::Bytes(len) => {
             push_rest(steps, reading, len)?;
             buffer.add(&reading.rest[..len])
@@ -133,21 +140,21 @@ fn read_on<'a>(
 pub fn write_text<'a>(
     alloc: Global,
     config: &'a Config,
-    locals: &[Vec<Local>],
+    scope_elements: &[Vec<ScopeElement>],
     arguments: &[Sequence<Sequence<Span>>],
     instances: &[Instance],
     buffer: &mut TextBuffer,
     first: UnreadText<'a>,
 ) -> Result<bool, AllocError>
-    requires locals { AreAllLocals config.now locals.now }
+    requires scope_elements { AreAllScopeElements config.now scope_elements.now }
     requires arguments { AreAllArguments config.now arguments.now }
     requires within { first.within < length instances.now }
     requires kept { AreKept config.now instances.now buffer.old }
     ensures kept { IfOk result (λ _. AreKept config.now instances.now buffer.new) }
     ensures room { IfOk result (λ _. buffer.new.room + length buffer.new.text.items ≡ buffer.old.room + length buffer.old.text.items) }
-    ensures fits { IfOk result (λ fits. fits ≡ true → (places : List Placed) (known : List KnownInstance) (leaves : List Flattened) (whole : List ℕ) → AreInstances config.now instances.now places known leaves →
+    ensures fits { IfOk result (λ fits. fits ≡ true → (places : List Placed) (known : List KnownInstance) (primitive_elements : List Flattened) (whole : List ℕ) → AreInstances config.now instances.now places known primitive_elements →
         IsRead config.now known first.entry whole → buffer.new.text.items ≡ buffer.old.text.items ++ whole) }
-    ensures full { IfOk result (λ fits. fits ≡ false → (places : List Placed) (known : List KnownInstance) (leaves : List Flattened) (whole : List ℕ) → AreInstances config.now instances.now places known leaves →
+    ensures full { IfOk result (λ fits. fits ≡ false → (places : List Placed) (known : List KnownInstance) (primitive_elements : List Flattened) (whole : List ℕ) → AreInstances config.now instances.now places known primitive_elements →
         IsRead config.now known first.entry whole → buffer.old.room < length whole) }
 {
     let mut steps = Vec::new(alloc);
@@ -157,7 +164,13 @@ pub fn write_text<'a>(
             TextStep::Keep(argument, start) => buffer.keep(argument, start)?,
             TextStep::Read(reading) => {
                 if !read_on(
-                    config, locals, arguments, instances, buffer, &mut steps, reading,
+                    config,
+                    scope_elements,
+                    arguments,
+                    instances,
+                    buffer,
+                    &mut steps,
+                    reading,
                 )? {
                     return Ok(false);
                 }

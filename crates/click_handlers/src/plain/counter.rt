@@ -2,7 +2,7 @@
 
 ghost use Rattle.std.specs.Prelude.{◌≡◌, codes};
 ghost use Rattle.click_classes.specs.State.{class};
-ghost use Rattle.click_classes.specs.declared.class.Class.TheVariants as is;
+ghost use Rattle.click_base.specs.declared.class.Class.TheVariants as is;
 ghost use Rattle.click_handlers.specs.Answers.{IsReadAnswer, IsWriteAnswer};
 ghost use Rattle.click_handlers.specs.Reads.{read_value};
 ghost use Rattle.click_handlers.specs.Writes.{write_value};

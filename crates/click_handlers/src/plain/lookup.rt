@@ -2,13 +2,13 @@
 
 ghost use Rattle.std.specs.Prelude.{◌≡◌, codes};
 ghost use Rattle.click_classes.specs.State.{class};
-ghost use Rattle.click_classes.specs.declared.class.Class.TheVariants as is;
+ghost use Rattle.click_base.specs.declared.class.Class.TheVariants as is;
 ghost use Rattle.click_handlers.specs.Answers.{IsReadAnswer};
 ghost use Rattle.click_handlers.specs.Reads.{read_value};
 
-use crate::blanks::trimmed;
 use crate::fault::HandlerFault;
 use crate::texts::route_text;
+use click_base::trimmed;
 use click_classes::{State, address};
 use click_engine::Element;
 use std::alloc::Global;

@@ -6,10 +6,10 @@ ghost use Rattle.click_handlers.specs.Answers.{IsReadAnswer, IsWriteAnswer};
 ghost use Rattle.click_handlers.specs.Reads.{read_value};
 ghost use Rattle.click_handlers.specs.Writes.{write_value};
 
-use crate::blanks::trimmed;
 use crate::fault::HandlerFault;
 use crate::texts::{number_from, number_text};
 use crate::written::{Written, done, refused};
+use click_base::trimmed;
 use click_classes::{PacketList, State};
 use click_engine::Element;
 use std::alloc::{AllocError, Global};

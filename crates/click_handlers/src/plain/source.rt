@@ -2,15 +2,15 @@
 
 ghost use Rattle.std.specs.Prelude.{◌≡◌, codes};
 ghost use Rattle.click_classes.specs.State.{class};
-ghost use Rattle.click_classes.specs.declared.class.Class.TheVariants as is;
+ghost use Rattle.click_base.specs.declared.class.Class.TheVariants as is;
 ghost use Rattle.click_handlers.specs.Answers.{IsReadAnswer, IsWriteAnswer};
 ghost use Rattle.click_handlers.specs.Reads.{read_value};
 ghost use Rattle.click_handlers.specs.Writes.{write_value};
 
-use crate::blanks::trimmed;
 use crate::fault::HandlerFault;
 use crate::texts::{number_text, truth_text, written_flag};
 use crate::written::{Written, done, refused};
+use click_base::trimmed;
 use click_classes::State;
 use click_engine::Element;
 use std::alloc::Global;

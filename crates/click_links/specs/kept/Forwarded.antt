@@ -5,7 +5,7 @@ use Rattle.click_router.specs.declared.call.Call.{Call}
 use Rattle.click_router.specs.declared.call.Call.TheVariants as call
 use Rattle.click_router.specs.declared.call.Reply.{Reply}
 use Rattle.click_links.specs.Ends.{Attempt}
-use Rattle.click_links.specs.Forwarding.{gifts, sendings}
+use Rattle.click_links.specs.Forwarding.{packets_given, sendings}
 
 -- the device is one of these
 abbrev pub is_among : List (List ℕ) → List ℕ → Bool
@@ -34,4 +34,4 @@ HasForwarded devices calls calls2 before after =
     (calls2 ≡ calls ++ drop (length calls) calls2)
     × (after ≡ before ++ drop (length before) after)
     × (are_forwarding devices (drop (length calls) calls2) ≡ true)
-    × (gifts (drop (length calls) calls2) ≡ sendings (drop (length before) after))
+    × (packets_given (drop (length calls) calls2) ≡ sendings (drop (length before) after))

@@ -1,9 +1,9 @@
 -- The links inside an element, as the code lists them.
 use Rattle.std.specs.Prelude.{◌≡◌, ℕ, List, [], length, slice_index_or, Contains, Bool, true}
-use Rattle.click_classes.specs.declared.class.Class.{Class}
+use Rattle.click_base.specs.declared.class.Class.{Class}
 use Rattle.click_classes.specs.declared.ports.Side.{Side}
 use Rattle.click_classes.specs.declared.ports.Side.TheVariants.{Input, Output}
-use Rattle.click_classes.specs.Codes.{passes}
+use Rattle.click_classes.specs.Ports.{passes}
 use Rattle.click_expand.specs.declared.flat.Connection.{Connection}
 use Rattle.click_ports.specs.declared.port.Port.{Port}
 use Rattle.click_ports.specs.declared.shape.Shape.{Shape}

@@ -10,7 +10,7 @@ use Rattle.click_classes.specs.declared.state.State.{State}
 use Rattle.click_ports.specs.Breaches.{IsFirstBreach}
 use Rattle.click_ports.specs.Net.{net_of}
 use Rattle.click_ports.specs.declared.fault.PortFault.{PortFault}
-use Rattle.click_router.specs.Opened.{AreFresh, IsBegun, of_expand, of_arguments, of_ports}
+use Rattle.click_router.specs.Opened.{AreFresh, IsBegun, of_expand_fault, of_argument_fault, of_port_fault}
 use Rattle.click_router.specs.declared.fault.ConfigFault.{ConfigFault}
 
 -- the first element whose arguments are refused
@@ -23,7 +23,7 @@ pub record IsUnfit (es : List FlatElement) (f : ConfigFault) : Type 0 where
   pub fresh : AreFresh fit states
   pub fault : ArgFault
   pub refused : IsBegun element (Err fault)
-  pub is : f ≡ of_arguments element fault
+  pub is : f ≡ of_argument_fault element fault
 
 -- the first breach of the rules of ports
 pub record IsUnlawful (flat : Flat) (f : ConfigFault) : Type 0 where
@@ -31,10 +31,10 @@ pub record IsUnlawful (flat : Flat) (f : ConfigFault) : Type 0 where
   pub fresh : AreFresh flat.elements states
   pub breach : PortFault
   pub first : IsFirstBreach (net_of flat states).shapes (net_of flat states).connections breach
-  pub is : f ≡ of_ports flat.elements breach
+  pub is : f ≡ of_port_fault flat.elements breach
 
 -- the first fault of a configuration: of its flat form, of an element's arguments, of its ports
 abbrev pub IsConfigFault : Config → ConfigFault → Type 0
 IsConfigFault config f =
-    ((e : ExpandFault) × IsFlatFault config e × (f ≡ of_expand config.text e))
+    ((e : ExpandFault) × IsFlatFault config e × (f ≡ of_expand_fault config.text e))
     ⊎ ((flat : Flat) × IsFlat config flat × (IsUnfit flat.elements f ⊎ IsUnlawful flat f))

@@ -4,11 +4,11 @@ use Rattle.std.specs.Str.{bytes_eq}
 use Rattle.click_text.specs.declared.syntax.Element.{Element}
 use Rattle.click_text.specs.declared.syntax.Statement.{Statement}
 use Rattle.click_text.specs.declared.syntax.Config.{Config}
-use Rattle.click_scopes.specs.Elements.{Placed, placed, has_name, head_name, declared_names, Local, locals_from}
-use Rattle.click_scopes.specs.Faults.{ScopeNames, written_end, number_behind, is_declared_as, joints_from}
+use Rattle.click_scopes.specs.Elements.{Placed, placed, has_name, head_name, declared_names, ScopeElement, scope_elements_from}
+use Rattle.click_scopes.specs.Faults.{ScopeNames, written_end, number_behind, is_declared_as, written_connections_from}
 use Rattle.click_scopes.specs.kept.Tables.{elements_of, numbers_from}
 use Rattle.click_scopes.specs.kept.Scoped.{ports_in}
-use Rattle.click_scopes.specs.kept.WrittenConnections.{IsEndKept, AreJoints}
+use Rattle.click_scopes.specs.kept.WrittenConnections.{IsEndKept, AreWrittenConnections}
 use Rattle.click_scopes.specs.declared.scopes.WrittenElement.{WrittenElement}
 use Rattle.click_scopes.specs.declared.written_connections.End.{End as EndKept}
 use Rattle.click_scopes.specs.declared.written_connections.WrittenConnection.{WrittenConnection as ConnectionKept}
@@ -20,8 +20,8 @@ placed_elements ps = map (λ (p : Placed). p.element) ps
 abbrev pub names_among : List ℕ → Bool → List Placed → ScopeNames
 names_among text in_body ps = record { in_body = in_body; declared = declared_names text ps; written = ps }
 
-abbrev pub locals_in : List ℕ → Bool → List Placed → List Local
-locals_in text in_body ps = locals_from text in_body (declared_names text ps) 0 ps
+abbrev pub scope_elements_in : List ℕ → Bool → List Placed → List ScopeElement
+scope_elements_in text in_body ps = scope_elements_from text in_body (declared_names text ps) 0 ps
 
 abbrev pub at : List ℕ → Option ℕ → Option ℕ
 at xs None = None
@@ -49,20 +49,20 @@ pub record IsHere (numbers : List ℕ) (number : ℕ) (e : Element) (ps : List P
   pub element : p.element ≡ e
 
 -- the ends of these elements as written, before which n elements stand
-abbrev pub AreEndsKept : List Local → Config → ScopeNames → ℕ → List EndKept → List Placed → Type 0
+abbrev pub AreEndsKept : List ScopeElement → Config → ScopeNames → ℕ → List EndKept → List Placed → Type 0
 AreEndsKept ls c names n [] [] = Unit {0}
 AreEndsKept ls c names n [] (p ∷ ps) = ⊥
 AreEndsKept ls c names n (k ∷ ks) [] = ⊥
 AreEndsKept ls c names n (k ∷ ks) (p ∷ ps) = IsEndKept ls k (written_end c names n p) × AreEndsKept ls c names (number_behind c names n p) ks ps
 
 -- the connections of a scope with these elements, whichever statements write them
-abbrev pub AreJointsOf : Config → Bool → List WrittenElement → List ConnectionKept → Type 0
-AreJointsOf c in_body ws ks =
+abbrev pub AreWrittenConnectionsOf : Config → Bool → List WrittenElement → List ConnectionKept → Type 0
+AreWrittenConnectionsOf c in_body ws ks =
     (visible statements : List Statement) → placed_elements (placed visible statements) ≡ elements_of ws → map (λ (w : WrittenElement). w.ports) ws ≡ ports_in statements →
-    AreJoints (locals_in c.text in_body (placed visible statements)) ks (joints_from c (names_among c.text in_body (placed visible statements)) visible 0 statements)
+    AreWrittenConnections (scope_elements_in c.text in_body (placed visible statements)) ks (written_connections_from c (names_among c.text in_body (placed visible statements)) visible 0 statements)
 
 -- the connection of two ends, where there is an end before and ports join them
-abbrev pub joint_by : Option EndKept → Option (ℕ × ℕ) → EndKept → Option ConnectionKept
-joint_by None ports to = None
-joint_by (Some from) None to = None
-joint_by (Some from) (Some p) to = Some (record { from = from; out_port = p.0; to = to; in_port = p.1 })
+abbrev pub written_connection_by : Option EndKept → Option (ℕ × ℕ) → EndKept → Option ConnectionKept
+written_connection_by None ports to = None
+written_connection_by (Some from) None to = None
+written_connection_by (Some from) (Some p) to = Some (record { from = from; out_port = p.0; to = to; in_port = p.1 })

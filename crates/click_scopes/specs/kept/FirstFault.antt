@@ -1,7 +1,7 @@
 -- Wrong uses as the code keeps them, and the first of them.
 use Rattle.std.specs.Prelude.{◌≡◌, ◌⊎◌, ℕ, ◌+◌, ◌<◌, ◌≤◌, List, map, take, slice_get, Bool, ◌&&◌, nat_eq, nat_lt, Option, Some, None, if◌then◌else◌}
 use Rattle.click_text.specs.declared.syntax.Span.{Span}
-use Rattle.click_text.specs.declared.syntax.Class.TheVariants as class
+use Rattle.click_text.specs.declared.syntax.ClassReference.TheVariants as class
 use Rattle.click_text.specs.declared.syntax.Head.{Head}
 use Rattle.click_text.specs.declared.syntax.Head.TheVariants as head
 use Rattle.click_text.specs.Spans.{bytes_at}
@@ -9,8 +9,8 @@ use Rattle.click_text.specs.declared.syntax.Body.{Body}
 use Rattle.click_scopes.specs.Elements.{is_port_name, has_name}
 use Rattle.click_text.specs.declared.syntax.Config.{Config}
 use Rattle.click_scopes.specs.Faults.{IsWrong, fault_number, brace_by}
-use Rattle.click_scopes.specs.declared.scope_elements.Local.{Local as LocalKept}
-use Rattle.click_scopes.specs.declared.classes.ClassOf.{ClassOf}
+use Rattle.click_scopes.specs.declared.scope_elements.ScopeElement.{ScopeElement as ScopeElementKept}
+use Rattle.click_scopes.specs.declared.classes.ResolvedClass.{ResolvedClass}
 use Rattle.click_scopes.specs.declared.fault.WrongUse.{WrongUse}
 use Rattle.click_scopes.specs.declared.fault.WrongUse.TheVariants as kind
 use Rattle.click_scopes.specs.declared.first_fault.TokenFault.{TokenFault}
@@ -56,7 +56,7 @@ unknown_word (head.Declared n (class.Named s)) t = Some (token_fault kind.Unknow
 unknown_word (head.Declared n (class.Body b)) t = None
 unknown_word (head.Compound b) t = None
 
-abbrev pub unknown_at : Head → Option Span → Option ClassOf → Option TokenFault
+abbrev pub unknown_at : Head → Option Span → Option ResolvedClass → Option TokenFault
 unknown_at h t None = unknown_word h t
 unknown_at h t (Some c) = None
 
@@ -67,11 +67,11 @@ port_at text in_body (head.Declared n c) = token_fault_if (in_body && is_port_na
 port_at text in_body (head.Compound b) = None
 
 -- an element whose name an earlier one has
-abbrev pub twice_by : Bool → Option ClassOf → Span → Option TokenFault
+abbrev pub twice_by : Bool → Option ResolvedClass → Span → Option TokenFault
 twice_by taken None s = None
 twice_by taken (Some c) s = token_fault_if taken kind.DeclaredTwice s
 
-abbrev pub twice_at : Bool → Head → Option ClassOf → Span → Option TokenFault
+abbrev pub twice_at : Bool → Head → Option ResolvedClass → Span → Option TokenFault
 twice_at taken (head.Word w) c s = twice_by taken c s
 twice_at taken (head.Declared n d) c s = token_fault_if taken kind.DeclaredTwice s
 twice_at taken (head.Compound b) c s = twice_by taken c s
@@ -87,20 +87,20 @@ abbrev pub AreShort : List Body → Type 0
 AreShort bodies = (b : ℕ) (x : Body) → slice_get bodies b ≡ Some x → x.span.start + 1 < 18446744073709551616
 
 -- what is wrong with the name, the class or the declaration of an element, whose name may be taken
-abbrev pub local_at : List ℕ → List Body → Bool → Bool → LocalKept → Option TokenFault
-local_at text bodies in_body taken l =
+abbrev pub scope_element_at : List ℕ → List Body → Bool → Bool → ScopeElementKept → Option TokenFault
+scope_element_at text bodies in_body taken l =
     first_of (first_of (unknown_at l.head l.text l.class) (twice_at taken l.head l.class (first_in bodies l.head))) (port_at text in_body l.head)
 
-abbrev pub local_names : List LocalKept → List (List ℕ)
-local_names ls = map (λ (l : LocalKept). l.name.items) ls
+abbrev pub local_names : List ScopeElementKept → List (List ℕ)
+local_names ls = map (λ (l : ScopeElementKept). l.name.items) ls
 
 -- One of the first of these elements has a wrong name, class or declaration; of one element the first counts.
-pub record IsWrongLocal (text : List ℕ) (bodies : List Body) (in_body : Bool) (ls : List LocalKept) (end : ℕ) (w : TokenFault) : Type 0 where
+pub record IsWrongScopeElement (text : List ℕ) (bodies : List Body) (in_body : Bool) (ls : List ScopeElementKept) (end : ℕ) (w : TokenFault) : Type 0 where
   pub place : ℕ
-  pub element : LocalKept
+  pub element : ScopeElementKept
   pub within : place < end
   pub there : slice_get ls place ≡ Some element
-  pub is : local_at text bodies in_body (has_name element.name.items (local_names (take place ls))) element ≡ Some w
+  pub is : scope_element_at text bodies in_body (has_name element.name.items (local_names (take place ls))) element ≡ Some w
 
 abbrev pub formals_in : List ℕ → List Span → List (List ℕ)
 formals_in text fs = map (bytes_at text) fs

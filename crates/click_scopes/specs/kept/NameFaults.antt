@@ -4,31 +4,31 @@ use Rattle.std.specs.Global.{Global}
 use Rattle.click_text.specs.declared.syntax.Span.{Span}
 use Rattle.click_text.specs.declared.syntax.Config.{Config}
 use Rattle.click_scopes.specs.Scopes.{inside, formals_of}
-use Rattle.click_scopes.specs.kept.FirstFault.{token_fault, IsWrongLocal, IsWrongFormal}
-use Rattle.click_scopes.specs.declared.scope_elements.Local.{Local as LocalKept}
-use Rattle.click_scopes.specs.declared.classes.ClassOf.{ClassOf}
+use Rattle.click_scopes.specs.kept.FirstFault.{token_fault, IsWrongScopeElement, IsWrongFormal}
+use Rattle.click_scopes.specs.declared.scope_elements.ScopeElement.{ScopeElement as ScopeElementKept}
+use Rattle.click_scopes.specs.declared.classes.ResolvedClass.{ResolvedClass}
 use Rattle.click_scopes.specs.declared.classes.ClassEntry.{ClassEntry}
 use Rattle.click_scopes.specs.declared.fault.WrongUse.TheVariants as kind
 use Rattle.click_scopes.specs.declared.first_fault.TokenFault.{TokenFault}
 
 -- An element of the scope at that place has a wrong name, class or declaration.
-pub record IsWrongAt (c : Config) (all : List (Vec LocalKept Global)) (place : ℕ) (w : TokenFault) : Type 0 where
-  pub elements : Vec LocalKept Global
+pub record IsWrongAt (c : Config) (all : List (Vec ScopeElementKept Global)) (place : ℕ) (w : TokenFault) : Type 0 where
+  pub elements : Vec ScopeElementKept Global
   pub there : slice_get all place ≡ Some elements
-  pub is : IsWrongLocal c.text c.bodies (nat_lt place (length c.bodies)) elements.items (length elements.items) w
+  pub is : IsWrongScopeElement c.text c.bodies (nat_lt place (length c.bodies)) elements.items (length elements.items) w
 
 -- An element of the body at that place is wrong, or one of its parameters.
-abbrev pub IsWrongWithin : Config → List (Vec LocalKept Global) → ℕ → TokenFault → Type 0
+abbrev pub IsWrongWithin : Config → List (Vec ScopeElementKept Global) → ℕ → TokenFault → Type 0
 IsWrongWithin c all b w = IsWrongAt c all b w ⊎ IsWrongFormal c.text (formals_of c (inside b)) (length (formals_of c (inside b))) w
 
 -- Something is wrong in one of the first of the bodies.
-pub record IsNameFaultWithin (c : Config) (all : List (Vec LocalKept Global)) (end : ℕ) (w : TokenFault) : Type 0 where
+pub record IsNameFaultWithin (c : Config) (all : List (Vec ScopeElementKept Global)) (end : ℕ) (w : TokenFault) : Type 0 where
   pub place : ℕ
   pub within : place < end
   pub is : IsWrongWithin c all place w
 
 -- the word of a synonym that names no class
-abbrev pub original_at : Option Span → Option ClassOf → Option TokenFault
+abbrev pub original_at : Option Span → Option ResolvedClass → Option TokenFault
 original_at None m = None
 original_at (Some s) None = Some (token_fault kind.UnknownClass s)
 original_at (Some s) (Some m) = None

@@ -6,24 +6,24 @@ use Rattle.click_text.specs.declared.syntax.Element.{Element}
 use Rattle.click_text.specs.declared.syntax.Statement.{Statement}
 use Rattle.click_text.specs.declared.syntax.Config.{Config}
 use Rattle.click_scopes.specs.Scopes.{Scope, is_body, Stands}
-use Rattle.click_scopes.specs.Elements.{Placed, Role, pseudo, refers, makes, role, declared_names, locals_from}
-use Rattle.click_scopes.specs.Faults.{scope_placed, scope_declared, scope_locals}
-use Rattle.click_scopes.specs.kept.Tables.{AreWritten, elements_of, names_declared, local_of}
+use Rattle.click_scopes.specs.Elements.{Placed, Role, pseudo, refers, makes, role, declared_names, scope_elements_from}
+use Rattle.click_scopes.specs.Faults.{scope_placed, scope_declared, elements_of_scope}
+use Rattle.click_scopes.specs.kept.Tables.{AreWritten, elements_of, names_declared, scope_element_of}
 use Rattle.click_scopes.specs.kept.Scoped.{table_place}
 use Rattle.click_scopes.specs.declared.classes.ClassEntry.{ClassEntry}
 use Rattle.click_scopes.specs.declared.scopes.WrittenElement.{WrittenElement}
-use Rattle.click_scopes.specs.declared.scope_elements.Local.{Local as LocalKept}
+use Rattle.click_scopes.specs.declared.scope_elements.ScopeElement.{ScopeElement as ScopeElementKept}
 
 -- the elements of a scope that is written so
-abbrev pub AreLocalsOf : List ℕ → List ClassEntry → Bool → List WrittenElement → List LocalKept → Type 0
-AreLocalsOf text entries in_body ws ls =
-    (ps : List Placed) → AreWritten text entries ws ps → map (local_of text) ls ≡ locals_from text in_body (declared_names text ps) 0 ps
+abbrev pub AreScopeElementsOf : List ℕ → List ClassEntry → Bool → List WrittenElement → List ScopeElementKept → Type 0
+AreScopeElementsOf text entries in_body ws ls =
+    (ps : List Placed) → AreWritten text entries ws ps → map (scope_element_of text) ls ≡ scope_elements_from text in_body (declared_names text ps) 0 ps
 
 -- the elements of each scope, by its place in the table
-abbrev pub AreAllLocals : Config → List (Vec LocalKept Global) → Type 0
-AreAllLocals c all =
-    (s : Scope) (visible : List Statement) (around : List Scope) → Stands c s visible around →
-    (ls : Vec LocalKept Global) × (slice_get all (table_place c s) ≡ Some ls) × (map (local_of c.text) ls.items ≡ scope_locals c s visible)
+abbrev pub AreAllScopeElements : Config → List (Vec ScopeElementKept Global) → Type 0
+AreAllScopeElements c all =
+    (s : Scope) (visible : List Statement) (enclosing : List Scope) → Stands c s visible enclosing →
+    (ls : Vec ScopeElementKept Global) × (slice_get all (table_place c s) ≡ Some ls) × (map (scope_element_of c.text) ls.items ≡ elements_of_scope c s visible)
 
 -- the configuration string of an element that makes one: None where none is written
 abbrev pub string_where_made : Role → Option Span → Option (Option Span)
@@ -38,18 +38,18 @@ string_made text in_body declared e = string_where_made (role text in_body decla
 abbrev pub strings_made : List ℕ → Bool → List (List ℕ) → List Element → List (Option Span)
 strings_made text in_body declared es = filter_map (string_made text in_body declared) es
 
-abbrev pub strings_of : List LocalKept → List (Option Span)
-strings_of ls = map (λ (l : LocalKept). l.text) ls
+abbrev pub strings_of : List ScopeElementKept → List (Option Span)
+strings_of ls = map (λ (l : ScopeElementKept). l.text) ls
 
 -- the strings of the elements of a scope that is written so
-abbrev pub AreStringsOf : List ℕ → Bool → List WrittenElement → List LocalKept → Type 0
+abbrev pub AreStringsOf : List ℕ → Bool → List WrittenElement → List ScopeElementKept → Type 0
 AreStringsOf text in_body ws ls = strings_of ls ≡ strings_made text in_body (names_declared text (elements_of ws)) (elements_of ws)
 
 abbrev pub scope_strings : Config → Scope → List Statement → List (Option Span)
 scope_strings c s visible = strings_made c.text (is_body s) (scope_declared c s visible) (map (λ (p : Placed). p.element) (scope_placed c s visible))
 
 -- the configuration strings of the elements of each scope, by its place in the table
-abbrev pub AreAllStrings : Config → List (Vec LocalKept Global) → Type 0
+abbrev pub AreAllStrings : Config → List (Vec ScopeElementKept Global) → Type 0
 AreAllStrings c all =
-    (s : Scope) (visible : List Statement) (around : List Scope) → Stands c s visible around →
-    (ls : Vec LocalKept Global) × (slice_get all (table_place c s) ≡ Some ls) × (strings_of ls.items ≡ scope_strings c s visible)
+    (s : Scope) (visible : List Statement) (enclosing : List Scope) → Stands c s visible enclosing →
+    (ls : Vec ScopeElementKept Global) × (slice_get all (table_place c s) ≡ Some ls) × (strings_of ls.items ≡ scope_strings c s visible)

@@ -22,7 +22,7 @@ table_place c (inside b) = b
 
 abbrev pub outer_of : Config → List Scope → ℕ
 outer_of c [] = length c.bodies
-outer_of c (s ∷ around) = table_place c s
+outer_of c (s ∷ enclosing) = table_place c s
 
 -- the ports that join an element to the one before it in its chain: none for the first, and none where no chain is
 abbrev pub ports_of : Statement → List (Option (ℕ × ℕ))
@@ -36,23 +36,23 @@ abbrev pub ports_in : List Statement → List (Option (ℕ × ℕ))
 ports_in ss = flat_map ports_of ss
 
 -- A scope as the code keeps it.
-pub record IsScope (c : Config) (entries : List ClassEntry) (s : Scope) (visible : List Statement) (around : List Scope) (k : ScopeKept) : Type 0 where
+pub record IsScope (c : Config) (entries : List ClassEntry) (s : Scope) (visible : List Statement) (enclosing : List Scope) (k : ScopeKept) : Type 0 where
   pub written : AreWritten c.text entries k.written.items (placed visible (statements_of c s))
   pub ports : map (λ (w : WrittenElement). w.ports) k.written.items ≡ ports_in (statements_of c s)
-  pub outer : k.outer ≡ outer_of c around
+  pub outer : k.outer ≡ outer_of c enclosing
 
 -- each scope is in the table
 abbrev pub AreScopes : Config → List ClassEntry → List ScopeKept → Type 0
 AreScopes c entries ks =
-    (s : Scope) (visible : List Statement) (around : List Scope) → Stands c s visible around →
-    (k : ScopeKept) × (slice_get ks (table_place c s) ≡ Some k) × IsScope c entries s visible around k
+    (s : Scope) (visible : List Statement) (enclosing : List Scope) → Stands c s visible enclosing →
+    (k : ScopeKept) × (slice_get ks (table_place c s) ≡ Some k) × IsScope c entries s visible enclosing k
 
 -- A synonym of a scope, and what its class means.
 pub record IsSynonym (c : Config) (original : Span) (m : Option Meaning) : Type 0 where
   pub scope : Scope
   pub visible : List Statement
-  pub around : List Scope
-  pub stands : Stands c scope visible around
+  pub enclosing : List Scope
+  pub stands : Stands c scope visible enclosing
   pub before : List Statement
   pub after : List Statement
   pub name : Span
@@ -61,8 +61,8 @@ pub record IsSynonym (c : Config) (original : Span) (m : Option Meaning) : Type 
 
 -- The synonyms among the definitions are those of the configuration's scopes.
 pub record AreSynonyms (c : Config) (entries : List ClassEntry) : Type 0 where
-  pub sound : (i : ℕ) (e : ClassEntry) (w : Span) → slice_get entries i ≡ Some e → e.original ≡ Some w → IsSynonym c w (meaning_by c.text e.class)
-  pub complete : (s : Scope) (visible : List Statement) (around : List Scope) (before after : List Statement) (n w : Span) → Stands c s visible around →
+  pub sound : (i : ℕ) (e : ClassEntry) (w : Span) → slice_get entries i ≡ Some e → e.original ≡ Some w → IsSynonym c w (meaning_by e.class)
+  pub complete : (s : Scope) (visible : List Statement) (enclosing : List Scope) (before after : List Statement) (n w : Span) → Stands c s visible enclosing →
       statements_of c s ≡ before ++ statement.Synonym n w ∷ after →
       (i : ℕ) × (e : ClassEntry) × (slice_get entries i ≡ Some e) × (e.original ≡ Some w)
-      × (meaning_by c.text e.class ≡ meaning c.text (reverse before ++ visible) (bytes_at c.text w))
+      × (meaning_by e.class ≡ meaning c.text (reverse before ++ visible) (bytes_at c.text w))

@@ -13,7 +13,7 @@ use Rattle.click_text.specs.Spans.{bytes_at}
 use Rattle.click_scopes.specs.Classes.{Meaning, meaning}
 use Rattle.click_scopes.specs.Faults.{port_number}
 use Rattle.click_scopes.specs.declared.scopes.WrittenElement.{WrittenElement}
-use Rattle.click_scopes.specs.declared.scopes.Root.{Root}
+use Rattle.click_scopes.specs.declared.scopes.NestedBody.{NestedBody}
 use Rattle.click_scopes.specs.declared.classes.ClassEntry.{ClassEntry}
 use Rattle.click_scopes.specs.Scopes.{bodies_in}
 use Rattle.click_scopes.specs.kept.Nesting.{direct}
@@ -36,8 +36,8 @@ kept_elements top (statement.Definition n b) = []
 kept_elements top (statement.Synonym n d) = []
 kept_elements top (statement.Requirement t) = []
 
-abbrev pub root : ℕ → Option ℕ → ℕ → Root
-root outer top b = record { body = b; outer = outer; top = top }
+abbrev pub nested_body : ℕ → Option ℕ → ℕ → NestedBody
+nested_body outer top b = record { body = b; outer = outer; top = top }
 
 -- each part of a list is so
 abbrev pub Each : {X : Type 0} → (X → Type 0) → List X → Type 0
@@ -45,7 +45,7 @@ Each P [] = Unit {0}
 Each P (x ∷ xs) = P x × Each P xs
 
 -- A body that stands in one of these statements, and what is visible before that.
-pub record IsRoot (text : List ℕ) (entries : List ClassEntry) (scope : ℕ) (visible statements : List Statement) (r : Root) : Type 0 where
+pub record IsNestedBody (text : List ℕ) (entries : List ClassEntry) (scope : ℕ) (visible statements : List Statement) (r : NestedBody) : Type 0 where
   pub before : List Statement
   pub after : List Statement
   pub statement : Statement
@@ -55,11 +55,11 @@ pub record IsRoot (text : List ℕ) (entries : List ClassEntry) (scope : ℕ) (v
   pub outer : r.outer ≡ scope
 
 -- the bodies that stand in these statements are added
-pub record AreRoots (text : List ℕ) (entries : List ClassEntry) (scope : ℕ) (visible statements : List Statement) (old new : List Root) : Type 0 where
-  pub more : List Root
+pub record AreNestedBodies (text : List ℕ) (entries : List ClassEntry) (scope : ℕ) (visible statements : List Statement) (old new : List NestedBody) : Type 0 where
+  pub more : List NestedBody
   pub is : new ≡ old ++ more
-  pub bodies : map (λ (r : Root). r.body) more ≡ direct statements
-  pub each : Each (IsRoot text entries scope visible statements) more
+  pub bodies : map (λ (r : NestedBody). r.body) more ≡ direct statements
+  pub each : Each (IsNestedBody text entries scope visible statements) more
 
 abbrev pub written_ports : List WrittenElement → List (Option (ℕ × ℕ))
 written_ports ws = map (λ (w : WrittenElement). w.ports) ws
@@ -76,7 +76,7 @@ pub record HasSynonym (text : List ℕ) (entries : List ClassEntry) (original : 
   pub entry : ClassEntry
   pub there : slice_get entries place ≡ Some entry
   pub is : entry.original ≡ Some original
-  pub class : meaning_by text entry.class ≡ m
+  pub class : meaning_by entry.class ≡ m
 
 -- A synonym among these statements, and what its class means.
 pub record IsSynonymAmong (text : List ℕ) (visible statements : List Statement) (original : Span) (m : Option Meaning) : Type 0 where
@@ -89,6 +89,6 @@ pub record IsSynonymAmong (text : List ℕ) (visible statements : List Statement
 -- the synonyms among the definitions that are added are those of these statements
 pub record AddsSynonyms (text : List ℕ) (visible statements : List Statement) (old new : List ClassEntry) : Type 0 where
   pub sound : (i : ℕ) (e : ClassEntry) (w : Span) → slice_get new i ≡ Some e → e.original ≡ Some w →
-      (slice_get old i ≡ Some e) ⊎ IsSynonymAmong text visible statements w (meaning_by text e.class)
+      (slice_get old i ≡ Some e) ⊎ IsSynonymAmong text visible statements w (meaning_by e.class)
   pub complete : (before after : List Statement) (n w : Span) → statements ≡ before ++ statement.Synonym n w ∷ after →
       HasSynonym text new w (meaning text (reverse before ++ visible) (bytes_at text w))

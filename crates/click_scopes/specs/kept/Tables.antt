@@ -1,24 +1,24 @@
 -- What the code keeps of the definitions of classes: a list of them, in which each names the one before it that is visible with it.
-use Rattle.std.specs.Prelude.{◌≡◌, ◌<◌, ℕ, List, [], ◌∷◌, ◌++◌, map, filter_map, slice_get, Bool, codes, nat_lt, Option, Some, None, if◌then◌else◌}
+use Rattle.std.specs.Prelude.{◌≡◌, ◌<◌, ℕ, List, [], ◌∷◌, ◌++◌, map, filter_map, slice_get, Bool, nat_lt, Option, Some, None, if◌then◌else◌}
 use Rattle.click_text.specs.declared.syntax.Span.{Span}
 use Rattle.click_text.specs.declared.syntax.Statement.{Statement}
 use Rattle.click_text.specs.declared.syntax.Statement.TheVariants as statement
 use Rattle.click_text.specs.Spans.{bytes_at}
 use Rattle.click_text.specs.declared.syntax.Element.{Element}
 use Rattle.click_scopes.specs.Classes.{Meaning, primitive, compound, meaning}
-use Rattle.click_scopes.specs.Elements.{Placed, Role, pseudo, refers, makes, role, count_with, head_name, Local, string_or_empty}
+use Rattle.click_scopes.specs.Elements.{Placed, Role, pseudo, refers, makes, role, count_with, head_name, ScopeElement, string_or_empty}
 use Rattle.click_scopes.specs.declared.scopes.WrittenElement.{WrittenElement}
 use Rattle.click_scopes.specs.declared.scope_elements.Role.{Role as RoleKept}
 use Rattle.click_scopes.specs.declared.scope_elements.Role.TheVariants as kept
-use Rattle.click_scopes.specs.declared.scope_elements.Local.{Local as LocalKept}
-use Rattle.click_scopes.specs.declared.classes.ClassOf.{ClassOf}
-use Rattle.click_scopes.specs.declared.classes.ClassOf.TheVariants as class
+use Rattle.click_scopes.specs.declared.scope_elements.ScopeElement.{ScopeElement as ScopeElementKept}
+use Rattle.click_scopes.specs.declared.classes.ResolvedClass.{ResolvedClass}
+use Rattle.click_scopes.specs.declared.classes.ResolvedClass.TheVariants as class
 use Rattle.click_scopes.specs.declared.classes.ClassEntry.{ClassEntry}
 
-abbrev pub meaning_by : List ℕ → Option ClassOf → Option Meaning
-meaning_by text None = None
-meaning_by text (Some (class.Primitive s)) = Some (primitive (bytes_at text s))
-meaning_by text (Some (class.Compound b)) = Some (compound b)
+abbrev pub meaning_by : Option ResolvedClass → Option Meaning
+meaning_by None = None
+meaning_by (Some (class.Primitive k)) = Some (primitive k)
+meaning_by (Some (class.Compound b)) = Some (compound b)
 
 -- a place is below another
 abbrev pub IsBelow : Option ℕ → ℕ → Type 0
@@ -32,7 +32,7 @@ pub record IsShown (text : List ℕ) (entries : List ClassEntry) (top : Option �
   pub is : top ≡ Some place
   pub there : slice_get entries place ≡ Some entry
   pub same_name : entry.name ≡ name
-  pub class : meaning_by text entry.class ≡ m
+  pub class : meaning_by entry.class ≡ m
   pub below : IsBelow entry.older place
   pub older : before entry.older
 
@@ -52,22 +52,6 @@ entry_found i (Some e) = Some (i, e)
 abbrev pub entry_from : List ClassEntry → Option ℕ → ℕ → Option (ℕ × ClassEntry)
 entry_from entries None limit = None
 entry_from entries (Some i) limit = if nat_lt i limit then entry_found i (slice_get entries i) else None
-
--- the names of the router's classes, in three parts
-abbrev pub first_names : List (List ℕ)
-first_names =
-    codes "Queue" ∷ codes "FrontDropQueue" ∷ codes "Unqueue" ∷ codes "Counter" ∷ codes "Switch" ∷ codes "PullSwitch"
-    ∷ codes "RoundRobinSwitch" ∷ codes "RoundRobinSched" ∷ codes "PrioSched" ∷ codes "Tee" ∷ []
-
-abbrev pub second_names : List (List ℕ)
-second_names =
-    codes "PullTee" ∷ codes "Idle" ∷ codes "Discard" ∷ codes "Null" ∷ codes "PushNull" ∷ codes "PullNull" ∷ codes "Suppressor"
-    ∷ codes "Paint" ∷ codes "PaintTee" ∷ codes "Strip" ∷ []
-
-abbrev pub third_names : List (List ℕ)
-third_names =
-    codes "CheckLength" ∷ codes "Classifier" ∷ codes "GetIPAddress" ∷ codes "StaticIPLookup" ∷ codes "CheckIPHeader"
-    ∷ codes "DecIPTTL" ∷ codes "EtherEncap" ∷ codes "InfiniteSource" ∷ codes "FromDevice" ∷ codes "ToDevice" ∷ []
 
 -- An element as the code keeps it is this one as it is written.
 pub record IsWrittenElement (text : List ℕ) (entries : List ClassEntry) (w : WrittenElement) (p : Placed) : Type 0 where
@@ -94,8 +78,8 @@ role_kept kept.Refers = refers
 role_kept kept.Makes = makes
 
 -- an element of a scope that the code keeps
-abbrev pub local_of : List ℕ → LocalKept → Local
-local_of text l = record { name = l.name.items; meaning = meaning_by text l.class; text = string_or_empty text l.text; head = l.head }
+abbrev pub scope_element_of : List ℕ → ScopeElementKept → ScopeElement
+scope_element_of text l = record { name = l.name.items; meaning = meaning_by l.class; text = string_or_empty text l.text; head = l.head }
 
 -- how many elements stand before each of these as written, where n stand before them all
 unfoldable pub numbers_from : List ℕ → Bool → List (List ℕ) → ℕ → List Element → List ℕ
@@ -106,10 +90,10 @@ numbers_from text in_body declared n (e ∷ es) = n ∷ numbers_from text in_bod
 abbrev pub IsEntry : List ℕ → List Statement → Option ℕ → Statement → Option ClassEntry → Type 0
 IsEntry text visible top (statement.Definition n b) None = ⊥
 IsEntry text visible top (statement.Definition n b) (Some e) =
-    (e.name ≡ n) × (meaning_by text e.class ≡ Some (compound b)) × (e.older ≡ top) × (e.original ≡ None)
+    (e.name ≡ n) × (meaning_by e.class ≡ Some (compound b)) × (e.older ≡ top) × (e.original ≡ None)
 IsEntry text visible top (statement.Synonym n d) None = ⊥
 IsEntry text visible top (statement.Synonym n d) (Some e) =
-    (e.name ≡ n) × (meaning_by text e.class ≡ meaning text visible (bytes_at text d)) × (e.older ≡ top) × (e.original ≡ Some d)
+    (e.name ≡ n) × (meaning_by e.class ≡ meaning text visible (bytes_at text d)) × (e.older ≡ top) × (e.original ≡ Some d)
 IsEntry text visible top _ None = Unit {0}
 IsEntry text visible top _ (Some e) = ⊥
 

@@ -1,12 +1,12 @@
--- What may follow the tokens so far: a machine over tokens that keeps what is open. It is equal to the grammar (proofs/Equal.antt);
+-- What may follow the tokens so far: a machine over tokens that keeps what is open. It is equal to the grammar (proofs/OfParser/GrammarEquality.antt);
 -- the parser's private contracts speak of it.
 use Rattle.std.specs.Prelude.{◌≡◌, ℕ, ◌+◌, ◌-◌, List, [], ◌∷◌, ◌++◌, length, Option, Some, None, Bool, true, false, nat_lt, if◌then◌else◌}
 use Rattle.click_text.specs.declared.syntax.Span.{Span}
 use Rattle.click_text.specs.declared.syntax.Token.{Token}
 use Rattle.click_text.specs.declared.syntax.Token.TheVariants as token
-use Rattle.click_text.specs.declared.syntax.Port.{Port}
-use Rattle.click_text.specs.declared.syntax.Class.{Class}
-use Rattle.click_text.specs.declared.syntax.Class.TheVariants as class
+use Rattle.click_text.specs.declared.syntax.WrittenPort.{WrittenPort}
+use Rattle.click_text.specs.declared.syntax.ClassReference.{ClassReference}
+use Rattle.click_text.specs.declared.syntax.ClassReference.TheVariants as class
 use Rattle.click_text.specs.declared.syntax.Head.{Head}
 use Rattle.click_text.specs.declared.syntax.Head.TheVariants as head
 use Rattle.click_text.specs.declared.syntax.Element.{Element}
@@ -14,9 +14,9 @@ use Rattle.click_text.specs.declared.syntax.Link.{Link}
 use Rattle.click_text.specs.declared.syntax.Statement.{Statement}
 use Rattle.click_text.specs.declared.syntax.Statement.TheVariants as statement
 use Rattle.click_text.specs.declared.syntax.Body.{Body}
-use Rattle.click_text.specs.declared.tokens.Stop.{Stop}
-use Rattle.click_text.specs.declared.tokens.Stop.TheVariants as stop
-use Rattle.click_text.specs.declared.tokens.Joint.{Joint}
+use Rattle.click_text.specs.declared.tokens.ParseStop.{ParseStop}
+use Rattle.click_text.specs.declared.tokens.ParseStop.TheVariants as stop
+use Rattle.click_text.specs.declared.tokens.ArrowPorts.{ArrowPorts}
 use Rattle.click_text.specs.Grammar.{written_port, element, link, chain, declaration, body, Tree, most_open, Brace, Opens, Closes, Neither, brace}
 
 mutual
@@ -39,12 +39,12 @@ mutual
   -- what an element goes to: it is the first of a chain, or a further one after an arrow with these ports
   pub data Context : Type 0 where
     start : Place → List Statement → Context
-    linked : Place → List Statement → Element → List Link → Option Port → Option Port → Context
+    linked : Place → List Statement → Element → List Link → Option WrittenPort → Option WrittenPort → Context
 
 -- which port of an arrow comes: the one before it, or the one after it, where the one before it is known
 pub data Side : Type 0 where
   out : Side
-  into : Option Port → Side
+  into : Option WrittenPort → Side
 
 pub data State : Type 0 where
   -- a statement may begin
@@ -58,7 +58,7 @@ pub data State : Type 0 where
   -- names have been read
   name_read : List Body → Place → List Statement → List Span → State
   -- the names' class has been read, which a string may follow
-  listed_read : List Body → Place → List Statement → List Span → Class → State
+  listed_read : List Body → Place → List Statement → List Span → ClassReference → State
   -- the name of a definition must come
   define : List Body → Place → List Statement → State
   -- what that name is for must come
@@ -90,7 +90,7 @@ pub data State : Type 0 where
   -- a bracket must close
   close_wanted : List Body → Place → List Statement → Element → List Link → Side → Span → ℕ → State
   -- an arrow must come
-  arrow_wanted : List Body → Place → List Statement → Element → List Link → Option Port → State
+  arrow_wanted : List Body → Place → List Statement → Element → List Link → Option WrittenPort → State
 
 abbrev pub a_definition : Span → ℕ → Statement
 a_definition s n = statement.Definition s n
@@ -107,7 +107,7 @@ element_read bs (start p ss) e = after bs p ss e []
 element_read bs (linked p ss f ls from to) e = after bs p ss f (ls ++ link from to e ∷ [])
 
 -- the state after a class
-abbrev pub classified : List Body → Target → Class → State
+abbrev pub classified : List Body → Target → ClassReference → State
 classified bs (of_head s cx) c = head_read bs cx (head.Declared s c)
 classified bs (of_names ns p ss) c = listed_read bs p ss ns c
 
@@ -118,7 +118,7 @@ body_read bs (as_class g) n = classified bs g (class.Body n)
 body_read bs (as_definition s p ss) n = between bs p (ss ++ a_definition s n ∷ [])
 
 -- the state after a port, or after none
-abbrev pub ported : List Body → Place → List Statement → Element → List Link → Side → Option Port → State
+abbrev pub ported : List Body → Place → List Statement → Element → List Link → Side → Option WrittenPort → State
 ported bs p ss f ls out q = arrow_wanted bs p ss f ls q
 ported bs p ss f ls (into from) q = element_wanted bs (linked p ss f ls from q)
 
@@ -140,12 +140,12 @@ closed bs top ss b = None
 closed bs (inside a fs u) ss b = Some (body_read (bs ++ body a b fs ss ∷ []) u (length bs))
 
 -- an arrow comes
-abbrev pub arrowed : List Body → Place → List Statement → Element → List Link → Option Port → Token → Option State
+abbrev pub arrowed : List Body → Place → List Statement → Element → List Link → Option WrittenPort → Token → Option State
 arrowed bs p ss f ls q (token.Arrow s) = Some (port_wanted bs p ss f ls (into q))
 arrowed bs p ss f ls q _ = None
 
 -- what stands after a port comes
-abbrev pub past_port : List Body → Place → List Statement → Element → List Link → Side → Option Port → Token → Option State
+abbrev pub past_port : List Body → Place → List Statement → Element → List Link → Side → Option WrittenPort → Token → Option State
 past_port bs p ss f ls out q t = arrowed bs p ss f ls q t
 past_port bs p ss f ls (into from) q t = begun bs (linked p ss f ls from q) t
 
@@ -207,7 +207,7 @@ statement_over bs p ss st (token.Close s) = closed bs p (ss ++ st ∷ []) s
 statement_over bs p ss st _ = None
 
 -- a token after the class of names
-abbrev pub class_listed : List Body → Place → List Statement → List Span → Class → Token → Option State
+abbrev pub class_listed : List Body → Place → List Statement → List Span → ClassReference → Token → Option State
 class_listed bs p ss ns c (token.String s) = Some (ending bs p ss (declaration ns c (Some s)))
 class_listed bs p ss ns c t = statement_over bs p ss (declaration ns c None) t
 
@@ -359,7 +359,7 @@ outcome n s [] = accepted (finish s)
 outcome n s (t ∷ ts) = or_refused (step s t) (t ∷ ts) (λ s'. or_deep (open_after n t) (t ∷ ts) (λ m. outcome m s' ts))
 
 -- after an element: an arrow with its ports, or the end of the chain
-abbrev pub past_element : Option Joint → List Body → Place → List Statement → Element → List Link → State
+abbrev pub past_element : Option ArrowPorts → List Body → Place → List Statement → Element → List Link → State
 past_element (Some j) bs p ss f ls = element_wanted bs (linked p ss f ls j.from j.to)
 past_element None bs p ss f ls = between bs p (ss ++ chain f ls ∷ [])
 
@@ -379,7 +379,7 @@ past_formal true bs a u fs = formal_wanted bs a u fs
 past_formal false bs a u fs = between bs (inside a fs u) []
 
 -- where a parser stops for a fault, the run from before ends at the tokens that are left
-abbrev pub Stops : Stop → Outcome → List Token → Type 0
+abbrev pub Stops : ParseStop → Outcome → List Token → Type 0
 Stops stop.Memory before rest = Unit {0}
 Stops stop.Unexpected before rest = before ≡ Refused rest
 Stops stop.TooDeep before rest = before ≡ Deep rest

@@ -12,7 +12,7 @@ returns-in-Differs g c =
       drop (place + 1) lines,
       cut_at lines place line c.loop-line-test.true c.line-item.is,
       rw c.loop-line.invariant.counted (number_at lines place c.loop-line-test.true),
-      (c.loop-line.router, c.loop-line.invariant.same, rw (c.in-Differs.is, c.as_slice.ensures) at c.in_ok-made_again.ensures),
+      (c.loop-line.router, c.loop-line.invariant.same, rw (c.in-Differs.is, c.as_slice.ensures) at c.in_ok-replay_call.ensures),
     )
 
 pub returns-in-NoLine : goal.returns-in-NoLine
@@ -20,8 +20,8 @@ returns-in-NoLine g c =
     let lines = c.args.lines.now in
     let place = c.loop-line.line-index in
     let line = c.line-item.result in
-    let no = rw (c.in-NoLine.is, c.as_slice.ensures) at c.in_ok-made_again.ensures in
-    let stays : c.made_again.new.router ≡ c.loop-line.router = no.1 in (
+    let no = rw (c.in-NoLine.is, c.as_slice.ensures) at c.in_ok-replay_call.ensures in
+    let stays : c.replay_call.new.router ≡ c.loop-line.router = no.1 in (
       take place lines,
       line,
       drop (place + 1) lines,
@@ -38,5 +38,5 @@ loop-line-preserved g c =
     let line = c.line-item.result in record {
       counted = rw c.loop-line.invariant.counted refl;
       same = rw (taken lines place line c.loop-line-test.true c.line-item.is) (one_more c.args.router.now (take place lines) c.loop-line.router line
-          c.made_again.new.router c.loop-line.invariant.same (rw (c.in-Same.is, c.as_slice.ensures) at c.in_ok-made_again.ensures));
+          c.replay_call.new.router c.loop-line.invariant.same (rw (c.in-Same.is, c.as_slice.ensures) at c.in_ok-replay_call.ensures));
     }

@@ -1,4 +1,4 @@
-use Rattle.click_classes.proofs.Taking.{other_class, anew}
+use Rattle.click_classes.proofs.OfStates.StateTakeOver.{other_class, anew}
 use Rattle.click_classes.proofs.laws.all_others_begin_anew.Goals as goal
 
 pub returns : goal.returns

@@ -1,4 +1,4 @@
-use Rattle.click_classes.proofs.Bits.{prefix_cleared, cleared_again}
+use Rattle.click_classes.proofs.OfNumbers.PrefixBits.{prefix_cleared, cleared_again}
 use Rattle.click_classes.proofs.laws.bits_are_cleared.Goals as goal
 
 pub returns : goal.returns

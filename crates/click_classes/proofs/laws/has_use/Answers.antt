@@ -1,4 +1,4 @@
-use Rattle.click_classes.proofs.Uses.{first_well}
+use Rattle.click_classes.proofs.OfPorts.PortUses.{first_well}
 use Rattle.click_classes.proofs.laws.has_use.Goals as goal
 
 pub returns : goal.returns

@@ -1,4 +1,4 @@
-use Rattle.click_classes.proofs.Beginning.{fresh-begins, fresh-sound}
+use Rattle.click_classes.proofs.OfStates.FirstStates.{fresh-begins, fresh-sound}
 use Rattle.click_classes.proofs.laws.made_states_are_settings.Goals as goal
 
 pub returns : goal.returns

@@ -1,4 +1,4 @@
-use Rattle.click_classes.proofs.Fitting.{act-there, gives-there, tries-there}
+use Rattle.click_classes.proofs.OfPorts.NamedPorts.{act-there, gives-there, tries-there}
 use Rattle.click_classes.proofs.laws.named_ports_are_there.Goals as goal
 
 pub returns : goal.returns

@@ -1,4 +1,4 @@
-use Rattle.click_classes.proofs.Settings.{act-settings, gives-settings, stored-settings, emission-settings, class-settings}
+use Rattle.click_classes.proofs.OfStates.StateSettings.{act-settings, gives-settings, stored-settings, emission-settings, class-settings}
 use Rattle.click_classes.proofs.laws.packets_keep_settings.Goals as goal
 
 pub returns : goal.returns

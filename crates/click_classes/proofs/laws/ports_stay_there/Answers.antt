@@ -1,4 +1,4 @@
-use Rattle.click_classes.proofs.Turning.{act-fits, gives-fits, stored-fits, emission-fits, first-turn}
+use Rattle.click_classes.proofs.OfPorts.PortFit.{act-fits, gives-fits, stored-fits, emission-fits, first-turn}
 use Rattle.click_classes.proofs.laws.ports_stay_there.Goals as goal
 
 pub returns : goal.returns

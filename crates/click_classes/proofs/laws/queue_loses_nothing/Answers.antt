@@ -1,4 +1,4 @@
-use Rattle.click_classes.proofs.Full.{room, full, full_front, pulled}
+use Rattle.click_classes.proofs.OfQueues.QueueDrops.{room, full, full_front, pulled}
 use Rattle.click_classes.proofs.laws.queue_loses_nothing.Goals as goal
 
 pub returns : goal.returns

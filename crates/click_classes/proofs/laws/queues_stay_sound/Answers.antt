@@ -1,4 +1,4 @@
-use Rattle.click_classes.proofs.Sound.{act-sound, gives-sound, stored-sound, emission-sound}
+use Rattle.click_classes.proofs.OfQueues.QueueSoundness.{act-sound, gives-sound, stored-sound, emission-sound}
 use Rattle.click_classes.proofs.laws.queues_stay_sound.Goals as goal
 
 pub returns : goal.returns

@@ -1,4 +1,4 @@
-use Rattle.click_classes.proofs.LongestRoute.{route-some, route-none}
+use Rattle.click_classes.proofs.OfRoutes.LongestRoute.{route-some, route-none}
 use Rattle.click_classes.proofs.laws.route_is_longest.Goals as goal
 
 pub returns-clause-found : goal.returns-clause-found

@@ -1,4 +1,4 @@
-use Rattle.click_classes.proofs.Taking.{front}
+use Rattle.click_classes.proofs.OfStates.StateTakeOver.{front}
 use Rattle.click_classes.proofs.laws.taken_queues_lose_nothing.Goals as goal
 
 pub returns : goal.returns

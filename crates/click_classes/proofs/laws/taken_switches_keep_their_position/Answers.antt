@@ -1,6 +1,6 @@
 use Rattle.std.proofs.Common.{refl}
 use Rattle.click_classes.specs.declared.state.State.TheVariants as state
-use Rattle.click_classes.proofs.Taking.{position-kept, position-own, switch-goes-on}
+use Rattle.click_classes.proofs.OfStates.StateTakeOver.{position-kept, position-own, switch-goes-on}
 use Rattle.click_classes.proofs.laws.taken_switches_keep_their_position.Goals as goal
 
 pub returns : goal.returns

@@ -2,7 +2,7 @@ use Rattle.std.proofs.Common.{◌<◌, ◌≤◌, ◌+◌, ◌≡◌, ◌==◌, 
 use Rattle.std.proofs.lemmas.Bool.{cases_lt}
 use Rattle.std.proofs.lemmas.Bool.Decides.{nat_tests}
 use Rattle.click_classes.specs.kept.Masks.{IsBytes}
-use Rattle.click_classes.proofs.ReadySteps.{made_step}
+use Rattle.click_classes.proofs.OfPatterns.ClauseSteps.{made_step}
 use Rattle.click_classes.proofs.patterns.step_of.Goals as goal
 use Rattle.click_classes.proofs.patterns.step_of.Goals.{then-is_empty, else-is_empty}
 

@@ -1,5 +1,5 @@
 use Rattle.std.proofs.Common.{◌+◌, ◌-◌, ◌≡◌, arith, length-drop}
-use Rattle.click_classes.proofs.StepLists.{so_far_more, so_far_ends}
+use Rattle.click_classes.proofs.OfPatterns.StepLists.{so_far_more, so_far_ends}
 use Rattle.click_classes.proofs.patterns.steps_of.Goals as goal
 
 pub loop-at-preserved : goal.loop-at-preserved

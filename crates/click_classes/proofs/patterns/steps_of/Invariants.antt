@@ -1,5 +1,5 @@
 use Rattle.std.proofs.Common.{◌≤◌, ◌-◌, max}
-use Rattle.click_classes.proofs.StepLists.{SoFar}
+use Rattle.click_classes.proofs.OfPatterns.StepLists.{SoFar}
 use Rattle.click_classes.proofs.patterns.steps_of.Given as goal
 
 -- the steps so far and the bytes that are left

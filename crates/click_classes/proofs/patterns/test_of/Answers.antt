@@ -1,5 +1,5 @@
 use Rattle.std.proofs.Common.{length, ap, arith}
-use Rattle.click_classes.proofs.StepLists.{test_made}
+use Rattle.click_classes.proofs.OfPatterns.StepLists.{test_made}
 use Rattle.click_classes.proofs.patterns.test_of.Goals as goal
 
 pub returns : goal.returns

@@ -1,7 +1,7 @@
 use Rattle.std.proofs.Common.{◌≡◌, ◌+◌, ◌-◌, length, subst, arith}
 use Rattle.click_classes.specs.declared.values.pattern.Clause.{Clause}
 use Rattle.click_classes.specs.kept.Masks.{IsTest}
-use Rattle.click_classes.proofs.StepLists.{TestsSoFar, tests_begin, tests_more, tests_end}
+use Rattle.click_classes.proofs.OfPatterns.StepLists.{TestsSoFar, tests_begin, tests_more, tests_end}
 use Rattle.click_classes.proofs.patterns.tests_of.Goals as goal
 
 pub loop-at-init : goal.loop-at-init

@@ -1,5 +1,5 @@
 use Rattle.std.proofs.Common.{◌≤◌, length}
-use Rattle.click_classes.proofs.StepLists.{TestsSoFar}
+use Rattle.click_classes.proofs.OfPatterns.StepLists.{TestsSoFar}
 use Rattle.click_classes.proofs.patterns.tests_of.Given as goal
 
 abbrev pub invariant-loop-at : goal.invariant-loop-at

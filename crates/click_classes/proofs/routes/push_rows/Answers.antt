@@ -2,8 +2,8 @@ use Rattle.std.proofs.Common.{arith, sym, ap, ◌++◌, ◌∙◌, map}
 use Rattle.std.proofs.lemmas.Bool.Decides.{nat_tests}
 use Rattle.std.proofs.lemmas.List.Elements.{All-push}
 use Rattle.click_classes.specs.kept.Rows.{IsReady, entry_of}
-use Rattle.click_classes.proofs.RowSteps.{row_more, row_skipped}
-use Rattle.click_classes.proofs.Tables.{blank}
+use Rattle.click_classes.proofs.OfRoutes.TableRows.{row_more, row_skipped}
+use Rattle.click_classes.proofs.OfRoutes.RouteTables.{blank}
 use Rattle.click_classes.proofs.routes.push_rows.Goals as goal
 use Rattle.click_classes.proofs.routes.push_rows.Goals.{then-entry-len+in_ok-push, else-entry-len}
 

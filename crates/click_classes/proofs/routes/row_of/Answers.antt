@@ -1,4 +1,4 @@
-use Rattle.click_classes.proofs.AddressWords.{masked_covers}
+use Rattle.click_classes.proofs.OfNumbers.AddressWords.{masked_covers}
 use Rattle.click_classes.proofs.routes.row_of.Goals as goal
 
 pub returns-clause-ready : goal.returns-clause-ready

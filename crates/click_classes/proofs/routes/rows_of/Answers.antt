@@ -1,5 +1,5 @@
 use Rattle.std.proofs.Common.{◌-◌, arith}
-use Rattle.click_classes.proofs.RowSteps.{length_more, length_end}
+use Rattle.click_classes.proofs.OfRoutes.TableRows.{length_more, length_end}
 use Rattle.click_classes.proofs.routes.rows_of.Goals as goal
 
 pub loop-len-preserved : goal.loop-len-preserved

@@ -1,4 +1,4 @@
-use Rattle.click_classes.proofs.WrittenClauses.{clause-full, clause-masked}
+use Rattle.click_classes.proofs.OfPatterns.ClauseTexts.{clause-full, clause-masked}
 use Rattle.click_classes.proofs.value_laws.a_clause_is_its_parts.Goals as goal
 
 pub returns : goal.returns

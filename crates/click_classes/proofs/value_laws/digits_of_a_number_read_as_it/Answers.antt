@@ -1,4 +1,4 @@
-use Rattle.click_classes.proofs.WrittenValues.{decimal_number-inside, decimal_number-below, decimal_number-above}
+use Rattle.click_classes.proofs.OfArguments.ValueTexts.{decimal_number-inside, decimal_number-below, decimal_number-above}
 use Rattle.click_classes.proofs.value_laws.digits_of_a_number_read_as_it.Goals as goal
 
 pub returns : goal.returns

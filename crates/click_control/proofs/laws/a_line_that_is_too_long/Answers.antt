@@ -1,6 +1,6 @@
 use Rattle.std.proofs.Common.{length, take, refl, take_all, arith}
 use Rattle.click_control.specs.Commands.{HasNoEnd}
-use Rattle.click_control.proofs.Streams.{commands_from-long}
+use Rattle.click_control.proofs.StreamCommands.{commands_from-long}
 use Rattle.click_control.proofs.laws.a_line_that_is_too_long.Goals as goal
 
 pub returns : goal.returns

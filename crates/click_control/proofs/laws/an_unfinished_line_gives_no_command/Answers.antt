@@ -1,4 +1,4 @@
-use Rattle.click_control.proofs.Waiting.{line_none, line_waits}
+use Rattle.click_control.proofs.PartialLines.{line_none, line_waits}
 use Rattle.click_control.proofs.laws.an_unfinished_line_gives_no_command.Goals as goal
 
 pub returns : goal.returns

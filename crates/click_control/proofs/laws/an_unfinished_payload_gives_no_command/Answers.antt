@@ -1,4 +1,4 @@
-use Rattle.click_control.proofs.Waiting.{payload_none, payload_waits_for}
+use Rattle.click_control.proofs.PartialLines.{payload_none, payload_waits_for}
 use Rattle.click_control.proofs.laws.an_unfinished_payload_gives_no_command.Goals as goal
 
 pub returns : goal.returns

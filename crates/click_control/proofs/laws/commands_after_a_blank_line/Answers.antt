@@ -1,4 +1,4 @@
-use Rattle.click_control.proofs.Following.{after_blank}
+use Rattle.click_control.proofs.LineRests.{after_blank}
 use Rattle.click_control.proofs.laws.commands_after_a_blank_line.Goals as goal
 
 pub returns : goal.returns

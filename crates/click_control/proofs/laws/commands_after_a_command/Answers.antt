@@ -1,4 +1,4 @@
-use Rattle.click_control.proofs.Following.{after_whole}
+use Rattle.click_control.proofs.LineRests.{after_whole}
 use Rattle.click_control.proofs.laws.commands_after_a_command.Goals as goal
 
 pub returns : goal.returns

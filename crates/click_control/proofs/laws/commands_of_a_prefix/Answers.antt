@@ -1,6 +1,6 @@
 use Rattle.std.proofs.Common.{[]}
 use Rattle.click_control.specs.Commands.{in_line, commands_from}
-use Rattle.click_control.proofs.Streams.{reading_after, commands_from-append}
+use Rattle.click_control.proofs.StreamCommands.{reading_after, commands_from-append}
 use Rattle.click_control.proofs.laws.commands_of_a_prefix.Goals as goal
 
 pub returns : goal.returns

@@ -1,4 +1,4 @@
-use Rattle.click_control.proofs.Following.{after_last}
+use Rattle.click_control.proofs.LineRests.{after_last}
 use Rattle.click_control.proofs.laws.nothing_after_the_last_command.Goals as goal
 
 pub returns : goal.returns

@@ -1,4 +1,4 @@
-use Rattle.click_control.proofs.Streams.{to_come-fed}
+use Rattle.click_control.proofs.StreamCommands.{to_come-fed}
 use Rattle.click_control.proofs.laws.pieces_are_one_stream.Goals as goal
 
 pub returns-clause-pieces : goal.returns-clause-pieces

@@ -1,7 +1,7 @@
 use Rattle.std.proofs.Common.{length, take, refl, take_all, arith}
 use Rattle.click_control.specs.Commands.{HasNoEnd}
-use Rattle.click_control.proofs.Streams.{commands_from-long}
-use Rattle.click_control.proofs.Sessions.{taken_long, partial_line}
+use Rattle.click_control.proofs.StreamCommands.{commands_from-long}
+use Rattle.click_control.proofs.SessionLines.{taken_long, partial_line}
 use Rattle.click_control.proofs.line.first_line.Goals as goal
 
 pub returns-in-None : goal.returns-in-None

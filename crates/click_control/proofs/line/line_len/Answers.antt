@@ -2,7 +2,7 @@ use Rattle.std.proofs.Common.{◌+◌, ◌<◌, length, get_or, drop, sym, ap, �
 use Rattle.std.proofs.lemmas.List.{take_rest}
 use Rattle.std.proofs.lemmas.Bool.{false_from_ne_true}
 use Rattle.click_control.specs.Commands.{is_end}
-use Rattle.click_control.proofs.Streams.{HasNoEnd-more, HasNoEnd-all}
+use Rattle.click_control.proofs.StreamCommands.{HasNoEnd-more, HasNoEnd-all}
 use Rattle.click_control.proofs.line.line_len.Goals as goal
 
 pub returns-in-None : goal.returns-in-None

@@ -1,5 +1,5 @@
-use Rattle.click_control.proofs.LineWords.{said-case}
+use Rattle.click_control.proofs.KnownWords.{parsed-case}
 use Rattle.click_control.proofs.line_laws.case_does_not_matter_in_a_first_word.Goals as goal
 
 pub returns : goal.returns
-returns c = said-case
+returns c = parsed-case

@@ -1,5 +1,5 @@
 use Rattle.std.proofs.Common.{◌≡◌, true, false}
-use Rattle.click_control.proofs.Going.{Serves-open}
+use Rattle.click_control.proofs.SessionProgress.{Serves-open}
 use Rattle.click_control.proofs.serving.serve.Goals as goal
 
 pub returns : goal.returns

@@ -2,7 +2,7 @@ use Rattle.std.proofs.Common.{Option, subst}
 use Rattle.std.proofs.lemmas.Result.{err_from_is_err_and}
 use Rattle.click_router.specs.declared.call.Call.{Call}
 use Rattle.click_control.specs.Serving.{Answered}
-use Rattle.click_control.proofs.Going.{Serves-no_memory, Serves-held, Serves-reply, Goes-replied}
+use Rattle.click_control.proofs.SessionProgress.{Serves-no_memory, Serves-held, Serves-reply, Goes-replied}
 use Rattle.click_control.proofs.serving.take_up.Goals as goal
 
 pub returns-in_default : goal.returns-in_default

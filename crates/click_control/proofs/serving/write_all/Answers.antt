@@ -2,7 +2,7 @@ use Rattle.std.proofs.Common.{◌||◌, true, take, drop, sym, subst, ap, ◌∙
 use Rattle.std.proofs.lemmas.List.{take_rest}
 use Rattle.std.specs.Io.KnownBytes.{Appends}
 use Rattle.std.proofs.KnownBytes.{Appends-trans, Appends-kept}
-use Rattle.click_control.proofs.Going.{or-false}
+use Rattle.click_control.proofs.SessionProgress.{or-false}
 use Rattle.click_control.proofs.serving.write_all.Goals as goal
 
 pub loop-at-preserved : goal.loop-at-preserved

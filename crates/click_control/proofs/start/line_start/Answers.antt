@@ -1,6 +1,6 @@
 use Rattle.std.proofs.Common.{◌<◌, length, sym, arith}
 use Rattle.std.proofs.lemmas.Bool.{eqb-false}
-use Rattle.click_control.proofs.Streams.{commands_from-empty, commands_from-over, commands_from-feed, commands_from-no_feed}
+use Rattle.click_control.proofs.StreamCommands.{commands_from-empty, commands_from-over, commands_from-feed, commands_from-no_feed}
 use Rattle.click_control.specs.kept.Lines.{reading_of}
 use Rattle.click_control.proofs.start.line_start.Goals as goal
 

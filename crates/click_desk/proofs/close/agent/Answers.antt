@@ -1,6 +1,6 @@
 use Rattle.std.proofs.Common.{ap}
 use Rattle.click_desk.specs.declared.view.View.{View}
-use Rattle.click_desk.proofs.Moves.{agents}
+use Rattle.click_desk.proofs.QueueMoves.{agents}
 use Rattle.click_desk.proofs.close.agent.Goals as goal
 
 pub another-requires-clause-rule : goal.another-requires-clause-rule

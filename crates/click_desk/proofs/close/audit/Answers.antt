@@ -1,6 +1,6 @@
 use Rattle.std.proofs.Common.{ap, ◌∙◌}
 use Rattle.click_desk.specs.declared.view.View.{View}
-use Rattle.click_desk.proofs.Moves.{meets, audits, parts}
+use Rattle.click_desk.proofs.QueueMoves.{meets, audits, parts}
 use Rattle.click_desk.proofs.close.audit.Goals as goal
 
 pub absorb-requires-clause-rule : goal.absorb-requires-clause-rule

@@ -2,7 +2,7 @@ use Rattle.std.proofs.Common.{ap, ◌∙◌, subst}
 use Rattle.crossbeam_queue.specs.Passes.{view}
 use Rattle.click_desk.specs.Views.{Takes}
 use Rattle.click_desk.specs.declared.view.View.{View}
-use Rattle.click_desk.proofs.Moves.{takes}
+use Rattle.click_desk.proofs.QueueMoves.{takes}
 use Rattle.click_desk.proofs.desk.wait_for.Goals as goal
 
 pub try_pop_as-requires-clause-rule : goal.try_pop_as-requires-clause-rule
@@ -10,4 +10,4 @@ try_pop_as-requires-clause-rule g c = takes _ _ (ap (λ (v : View). v.opened) c.
 
 pub returns-in-Some-try_pop_as-clause-taken : goal.returns-in-Some-try_pop_as-clause-taken
 returns-in-Some-try_pop_as-clause-taken g c =
-    subst (λ (v : View). Takes v c.in-Some-try_pop_as.booked (view c.try_pop_as.new.pass)) c.loop.invariant.1 c.in-Some-try_pop_as.ensures.rule
+    subst (λ (v : View). Takes v c.in-Some-try_pop_as.logged_router (view c.try_pop_as.new.pass)) c.loop.invariant.1 c.in-Some-try_pop_as.ensures.rule

@@ -1,4 +1,4 @@
-use Rattle.click_desk.proofs.Lawful.{no_trace}
+use Rattle.click_desk.proofs.LawfulHistories.{no_trace}
 use Rattle.click_desk.proofs.laws.refused_swaps_leave_no_trace.Goals as goal
 
 pub returns : goal.returns

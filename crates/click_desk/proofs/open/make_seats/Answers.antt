@@ -1,6 +1,6 @@
 use Rattle.std.proofs.Common.{ap}
 use Rattle.click_desk.specs.declared.view.View.{View}
-use Rattle.click_desk.proofs.Moves.{seats}
+use Rattle.click_desk.proofs.QueueMoves.{seats}
 use Rattle.click_desk.proofs.open.make_seats.Goals as goal
 
 pub another-pass-requires-clause-rule : goal.another-pass-requires-clause-rule

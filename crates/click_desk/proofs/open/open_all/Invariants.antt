@@ -5,8 +5,8 @@ use Rattle.click_desk.proofs.open.open_all.Given as goal
 
 abbrev pub invariant-loop-inlet : goal.invariant-loop-inlet
 invariant-loop-inlet l = record {
-  names : map name_of l.taps.items ≡ l.yielded;
-  fresh : All (λ t. t.drawn ≡ []) l.taps.items;
-  len : vec_len l.taps ≡ length l.yielded;
-  room : length l.fn.inlets.items ≤ vec_capacity l.taps;
+  names : map name_of l.consumers.items ≡ l.yielded;
+  fresh : All (λ t. t.drawn ≡ []) l.consumers.items;
+  len : vec_len l.consumers ≡ length l.yielded;
+  room : length l.fn.inlets.items ≤ vec_capacity l.consumers;
 }

@@ -1,11 +1,11 @@
 use Rattle.std.proofs.Common.{◌≡◌, true, map, vec_len}
-use Rattle.click_rings.specs.Feeds.{name_of, are_apart}
+use Rattle.click_rings.specs.Feeds.{name_of, have_distinct_devices}
 use Rattle.click_desk_tests.proofs.drivers.settle_all.Given as goal
 
 abbrev pub invariant-loop-alloc : goal.invariant-loop-alloc
 invariant-loop-alloc g l = record {
-  names : map name_of l.book.taps ≡ l.finished.items;
-  apart : are_apart l.finished.items ≡ true;
+  names : map name_of l.book.consumers ≡ l.finished.items;
+  apart : have_distinct_devices l.finished.items ≡ true;
 }
 
 abbrev pub decreases-loop-alloc : goal.decreases-loop-alloc

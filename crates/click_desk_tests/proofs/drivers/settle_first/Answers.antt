@@ -1,6 +1,6 @@
 use Rattle.std.proofs.Common.{◌≡◌, sym, ap, ◌∙◌, map, arith}
 use Rattle.click_rings.specs.Feeds.{FeedName, name_of}
-use Rattle.click_desk.specs.Booklet.{Booklet}
+use Rattle.click_desk.specs.BookState.{BookState}
 use Rattle.click_desk.specs.Polls.{without}
 use Rattle.click_desk_tests.proofs.Settled.{first-ring, first-settled}
 use Rattle.click_desk_tests.proofs.drivers.settle_first.Goals as goal
@@ -10,14 +10,14 @@ settle-requires g c = λ k d below same.
     let n : FeedName = c.remove.result in
     let device : c.as_slice.result.now ≡ n.device = c.as_slice.ensures ∙ ap (λ (f : FeedName). f.device) c.device.view_is in
     let ring = sym (ap (λ (f : FeedName). f.ring) c.device.view_is) in
-    first-ring c.args.finished.now.items n c.args.book.now.taps (omega (arith, c.requires.some, c.args.finished.now.ok.0)) c.remove.ensures.value c.requires.names c.requires.apart k d below
+    first-ring c.args.finished.now.items n c.args.book.now.consumers (omega (arith, c.requires.some, c.args.finished.now.ok.0)) c.remove.ensures.value c.requires.names c.requires.apart k d below
     (same ∙ device) ∙ ring
 
 pub returns-in-Ok-clause-names : goal.returns-in-Ok-clause-names
 returns-in-Ok-clause-names g c =
     let n : FeedName = c.remove.result in
     let device : c.as_slice.result.now ≡ n.device = c.as_slice.ensures ∙ ap (λ (f : FeedName). f.device) c.device.view_is in
-    let gone : c.settle.new.self.taps ≡ without n.device c.args.book.now.taps =
-    ap (λ (b : Booklet). b.taps) c.in-Ok.ensures.settled ∙ ap (λ d. without d c.args.book.now.taps) device in
-    ap (map name_of) gone ∙ first-settled c.args.finished.now.items n c.args.book.now.taps (omega (arith, c.requires.some, c.args.finished.now.ok.0)) c.remove.ensures.value c.requires.names
+    let gone : c.settle.new.self.consumers ≡ without n.device c.args.book.now.consumers =
+    ap (λ (b : BookState). b.consumers) c.in-Ok.ensures.settled ∙ ap (λ d. without d c.args.book.now.consumers) device in
+    ap (map name_of) gone ∙ first-settled c.args.finished.now.items n c.args.book.now.consumers (omega (arith, c.requires.some, c.args.finished.now.ok.0)) c.remove.ensures.value c.requires.names
     ∙ sym c.remove.ensures.items

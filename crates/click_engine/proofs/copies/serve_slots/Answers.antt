@@ -1,5 +1,5 @@
 use Rattle.std.proofs.Common.{◌≡◌, ◌++◌, arith, rules}
-use Rattle.click_engine.proofs.Serving.{served_above}
+use Rattle.click_engine.proofs.OfFrames.OutputFrames.{served_above}
 use Rattle.click_engine.proofs.copies.serve_slots.Goals as goal
 
 pub returns : goal.returns

@@ -1,5 +1,5 @@
 use Rattle.std.proofs.Common.{arith}
-use Rattle.click_engine.proofs.Near_names.{are_one}
+use Rattle.click_engine.proofs.OfNames.NearNames.{are_one}
 use Rattle.click_engine.proofs.device_names.is_name.Goals as goal
 
 pub returns : goal.returns

@@ -1,7 +1,7 @@
 use Rattle.std.proofs.Common.{◌≡◌, true, false, rules}
 use Rattle.std.specs.Str.{bytes_eq}
 use Rattle.click_engine.specs.kept.Tables.{texts}
-use Rattle.click_engine.proofs.Near_names.{found_first, found_here, found_later}
+use Rattle.click_engine.proofs.OfNames.NearNames.{found_first, found_here, found_later}
 use Rattle.click_engine.proofs.device_names.near_place.Goals as goal
 
 pub loop-at-init : goal.loop-at-init

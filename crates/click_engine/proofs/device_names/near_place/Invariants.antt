@@ -1,5 +1,5 @@
 use Rattle.click_engine.specs.kept.Tables.{texts}
-use Rattle.click_engine.proofs.Near_names.{FoundFrom}
+use Rattle.click_engine.proofs.OfNames.NearNames.{FoundFrom}
 use Rattle.click_engine.proofs.device_names.near_place.Given as goal
 
 -- it is none of those before

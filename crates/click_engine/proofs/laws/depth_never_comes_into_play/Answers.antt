@@ -1,6 +1,6 @@
-use Rattle.click_engine.proofs.PullSlack.{pull-slack}
-use Rattle.click_engine.proofs.RunsBegin.{emitted-deep, asks-deep, asked-deep, sourced-deep}
-use Rattle.click_engine.proofs.Slack.{push-slack}
+use Rattle.click_engine.proofs.OfRuns.PullDepth.{pull-slack}
+use Rattle.click_engine.proofs.OfRuns.RunStarts.{emitted-deep, asks-deep, asked-deep, sourced-deep}
+use Rattle.click_engine.proofs.OfRuns.PushDepth.{push-slack}
 use Rattle.click_engine.proofs.laws.depth_never_comes_into_play.Goals as goal
 
 pub returns : goal.returns

@@ -1,4 +1,4 @@
-use Rattle.click_engine.proofs.Beginnings.{enters_first, leaves_first}
+use Rattle.click_engine.proofs.OfPlants.FirstPlant.{enters_first, leaves_first}
 use Rattle.click_engine.proofs.laws.devices_are_first.Goals as goal
 
 pub returns : goal.returns

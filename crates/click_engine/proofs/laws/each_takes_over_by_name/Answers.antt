@@ -1,4 +1,4 @@
-use Rattle.click_engine.proofs.Taking.{each_by_name}
+use Rattle.click_engine.proofs.OfPlants.ElementTakeOver.{each_by_name}
 use Rattle.click_engine.proofs.laws.each_takes_over_by_name.Goals as goal
 
 pub returns : goal.returns

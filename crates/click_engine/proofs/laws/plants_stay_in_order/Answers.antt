@@ -1,4 +1,4 @@
-use Rattle.click_engine.proofs.InOrder.{arrive-in-order, transmit-in-order, round-in-order}
+use Rattle.click_engine.proofs.OfInvariants.PlantOrder.{arrive-in-order, transmit-in-order, round-in-order}
 use Rattle.click_engine.proofs.laws.plants_stay_in_order.Goals as goal
 
 pub returns : goal.returns

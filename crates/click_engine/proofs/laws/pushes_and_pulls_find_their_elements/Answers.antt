@@ -1,4 +1,4 @@
-use Rattle.click_engine.proofs.Joined.{target-there, source-there, target-named, source-named}
+use Rattle.click_engine.proofs.OfPlants.ConnectedPorts.{target-there, source-there, target-named, source-named}
 use Rattle.click_engine.proofs.laws.pushes_and_pulls_find_their_elements.Goals as goal
 
 pub returns : goal.returns

@@ -1,4 +1,4 @@
-use Rattle.click_engine.proofs.Keeping.{arrive-settings, transmit-settings, round-settings}
+use Rattle.click_engine.proofs.OfInvariants.ElementInvariants.{arrive-settings, transmit-settings, round-settings}
 use Rattle.click_engine.proofs.laws.runs_keep_settings.Goals as goal
 
 pub returns : goal.returns

@@ -1,5 +1,5 @@
-use Rattle.click_engine.proofs.InOrder.{push-in-order, pull-in-order}
-use Rattle.click_engine.proofs.NoneMissed.{none-missed-by-push, none-missed-by-pull}
+use Rattle.click_engine.proofs.OfInvariants.PlantOrder.{push-in-order, pull-in-order}
+use Rattle.click_engine.proofs.OfRuns.RunPorts.{none-missed-by-push, none-missed-by-pull}
 use Rattle.click_engine.proofs.laws.runs_never_miss_an_element.Goals as goal
 
 pub returns : goal.returns

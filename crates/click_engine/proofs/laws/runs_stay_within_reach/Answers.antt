@@ -1,5 +1,5 @@
 use Rattle.click_engine.specs.Keeps.{Among}
-use Rattle.click_engine.proofs.Keeping.{arrive-outside, transmit-outside, task-outside, round-outside}
+use Rattle.click_engine.proofs.OfInvariants.ElementInvariants.{arrive-outside, transmit-outside, task-outside, round-outside}
 use Rattle.click_engine.proofs.laws.runs_stay_within_reach.Goals as goal
 
 pub returns : goal.returns

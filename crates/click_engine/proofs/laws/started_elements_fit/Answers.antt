@@ -1,4 +1,4 @@
-use Rattle.click_engine.proofs.Fitting.{begins-fitting}
+use Rattle.click_engine.proofs.OfInvariants.PortFit.{begins-fitting}
 use Rattle.click_engine.proofs.laws.started_elements_fit.Goals as goal
 
 pub returns : goal.returns

@@ -1,4 +1,4 @@
-use Rattle.click_engine.proofs.Beginnings.{one_beginning}
+use Rattle.click_engine.proofs.OfPlants.FirstPlant.{one_beginning}
 use Rattle.click_engine.proofs.laws.started_once.Goals as goal
 
 pub returns : goal.returns

@@ -1,4 +1,4 @@
-use Rattle.click_engine.proofs.Keeping.{begins-sound}
+use Rattle.click_engine.proofs.OfInvariants.ElementInvariants.{begins-sound}
 use Rattle.click_engine.proofs.laws.started_queues_are_sound.Goals as goal
 
 pub returns : goal.returns

@@ -1,4 +1,4 @@
-use Rattle.click_engine.proofs.Taking.{all_sound, all_fitting}
+use Rattle.click_engine.proofs.OfPlants.ElementTakeOver.{all_sound, all_fitting}
 use Rattle.click_engine.proofs.laws.taking_over_keeps_plants_sound.Goals as goal
 
 pub returns : goal.returns

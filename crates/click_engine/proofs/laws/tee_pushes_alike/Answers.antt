@@ -1,5 +1,5 @@
 use Rattle.std.proofs.Common.{refl}
-use Rattle.click_engine.proofs.Tees.{push-tee}
+use Rattle.click_engine.proofs.OfRuns.TeePushes.{push-tee}
 use Rattle.click_engine.proofs.laws.tee_pushes_alike.Goals as goal
 
 pub returns : goal.returns

@@ -1,7 +1,7 @@
 use Rattle.std.proofs.Common.{◌≡◌, ◌+◌, ◌++◌, ◌∷◌, [], ◌∙◌, ap, sym, length, length-append, append-nil, arith}
 use Rattle.std.specs.Vec.Iter.{into_iter_items}
 use Rattle.click_engine.specs.Plant.{elements_from}
-use Rattle.click_engine.proofs.Elements.{elements_more, elements_length, joined_on, no_items}
+use Rattle.click_engine.proofs.OfPlants.PlantElements.{elements_more, elements_length, joined_on, no_items}
 use Rattle.click_engine.proofs.plant.elements_of.Goals as goal
 
 pub used-requires : goal.used-requires

@@ -4,7 +4,7 @@ use Rattle.std.proofs.lemmas.List.{take_all}
 use Rattle.std.proofs.lemmas.List.Elements.{All-push}
 use Rattle.click_engine.specs.Tasks.{AreTasks, over}
 use Rattle.click_engine.specs.kept.Tasks.{places_of, IsTaskIn}
-use Rattle.click_engine.proofs.Task_places.{next_task, next_idle, places-push, is_task_in}
+use Rattle.click_engine.proofs.OfPlants.TaskPlaces.{next_task, next_idle, places-push, is_task_in}
 use Rattle.click_engine.proofs.tasks.tasks_of.Goals as goal
 
 pub loop-at-init : goal.loop-at-init

@@ -2,7 +2,7 @@ use Rattle.std.proofs.Common.{◌≡◌, true, sym, ap, ◌∙◌, subst, All}
 use Rattle.std.proofs.lemmas.List.{take_all}
 use Rattle.click_expand.specs.Flat.{is_whole}
 use Rattle.click_expand.specs.declared.flat.FlatElement.{FlatElement}
-use Rattle.click_expand.proofs.OfAnswers.Finding.{whole-more}
+use Rattle.click_expand.proofs.OfAnswers.FirstRefusal.{whole-more}
 use Rattle.click_expand.proofs.final_checks.first_broken.Goals as goal
 
 pub loop-place-preserved : goal.loop-place-preserved

@@ -1,7 +1,7 @@
 use Rattle.std.proofs.Common.{◌≡◌, ◌++◌, ◌∷◌, [], true, false, cond, refl, sym, ap, ◌∙◌}
 use Rattle.std.proofs.lemmas.Option.{slice_get_read}
 use Rattle.click_scopes.specs.Elements.{has_name}
-use Rattle.click_expand.proofs.OfAnswers.Finding.{repeated, names-more}
+use Rattle.click_expand.proofs.OfAnswers.FirstRefusal.{repeated, names-more}
 use Rattle.click_expand.proofs.final_checks.first_repeated.Goals as goal
 
 pub returns-then-has : goal.returns-then-has

@@ -1,7 +1,7 @@
 use Rattle.std.proofs.Common.{◌≡◌, ◌++◌, ◌∷◌, [], nat_eq, sym, ap, ◌∙◌}
 use Rattle.click_text.specs.declared.strings.Mode.TheVariants as mode
 use Rattle.click_text.specs.Strings.{closes}
-use Rattle.click_expand.proofs.OfAnswers.Finding.{whole-found, whole-none}
+use Rattle.click_expand.proofs.OfAnswers.FirstRefusal.{whole-found, whole-none}
 use Rattle.click_expand.proofs.final_checks.is_whole.Goals as goal
 
 pub returns-in-Some : goal.returns-in-Some

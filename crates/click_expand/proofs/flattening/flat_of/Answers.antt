@@ -1,6 +1,6 @@
 use Rattle.std.proofs.Common.{sym, subst}
 use Rattle.click_expand.specs.kept.Answered.{IsRefused}
-use Rattle.click_expand.proofs.OfAnswers.Answering.{first-refused}
+use Rattle.click_expand.proofs.OfAnswers.FlatForms.{first-refused}
 use Rattle.click_expand.proofs.flattening.flat_of.Goals as goal
 
 pub returns-in-Err-clause-err : goal.returns-in-Err-clause-err

@@ -1,7 +1,7 @@
 use Rattle.std.proofs.Common.{◌∙◌}
-use Rattle.click_scopes.proofs.Nesting.{spelled-nested}
-use Rattle.click_expand.proofs.Once.FlatOnce.{flat-once}
-use Rattle.click_expand.proofs.OfAnswers.Answering.{refused-for-memory}
+use Rattle.click_scopes.proofs.OfBodies.NestedBodies.{spelled-nested}
+use Rattle.click_expand.proofs.OfUniqueness.OneFlatForm.{flat-once}
+use Rattle.click_expand.proofs.OfAnswers.FlatForms.{refused-for-memory}
 use Rattle.click_expand.proofs.flattening.flatten.Goals as goal
 
 pub flat_of-requires-clause-nested : goal.flat_of-requires-clause-nested

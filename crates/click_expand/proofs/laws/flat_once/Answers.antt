@@ -1,6 +1,6 @@
-use Rattle.click_scopes.proofs.Nesting.{spelled-nested}
-use Rattle.click_expand.proofs.Once.FlatOnce.{flat-once, flat-no-fault}
-use Rattle.click_expand.proofs.Once.FaultOnce.{spelled-fault-once}
+use Rattle.click_scopes.proofs.OfBodies.NestedBodies.{spelled-nested}
+use Rattle.click_expand.proofs.OfUniqueness.OneFlatForm.{flat-once, flat-no-fault}
+use Rattle.click_expand.proofs.OfUniqueness.OneFault.{spelled-fault-once}
 use Rattle.click_expand.proofs.laws.flat_once.Goals as goal
 
 pub returns-clause-flat : goal.returns-clause-flat

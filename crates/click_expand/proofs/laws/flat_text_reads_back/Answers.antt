@@ -1,4 +1,4 @@
-use Rattle.click_expand.proofs.ReadsBack.Law.{reads_back}
+use Rattle.click_expand.proofs.OfFlatText.ReadBackLaw.{reads_back}
 use Rattle.click_expand.proofs.laws.flat_text_reads_back.Goals as goal
 
 pub returns : goal.returns

@@ -1,4 +1,4 @@
-use Rattle.click_handlers.proofs.WritesKeep.{element-kept, fits-after}
+use Rattle.click_handlers.proofs.WriteInvariants.{element-kept, fits-after}
 use Rattle.click_handlers.proofs.laws.writes_keep_elements_fitting.Goals as goal
 
 pub returns : goal.returns

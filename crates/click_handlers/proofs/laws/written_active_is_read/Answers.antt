@@ -1,6 +1,6 @@
 use Rattle.click_handlers.proofs.ActivePorts.{port_named}
-use Rattle.click_handlers.proofs.Writing.{read_back, active_at}
-use Rattle.click_handlers.specs.Blanks.{trimmed}
+use Rattle.click_handlers.proofs.ReadsAfterWrites.{read_back, active_at}
+use Rattle.click_base.specs.Blanks.{trimmed}
 use Rattle.click_handlers.specs.Names.{active_name}
 use Rattle.click_handlers.proofs.laws.written_active_is_read.Goals as goal
 

@@ -1,5 +1,5 @@
-use Rattle.click_handlers.proofs.Writing.{read_back, capacity_at}
-use Rattle.click_handlers.specs.Blanks.{trimmed}
+use Rattle.click_handlers.proofs.ReadsAfterWrites.{read_back, capacity_at}
+use Rattle.click_base.specs.Blanks.{trimmed}
 use Rattle.std.specs.Prelude.{codes}
 use Rattle.click_handlers.proofs.laws.written_capacity_is_read.Goals as goal
 

@@ -1,6 +1,6 @@
 use Rattle.std.proofs.Common.{sym, ◌∙◌, arith}
 use Rattle.click_handlers.specs.Names.{is_named, read_names}
-use Rattle.click_handlers.proofs.Listed.{found_at, none_next, none_all, read_names_len}
+use Rattle.click_handlers.proofs.RowLists.{found_at, none_next, none_all, read_names_len}
 use Rattle.click_handlers.proofs.names.has_read.Goals as goal
 
 pub returns-then-is_named : goal.returns-then-is_named

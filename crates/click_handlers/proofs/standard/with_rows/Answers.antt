@@ -1,7 +1,7 @@
 use Rattle.std.proofs.Common.{map, ap, arith}
 use Rattle.click_handlers.specs.Names.{of_class}
-use Rattle.click_handlers.proofs.Growing.{one_more, first_reads, first_writes, active_read, active_write, all_reads, all_writes}
-use Rattle.click_handlers.proofs.Made.{told_row, told_closure, of_queue, of_front_drop_queue}
+use Rattle.click_handlers.proofs.RowNames.{one_more, first_reads, first_writes, active_read, active_write, all_reads, all_writes}
+use Rattle.click_handlers.proofs.BoxedCalls.{told_row, told_closure, of_queue, of_front_drop_queue}
 use Rattle.click_handlers.proofs.standard.with_rows.OwnLists.{own-1, own-2, at-1-1, at-1-2, at-1-3, at-1-4, at-1-5, at-1-6, at-1-7, at-1-8, at-1-9, at-1-10, at-1-11, at-1-12, at-2-1, at-2-2, at-2-3, at-2-4, at-2-5, at-2-6, at-2-7, at-2-8, at-2-9}
 use Rattle.click_handlers.proofs.standard.with_rows.Goals as goal
 

@@ -1,6 +1,6 @@
 use Rattle.std.proofs.Common.{sym, ◌∙◌, arith, below_more}
 use Rattle.click_handlers.specs.Names.{of_class}
-use Rattle.click_handlers.proofs.Listed.{read_names_len, never, always, other_length, listed_all, got_row, other_row}
+use Rattle.click_handlers.proofs.RowLists.{read_names_len, never, always, other_length, listed_all, got_row, other_row}
 use Rattle.click_handlers.proofs.table.are_reads.Goals as goal
 
 pub returns-then-rows-ne-READS : goal.returns-then-rows-ne-READS

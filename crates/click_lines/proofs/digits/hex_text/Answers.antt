@@ -2,7 +2,7 @@ use Rattle.std.proofs.Common.{◌≡◌, rules, arith}
 use Rattle.std.proofs.lemmas.Grind.{common_steps}
 use Rattle.hex.specs.Hex.{IsBytes}
 use Rattle.click_lines.specs.Digits.{hex_text}
-use Rattle.click_lines.proofs.ReadingBack.{reads_back}
+use Rattle.click_lines.proofs.DigitReadback.{reads_back}
 use Rattle.click_lines.proofs.digits.hex_text.Goals as goal
 
 pub returns-clause-back : goal.returns-clause-back

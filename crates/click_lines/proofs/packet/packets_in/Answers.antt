@@ -1,8 +1,8 @@
 use Rattle.std.proofs.Common.{◌≡◌, ◌<◌, [], ◌∷◌, ◌++◌, length, Some, None, ap, arith, refl, sym, ◌∙◌}
 use Rattle.click_lines.specs.Reading.{ReadsPacket, before}
-use Rattle.click_lines.proofs.Cuts.{after-shorter}
-use Rattle.click_lines.proofs.PacketsBack.{all_read, next_packet}
-use Rattle.click_lines.proofs.BytesBack.{one_more}
+use Rattle.click_lines.proofs.CutParts.{after-shorter}
+use Rattle.click_lines.proofs.PacketReadback.{all_read, next_packet}
+use Rattle.click_lines.proofs.ByteReadback.{one_more}
 use Rattle.click_lines.proofs.packet.packets_in.Goals as goal
 
 pub returns-in_default : goal.returns-in_default

@@ -1,5 +1,5 @@
 use Rattle.std.proofs.Common.{length}
-use Rattle.click_lines.proofs.PacketsBack.{Left}
+use Rattle.click_lines.proofs.PacketReadback.{Left}
 use Rattle.click_lines.proofs.packet.packets_in.Given as goal
 
 abbrev pub invariant-loop-rest : goal.invariant-loop-rest

@@ -1,6 +1,6 @@
 use Rattle.std.proofs.Common.{◌+◌, ◌∙◌, sym, arith}
 use Rattle.std.proofs.lemmas.List.{take_rest}
-use Rattle.click_lines.proofs.Cuts.{nowhere-before, place-before}
+use Rattle.click_lines.proofs.CutParts.{nowhere-before, place-before}
 use Rattle.click_lines.proofs.parts.cut.Goals as goal
 
 pub returns-in-None : goal.returns-in-None

@@ -2,7 +2,7 @@ use Rattle.std.proofs.Common.{◌≡◌, Option, Some, None, sym, ◌∙◌}
 use Rattle.click_router.specs.declared.call.Call.{Call}
 use Rattle.click_lines.specs.Kinds.{kind_word}
 use Rattle.click_lines.specs.Reading.{IsLaidOut, ReadsBytes, ReadsCall, before, after}
-use Rattle.click_lines.proofs.LinesBack.{first_bytes, first_read, if_ok, kind_of, laid_out, some_kind}
+use Rattle.click_lines.proofs.LineReadback.{first_bytes, first_read, if_ok, kind_of, laid_out, some_kind}
 use Rattle.click_lines.proofs.reading.call_in.Goals as goal
 
 pub returns-in_default : goal.returns-in_default

@@ -1,5 +1,5 @@
 use Rattle.std.proofs.Common.{Some, ap, arith}
-use Rattle.click_lines.proofs.NumbersBack.{no_error, number_back, same_value}
+use Rattle.click_lines.proofs.NumberReadback.{no_error, number_back, same_value}
 use Rattle.click_lines.proofs.reading.number_in.Goals as goal
 
 pub returns-in-Ok : goal.returns-in-Ok

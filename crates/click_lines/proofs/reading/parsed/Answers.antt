@@ -1,6 +1,6 @@
 use Rattle.std.proofs.Common.{◌≡◌, Some, None, refl, sym, ◌∙◌}
 use Rattle.click_lines.specs.Reading.{ReadsBytes, ReadsCall, ReadsNumber, before, after}
-use Rattle.click_lines.proofs.LinesBack.{cut_line}
+use Rattle.click_lines.proofs.LineReadback.{cut_line}
 use Rattle.click_lines.proofs.reading.parsed.Goals as goal
 
 pub returns-in_default : goal.returns-in_default

@@ -1,5 +1,5 @@
 use Rattle.std.proofs.Common.{arith}
-use Rattle.click_links.proofs.Fated.{received_step, steps_small, below_more}
+use Rattle.click_links.proofs.DatagramFates.{received_step, steps_small, below_more}
 use Rattle.click_links.proofs.receiving.receive.Goals as goal
 
 pub receive_next-requires : goal.receive_next-requires

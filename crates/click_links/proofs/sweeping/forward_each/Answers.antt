@@ -1,6 +1,6 @@
 use Rattle.std.proofs.Common.{◌∙◌, refl, rules}
 use Rattle.click_links.proofs.Gifts.{forwards_none, forwards_then, forwards_among}
-use Rattle.click_links.proofs.EachTurns.{name_at, each_none, each_next}
+use Rattle.click_links.proofs.TurnSequences.{name_at, each_none, each_next}
 use Rattle.click_links.proofs.sweeping.forward_each.Goals as goal
 
 pub returns-in_default-clause-forwards : goal.returns-in_default-clause-forwards

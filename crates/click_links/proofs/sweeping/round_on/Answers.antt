@@ -1,5 +1,5 @@
 use Rattle.std.proofs.Common.{◌∙◌}
-use Rattle.click_links.proofs.EachTurns.{rounds_more, rounds_end, work_of, no_work_of}
+use Rattle.click_links.proofs.TurnSequences.{rounds_more, rounds_end, work_of, no_work_of}
 use Rattle.click_links.proofs.sweeping.round_on.Goals as goal
 
 pub returns-in-Ok-false-clause-ok : goal.returns-in-Ok-false-clause-ok

@@ -1,5 +1,5 @@
 use Rattle.std.proofs.Common.{refl}
-use Rattle.click_links.proofs.EachTurns.{rounds_forward, until_forward}
+use Rattle.click_links.proofs.TurnSequences.{rounds_forward, until_forward}
 use Rattle.click_links.proofs.sweeping.sweep.Goals as goal
 
 pub returns-in_err-rounds-clause-forwards : goal.returns-in_err-rounds-clause-forwards

@@ -1,7 +1,7 @@
 use Rattle.std.proofs.Common.{◌+◌, sym, subst, ◌∙◌, arith}
 use Rattle.click_links.specs.declared.turns.Tally.{Tally}
 use Rattle.click_links.specs.Turns.{SendsSo}
-use Rattle.click_links.proofs.Turning.{so_more, so_small, until_none, breaks_after}
+use Rattle.click_links.proofs.PacketTallies.{so_more, so_small, until_none, breaks_after}
 use Rattle.click_links.proofs.turns.send_all.Goals as goal
 
 pub add-requires : goal.add-requires

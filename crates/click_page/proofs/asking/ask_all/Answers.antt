@@ -2,7 +2,7 @@ use Rattle.std.proofs.Common.{◌≡◌, List, [], ◌∷◌, ◌++◌, length, 
 use Rattle.std.specs.Vec.Iter.{into_iter_items}
 use Rattle.click_router.specs.declared.call.Call.{Call}
 use Rattle.click_page.specs.kept.Calls.{AreNoPolls}
-use Rattle.click_page.proofs.Asks.{asked-none, asked-more}
+use Rattle.click_page.proofs.CommandCalls.{asked-none, asked-more}
 use Rattle.click_page.proofs.asking.ask_all.Goals as goal
 
 pub loop-call-init : goal.loop-call-init

@@ -2,9 +2,9 @@ use Rattle.std.proofs.Common.{◌≡◌, ◌∙◌, length, ap}
 use Rattle.std.proofs.lemmas.List.{length-map}
 use Rattle.click_expand.specs.declared.flat.Flat.{Flat}
 use Rattle.click_ports.specs.Net.{Net, shape_of}
-use Rattle.click_router.proofs.Begun.{length_fresh}
+use Rattle.click_router.proofs.OfOpenings.FirstStates.{length_fresh}
 use Rattle.click_page.specs.Drawn.{IsFormNet}
-use Rattle.click_page.proofs.Whole.{flat-whole}
+use Rattle.click_page.proofs.WholeNumbers.{flat-whole}
 use Rattle.click_page.proofs.form.form_text.Goals as goal
 
 -- the net of a flat form has a shape for each element

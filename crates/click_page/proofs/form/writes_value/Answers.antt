@@ -2,8 +2,8 @@ use Rattle.std.proofs.Common.{ap, arith, ◌∙◌}
 use Rattle.serde_json.specs.Data.{array}
 use Rattle.serde_json.specs.View.{items_of}
 use Rattle.click_handlers.specs.Names.{write_names}
-use Rattle.click_handlers.proofs.Listed.{write_names_len}
-use Rattle.click_page.proofs.Named.{named-all, named-more}
+use Rattle.click_handlers.proofs.RowLists.{write_names_len}
+use Rattle.click_page.proofs.HandlerNames.{named-all, named-more}
 use Rattle.click_page.proofs.form.writes_value.Goals as goal
 
 pub loop-at-preserved : goal.loop-at-preserved

@@ -1,4 +1,4 @@
-use Rattle.click_page.proofs.Added.{six-added}
+use Rattle.click_page.proofs.FieldSequences.{six-added}
 use Rattle.click_page.proofs.heads.add_guards.Goals as goal
 
 pub returns-clause-added : goal.returns-clause-added

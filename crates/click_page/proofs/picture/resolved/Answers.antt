@@ -1,7 +1,7 @@
 use Rattle.std.proofs.Common.{refl}
 use Rattle.click_router.specs.Opened.{AreFresh, IsLawful}
-use Rattle.click_router.proofs.Begun.{states_of}
-use Rattle.click_page.proofs.Pictured.{holds-not-fails, lawful-with}
+use Rattle.click_router.proofs.OfOpenings.FirstStates.{states_of}
+use Rattle.click_page.proofs.OpenedNet.{holds-not-fails, lawful-with}
 use Rattle.click_page.proofs.picture.resolved.Goals as goal
 
 pub resolve-requires : goal.resolve-requires

@@ -1,6 +1,6 @@
 use Rattle.std.proofs.Common.{take}
-use Rattle.click_router.proofs.Begun.{AreFresh-push, taken}
-use Rattle.click_page.proofs.Pictured.{begun-at}
+use Rattle.click_router.proofs.OfOpenings.FirstStates.{AreFresh-push, taken}
+use Rattle.click_page.proofs.OpenedNet.{begun-at}
 use Rattle.click_page.proofs.picture.states_of.Goals as goal
 
 pub state_of-requires : goal.state_of-requires

@@ -1,6 +1,6 @@
 use Rattle.std.proofs.Common.{map}
 use Rattle.click_page.specs.Asking.{reading}
-use Rattle.click_page.proofs.Whole.{entries-whole}
+use Rattle.click_page.proofs.WholeNumbers.{entries-whole}
 use Rattle.click_page.proofs.saying.say.Goals as goal
 
 pub say_value-requires-clause-whole : goal.say_value-requires-clause-whole

@@ -2,7 +2,7 @@ use Rattle.std.proofs.Common.{◌+◌, [], ◌∷◌, ◌++◌, ℕ, Err, ap, sy
 use Rattle.click_capture.specs.Captures.{Record}
 use Rattle.click_pcap.specs.Carrying.{Ends}
 use Rattle.click_pcap.specs.Reading.{record_in}
-use Rattle.click_pcap.specs.declared.stop.Stop.{Stop}
+use Rattle.click_pcap.specs.declared.carry_fault.CarryFault.{CarryFault}
 use Rattle.click_pcap.proofs.Passing.{ended, interrupted, carried-more, one-more, next-at}
 use Rattle.click_pcap.proofs.carrying.carry_each.Goals as goal
 
@@ -41,7 +41,7 @@ returns-in-Err g c = λ had held first h.
     let from : Record = record_in c.read_record.new.packet c.in-Ok-Packet.head in
     let so = interrupted (Unit {0}) c.args.header.now had (input c.loop-before.reader) (input c.read_record.new.reader) held (output c.loop-before.writer) (output c.carry_packet.new.writer) first
     c.loop-before.passage c.carry_packet.new.passage so_far.0 c.in-Err.why (c.loop-before.before + 1) c.loop-before.at so_far.1 (from, read.0, c.in-Err.ensures) (ap (λ (n : ℕ). n + 1) (sym so_far.2)) so_far.3 in
-    subst (λ (s : Stop). Ends {T = Unit {0}} c.args.header.now had (input c.read_record.new.reader) held (output c.carry_packet.new.writer) first c.carry_packet.new.passage (Err s)) (sym c.unsent_stop.ensures) so
+    subst (λ (s : CarryFault). Ends {T = Unit {0}} c.args.header.now had (input c.read_record.new.reader) held (output c.carry_packet.new.writer) first c.carry_packet.new.passage (Err s)) (sym c.send_carry_fault.ensures) so
 
 pub loop-before-preserved : goal.loop-before-preserved
 loop-before-preserved g c = λ had held first h.

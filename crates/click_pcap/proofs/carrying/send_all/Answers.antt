@@ -3,8 +3,8 @@ use Rattle.click_control.specs.Peers.{HasWritten}
 use Rattle.click_capture.specs.Captures.{whole, record_bytes}
 use Rattle.click_pcap.specs.Writing.{WroteFront}
 use Rattle.click_pcap.proofs.Outputs.{HasWritten-then}
-use Rattle.click_pcap.proofs.Passing.{asks-more, one-more, told-more}
-use Rattle.click_pcap.specs.Carrying.{told}
+use Rattle.click_pcap.proofs.Passing.{asks-more, one-more, records_at-more}
+use Rattle.click_pcap.specs.Carrying.{records_at}
 use Rattle.click_pcap.proofs.carrying.send_all.Goals as goal
 
 pub returns-in_default-record_bytes-clause-sends : goal.returns-in_default-record_bytes-clause-sends
@@ -46,6 +46,6 @@ loop-asked-preserved g c =
       one-more so_far.0 p ∙ ap (λ (n : ℕ). n + 1) so_far.1,
       more.0,
       more.1,
-      subst (λ (l : List ℕ). HasWritten (output c.args.writer.now) (output c.write_all.new.writer) l false) (sym (told-more o t so_far.0 p))
-          (HasWritten-then _ _ _ (told o t so_far.0) _ false so_far.4 wrote),
+      subst (λ (l : List ℕ). HasWritten (output c.args.writer.now) (output c.write_all.new.writer) l false) (sym (records_at-more o t so_far.0 p))
+          (HasWritten-then _ _ _ (records_at o t so_far.0) _ false so_far.4 wrote),
     )

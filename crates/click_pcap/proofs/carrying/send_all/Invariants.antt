@@ -1,8 +1,8 @@
 use Rattle.std.proofs.Common.{◌≡◌, List, length, false}
 use Rattle.click_control.specs.Peers.{HasWritten}
 use Rattle.click_packet.specs.Packet.{Packet}
-use Rattle.click_pcap.specs.Carrying.{told}
-use Rattle.click_pcap.specs.Ways.{went, Gave}
+use Rattle.click_pcap.specs.Carrying.{records_at}
+use Rattle.click_pcap.specs.Passages.{went, Gave}
 use Rattle.click_pcap.proofs.carrying.send_all.Given as goal
 
 -- what the sink gave so far is written
@@ -10,4 +10,4 @@ abbrev pub invariant-loop-asked : goal.invariant-loop-asked
 invariant-loop-asked g l =
     let output = g.O.Sink.output in
     (sent : List Packet) × (length sent ≡ l.asked) × Gave l.fn.passage.sink l.fn.passage.router sent l.passage.router × (l.passage ≡ went l.fn.passage l.passage.router)
-    × HasWritten (output l.fn.writer) (output l.writer) (told l.header.order l.time sent) false
+    × HasWritten (output l.fn.writer) (output l.writer) (records_at l.header.order l.time sent) false

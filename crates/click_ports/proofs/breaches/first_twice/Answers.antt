@@ -5,8 +5,8 @@ use Rattle.click_ports.specs.Kinds.{IsSingle}
 use Rattle.click_ports.specs.Breaches.{IsFirstBreach}
 use Rattle.click_ports.specs.Ports.{uses}
 use Rattle.click_ports.specs.kept.Wiring.{port_index}
-use Rattle.click_ports.proofs.Crossing.{read-place}
-use Rattle.click_ports.proofs.Telling.{first-twice, all-single, next-port, all-ports, uses-read, single-is, is-single}
+use Rattle.click_ports.proofs.InnerLinks.{read-place}
+use Rattle.click_ports.proofs.FirstBreach.{first-twice, all-single, next-port, all-ports, uses-read, single-is, is-single}
 use Rattle.click_ports.proofs.breaches.first_twice.Goals as goal
 use Rattle.click_ports.proofs.breaches.first_twice.Goals.{else-is_single-via-then-is_single+else-len-gt1, else-is_single-via-else-is_single}
 

@@ -4,8 +4,8 @@ use Rattle.click_ports.specs.declared.port.Port.{Port}
 use Rattle.click_ports.specs.Breaches.{IsFirstBreach}
 use Rattle.click_ports.specs.Ports.{uses}
 use Rattle.click_ports.specs.kept.Wiring.{port_index}
-use Rattle.click_ports.proofs.Crossing.{read-place}
-use Rattle.click_ports.proofs.Telling.{first-unused, next-port, all-ports, uses-read}
+use Rattle.click_ports.proofs.InnerLinks.{read-place}
+use Rattle.click_ports.proofs.FirstBreach.{first-unused, next-port, all-ports, uses-read}
 use Rattle.click_ports.proofs.breaches.first_unused.Goals as goal
 
 none : Port

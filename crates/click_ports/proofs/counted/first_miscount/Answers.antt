@@ -1,9 +1,9 @@
 use Rattle.std.proofs.Common.{◌≡◌, ℕ, ◌<◌, List, length, get_or, Some, false, ap, subst, arith}
 use Rattle.std.specs.List.{slice_get}
 use Rattle.std.proofs.lemmas.Option.{slice_get-get_or}
-use Rattle.click_classes.specs.declared.class.Class.TheVariants as class
+use Rattle.click_base.specs.declared.class.Class.TheVariants as class
 use Rattle.click_ports.specs.declared.shape.Shape.{Shape}
-use Rattle.click_ports.proofs.Telling.{counted-next, counted-all, count-told}
+use Rattle.click_ports.proofs.FirstBreach.{counted-next, counted-all, count-told}
 use Rattle.click_ports.proofs.counted.first_miscount.Goals as goal
 
 none : Shape

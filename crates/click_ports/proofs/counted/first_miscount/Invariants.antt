@@ -1,4 +1,4 @@
-use Rattle.click_ports.proofs.Telling.{CountedBelow}
+use Rattle.click_ports.proofs.FirstBreach.{CountedBelow}
 use Rattle.click_ports.proofs.counted.first_miscount.Given as goal
 
 abbrev pub invariant-loop-element : goal.invariant-loop-element

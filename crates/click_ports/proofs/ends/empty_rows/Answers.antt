@@ -1,5 +1,5 @@
 use Rattle.std.proofs.Common.{ℕ, List, ◌∷◌, ◌++◌, [], ap, ◌∙◌, sym}
-use Rattle.click_ports.proofs.Rows.{replicate-push}
+use Rattle.click_ports.proofs.FarEnds.{replicate-push}
 use Rattle.click_ports.proofs.ends.empty_rows.Goals as goal
 
 pub loop-row-preserved : goal.loop-row-preserved

@@ -5,7 +5,7 @@ use Rattle.click_expand.specs.declared.flat.Connection.{Connection}
 use Rattle.click_ports.specs.Ports.{joined_port}
 use Rattle.click_ports.specs.kept.Ends.{far_ends}
 use Rattle.click_ports.specs.kept.Wiring.{port_index}
-use Rattle.click_ports.proofs.Rows.{AreEndsOf, ends-more, ends-none, end-has}
+use Rattle.click_ports.proofs.FarEnds.{AreEndsOf, ends-more, ends-none, end-has}
 use Rattle.click_ports.proofs.ends.ends_of.Goals as goal
 
 blank : Connection

@@ -1,5 +1,5 @@
 use Rattle.std.proofs.Common.{take}
-use Rattle.click_ports.proofs.Rows.{AreEndsOf}
+use Rattle.click_ports.proofs.FarEnds.{AreEndsOf}
 use Rattle.click_ports.proofs.ends.ends_of.Given as goal
 
 abbrev pub invariant-loop-connection : goal.invariant-loop-connection

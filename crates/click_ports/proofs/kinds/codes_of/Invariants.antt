@@ -1,4 +1,4 @@
-use Rattle.click_ports.proofs.Crossing.{AreCodesBelow}
+use Rattle.click_ports.proofs.InnerLinks.{AreCodesBelow}
 use Rattle.click_ports.proofs.kinds.codes_of.Given as goal
 
 abbrev pub invariant-loop-port : goal.invariant-loop-port

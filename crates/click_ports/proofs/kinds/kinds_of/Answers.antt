@@ -6,7 +6,7 @@ use Rattle.click_ports.specs.kept.Marks.{AreCodes, AreMarks}
 use Rattle.click_ports.specs.kept.Passages.{AreRows}
 use Rattle.click_ports.specs.kept.Search.{IsGraph, AreMarked}
 use Rattle.click_ports.specs.kept.Wiring.{Wiring, AreWithin}
-use Rattle.click_ports.proofs.Spreading.{ports-graph, marks-meet}
+use Rattle.click_ports.proofs.MarkedKinds.{ports-graph, marks-meet}
 use Rattle.click_ports.proofs.kinds.kinds_of.Goals as goal
 
 graph : (w : Wiring) (all codes : List Code) (ends rows inside : List (List ℕ)) → codes ≡ all → inside ≡ rows → AreWithin (length w.shapes) w.connections → AreCodes w all → AreFarEnds w ends → AreRows w rows →
@@ -19,13 +19,13 @@ told : (w : Wiring) (all codes : List Code) (ends rows inside : List (List ℕ))
 told w all codes ends rows inside k marks p q i c e r f m =
     marks-meet w codes ends inside i (subst (AreCodes w) (sym p) c) e (subst (AreRows w) (sym q) r) k f marks m
 
-pub reaching-requires : goal.reaching-requires
-reaching-requires c =
+pub ports_reaching-requires : goal.ports_reaching-requires
+ports_reaching-requires c =
     graph c.args.layout.now c.in_ok-all_codes.all_codes.items c.as_slice-codes.result.now c.args.ends.now c.in_ok-all_inside.all_inside.items c.as_slice-inside.result.now
     c.as_slice-codes.ensures.value c.as_slice-inside.ensures.value c.in_ok-all_codes.ensures.within c.in_ok-all_codes.ensures.codes c.requires c.in_ok-all_inside.ensures
 
-pub reaching-requires-2 : goal.reaching-requires-2
-reaching-requires-2 c =
+pub ports_reaching-requires-2 : goal.ports_reaching-requires-2
+ports_reaching-requires-2 c =
     graph c.args.layout.now c.in_ok-all_codes.all_codes.items c.as_slice-codes.result.now c.args.ends.now c.in_ok-all_inside.all_inside.items c.as_slice-inside.result.now
     c.as_slice-codes.ensures.value c.as_slice-inside.ensures.value c.in_ok-all_codes.ensures.within c.in_ok-all_codes.ensures.codes c.requires c.in_ok-all_inside.ensures
 

@@ -2,7 +2,7 @@ use Rattle.std.proofs.Common.{◌≡◌, ℕ, ◌<◌, ◌≤◌, ◌∙◌, ari
 use Rattle.std.proofs.lemmas.List.{get_or_default}
 use Rattle.click_classes.specs.declared.ports.Side.TheVariants.{Input, Output}
 use Rattle.click_ports.specs.Ports.{used}
-use Rattle.click_ports.proofs.Places.{numbered-made}
+use Rattle.click_ports.proofs.PortNumbers.{numbered-made}
 use Rattle.click_ports.proofs.numbering.numbered.Goals as goal
 
 pub loop-element-preserved : goal.loop-element-preserved

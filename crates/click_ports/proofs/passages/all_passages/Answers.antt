@@ -2,8 +2,8 @@ use Rattle.std.proofs.Common.{◌≡◌, length, get_or, sym, subst, arith}
 use Rattle.click_classes.specs.declared.ports.Side.TheVariants.{Input}
 use Rattle.click_ports.specs.declared.port.Port.{Port}
 use Rattle.click_ports.specs.kept.Wiring.{first}
-use Rattle.click_ports.proofs.Using.{has-within}
-use Rattle.click_ports.proofs.Crossing.{AreRowsBelow, rows-none, rows-more, rows-all, read-place}
+use Rattle.click_ports.proofs.PortUses.{has-within}
+use Rattle.click_ports.proofs.InnerLinks.{AreRowsBelow, rows-none, rows-more, rows-all, read-place}
 use Rattle.click_ports.proofs.passages.all_passages.Goals as goal
 
 pub passages-requires-clause-within : goal.passages-requires-clause-within

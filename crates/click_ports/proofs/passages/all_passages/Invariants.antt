@@ -1,4 +1,4 @@
-use Rattle.click_ports.proofs.Crossing.{AreRowsBelow}
+use Rattle.click_ports.proofs.InnerLinks.{AreRowsBelow}
 use Rattle.click_ports.proofs.passages.all_passages.Given as goal
 
 abbrev pub invariant-loop-port : goal.invariant-loop-port

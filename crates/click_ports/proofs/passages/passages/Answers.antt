@@ -1,7 +1,7 @@
 use Rattle.std.proofs.Common.{◌≡◌, ℕ, ◌+◌, ◌<◌, [], ◌∷◌, ◌++◌, true, false, refl, sym, ap, ◌∙◌, subst, arith}
 use Rattle.click_ports.specs.Links.{IsAgnostic}
 use Rattle.click_ports.specs.Ports.{used}
-use Rattle.click_ports.proofs.Crossing.{IsRowBelow, row-none, row-more, row-same, row-all, crosses-in, crosses-made, number-across, passes-across, agnostic-across}
+use Rattle.click_ports.proofs.InnerLinks.{IsRowBelow, row-none, row-more, row-same, row-all, crosses-in, crosses-made, number-across, passes-across, agnostic-across}
 use Rattle.click_ports.proofs.passages.passages.Goals as goal
 use Rattle.click_ports.proofs.passages.passages.Goals.{then-is_agnostic+then-passes_between+in_ok-push, else-is_agnostic, else-is_agnostic-via-then-is_agnostic+else-passes_between, else-is_agnostic-via-else-is_agnostic}
 

@@ -1,4 +1,4 @@
-use Rattle.click_ports.proofs.Crossing.{IsRowBelow}
+use Rattle.click_ports.proofs.InnerLinks.{IsRowBelow}
 use Rattle.click_ports.proofs.passages.passages.Given as goal
 
 abbrev pub invariant-loop-number : goal.invariant-loop-number

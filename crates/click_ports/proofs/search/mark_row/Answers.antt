@@ -5,7 +5,7 @@ use Rattle.click_classes.specs.declared.ports.Code.TheVariants.{Push}
 use Rattle.std.specs.Prelude.{Vec}
 use Rattle.std.specs.Global.{Global}
 use Rattle.click_ports.specs.kept.Search.{RowMarked}
-use Rattle.click_ports.proofs.Searching.{marked-old, marked-made, open-read, read-open}
+use Rattle.click_ports.proofs.SearchMarks.{marked-old, marked-made, open-read, read-open}
 use Rattle.click_ports.proofs.search.mark_row.Goals as goal
 use Rattle.click_ports.proofs.search.mark_row.Goals.{then-not-index+then-is_open+in_ok-push, then-not-index+else-is_open, else-not-index}
 

@@ -3,7 +3,7 @@ use Rattle.std.specs.Prelude.{Vec}
 use Rattle.std.specs.Global.{Global}
 use Rattle.std.proofs.lemmas.List.{get_or_default}
 use Rattle.click_classes.specs.declared.ports.Code.TheVariants.{Agnostic, Push}
-use Rattle.click_ports.proofs.Searching.{AreNumbersBelow, numbers-none, numbers-more, numbers-same}
+use Rattle.click_ports.proofs.SearchMarks.{AreNumbersBelow, numbers-none, numbers-more, numbers-same}
 use Rattle.click_ports.proofs.search.numbers_of.Goals as goal
 use Rattle.click_ports.proofs.search.numbers_of.Goals.{then-eq+in_ok-push, else-eq}
 

@@ -1,4 +1,4 @@
-use Rattle.click_ports.proofs.Searching.{AreNumbersBelow}
+use Rattle.click_ports.proofs.SearchMarks.{AreNumbersBelow}
 use Rattle.click_ports.proofs.search.numbers_of.Given as goal
 
 abbrev pub invariant-loop-port : goal.invariant-loop-port

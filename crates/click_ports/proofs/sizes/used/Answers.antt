@@ -4,7 +4,7 @@ use Rattle.click_expand.specs.declared.flat.Connection.{Connection}
 use Rattle.click_ports.specs.declared.port.Port.{Port}
 use Rattle.click_ports.specs.kept.Used.{AreUsed}
 use Rattle.click_ports.specs.Ports.{joined_port}
-use Rattle.click_ports.proofs.Using.{used-more, within-end}
+use Rattle.click_ports.proofs.PortUses.{used-more, within-end}
 use Rattle.click_ports.proofs.sizes.used.Goals as goal
 
 pub loop-connection-preserved : goal.loop-connection-preserved

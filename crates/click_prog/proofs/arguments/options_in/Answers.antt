@@ -3,8 +3,8 @@ use Rattle.click_prog.proofs.arguments.options_in.Goals as goal
 pub returns-in-Some-clause-refused : goal.returns-in-Some-clause-refused
 returns-in-Some-clause-refused c = (c.in_ok-options.options, c.in_ok-options.ensures.found, c.in-Some.ensures)
 
-pub returns-in-Some-of_an_end-clause-refused : goal.returns-in-Some-of_an_end-clause-refused
-returns-in-Some-of_an_end-clause-refused c = (c.in_ok-options.options, c.in_ok-options.ensures.found, c.in-Some-of_an_end.ensures)
+pub returns-in-Some-ending_only_option-clause-refused : goal.returns-in-Some-ending_only_option-clause-refused
+returns-in-Some-ending_only_option-clause-refused c = (c.in_ok-options.options, c.in_ok-options.ensures.found, c.in-Some-ending_only_option.ensures)
 
-pub returns-in-Some-of_a_stay-clause-refused : goal.returns-in-Some-of_a_stay-clause-refused
-returns-in-Some-of_a_stay-clause-refused c = (c.in_ok-options.options, c.in_ok-options.ensures.found, c.in-Some-of_a_stay.ensures)
+pub returns-in-Some-live_only_option-clause-refused : goal.returns-in-Some-live_only_option-clause-refused
+returns-in-Some-live_only_option-clause-refused c = (c.in_ok-options.options, c.in_ok-options.ensures.found, c.in-Some-live_only_option.ensures)

@@ -13,5 +13,5 @@ returns-in-Ok-ran g c =
       ends = c.in-Ok-ran.ran.links.items;
       done = _;
       ran = linked;
-      is = c.of_sessions.ensures ∙ ap sessions_status c.as_slice.ensures.value;
+      is = c.sessions_status.ensures ∙ ap sessions_status c.as_slice.ensures.value;
     })

@@ -12,5 +12,5 @@ returns-in-Ok g c = let readonly = c.requires.readonly ∙ sym (ap (λ (p : Plan
   drivers = c.in-Ok.field-0.all.drivers.items;
   done = c.in-Ok.field-0.done;
   work = rw (← c.rounds_of.ensures) (rw readonly at c.in-Ok.ensures.work);
-  is = c.of_sessions.ensures ∙ ap sessions_status c.as_slice-in-Ok.ensures.value;
+  is = c.sessions_status.ensures ∙ ap sessions_status c.as_slice-in-Ok.ensures.value;
 }))

@@ -10,5 +10,5 @@ returns-in-Ok g c = rw (← c.plan.view_is) (inl (record {
   ended = _;
   drivers = _;
   worked = c.in-Ok.ensures.worked;
-  is = c.of_sessions.ensures ∙ ap sessions_status c.as_slice-in-Ok.ensures.value;
+  is = c.sessions_status.ensures ∙ ap sessions_status c.as_slice-in-Ok.ensures.value;
 }))

@@ -10,5 +10,5 @@ returns-in-Ok g c = rw (← c.plan.view_is) (inl (record {
   ended = c.in-Ok.ran.ended.items;
   drivers = c.in-Ok.ran.drivers.items;
   worked = c.in-Ok.ensures.worked;
-  is = c.of_sessions.ensures ∙ ap sessions_status c.as_slice.ensures.value;
+  is = c.sessions_status.ensures ∙ ap sessions_status c.as_slice.ensures.value;
 }))

@@ -7,5 +7,5 @@ returns-in-Ok g c = inl (record {
   headline = c.in-Ok.ensures.headline;
   ended = _;
   ran = c.in-Ok.ensures.served;
-  is = c.of_end.ensures;
+  is = c.end_status.ensures;
 })

@@ -1,5 +1,5 @@
 use Rattle.std.proofs.Common.{◌≡◌, take}
-use Rattle.click_classes.specs.Classes.{name}
+use Rattle.click_base.specs.Classes.{name}
 use Rattle.click_router.specs.Globals.{lines_of}
 use Rattle.click_router.proofs.globals.classes_text.Given as goal
 

@@ -1,5 +1,5 @@
 use Rattle.std.proofs.Common.{◌∙◌}
-use Rattle.click_router.proofs.GlobalNames.{has}
+use Rattle.click_router.proofs.OfCalls.OwnHandlers.{has}
 use Rattle.click_router.proofs.globals.has_global.Goals as goal
 
 pub returns-clause-answered : goal.returns-clause-answered

@@ -1,6 +1,6 @@
 use Rattle.std.proofs.Common.{◌≡◌, map, take}
 use Rattle.click_classes.specs.State.{class}
-use Rattle.click_engine.specs.declared.world.Element.{Element}
+use Rattle.click_engine.specs.declared.run_state.Element.{Element}
 use Rattle.click_router.proofs.install.classes_of.Given as goal
 
 abbrev pub invariant-loop-at : goal.invariant-loop-at

@@ -1,4 +1,4 @@
-use Rattle.click_router.proofs.Outcomes.{one_answer}
+use Rattle.click_router.proofs.OfCalls.OneOutcome.{one_answer}
 use Rattle.click_router.proofs.laws.calls_have_one_answer.Goals as goal
 
 pub returns : goal.returns

@@ -1,4 +1,4 @@
-use Rattle.click_router.proofs.Foretold.{foretells_reads, foretells_writes}
+use Rattle.click_router.proofs.OfCalls.HandlerChecks.{foretells_reads, foretells_writes}
 use Rattle.click_router.proofs.laws.checks_foretell_calls.Goals as goal
 
 pub returns-clause-read : goal.returns-clause-read

@@ -1,4 +1,4 @@
-use Rattle.click_router.proofs.Opens.{opened_once}
+use Rattle.click_router.proofs.OfOpenings.OneOpening.{opened_once}
 use Rattle.click_router.proofs.laws.opens_once.Goals as goal
 
 pub returns : goal.returns

@@ -1,4 +1,4 @@
-use Rattle.click_router.proofs.Outcomes.{unchanged}
+use Rattle.click_router.proofs.OfCalls.OneOutcome.{unchanged}
 use Rattle.click_router.proofs.laws.refused_swaps_change_nothing.Goals as goal
 
 pub returns : goal.returns

@@ -1,4 +1,4 @@
-use Rattle.click_router.proofs.InOrder.{opened-in-order, answered-in-order}
+use Rattle.click_router.proofs.OfCalls.RouterOrder.{opened-in-order, answered-in-order}
 use Rattle.click_router.proofs.laws.routers_stay_in_order.Goals as goal
 
 pub returns : goal.returns

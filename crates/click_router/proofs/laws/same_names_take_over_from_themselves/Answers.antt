@@ -1,4 +1,4 @@
-use Rattle.click_router.proofs.SameText.{takes_from_itself}
+use Rattle.click_router.proofs.OfCalls.SameNames.{takes_from_itself}
 use Rattle.click_router.proofs.laws.same_names_take_over_from_themselves.Goals as goal
 
 pub returns : goal.returns

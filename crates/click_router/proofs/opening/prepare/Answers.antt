@@ -2,14 +2,14 @@ use Rattle.std.proofs.Common.{refl, sym, ap, ◌∙◌, subst, inl, inr}
 use Rattle.std.proofs.lemmas.Result.{IfErr-weaker}
 use Rattle.click_text.specs.declared.syntax.Config.{Config}
 use Rattle.click_text.specs.Spelling.{too_large}
-use Rattle.click_router.specs.Opened.{OpensAs, of_text, IsFirstFault, unreadable, IsMemoryOr}
+use Rattle.click_router.specs.Opened.{OpensAs, of_text_fault, IsFirstFault, unreadable, IsMemoryOr}
 use Rattle.click_router.specs.kept.Refused.{IsConfigFault}
-use Rattle.click_router.proofs.Opens.{given, first_fault}
+use Rattle.click_router.proofs.OfOpenings.OneOpening.{given, first_fault}
 use Rattle.click_router.proofs.opening.prepare.Goals as goal
 
 pub returns-then-text-gt-LONGEST_TEXT-clause-err : goal.returns-then-text-gt-LONGEST_TEXT-clause-err
 returns-then-text-gt-LONGEST_TEXT-clause-err c =
-    rw c.nowhere.ensures (inr (unreadable c.args.text.now too_large (inl (c.if-text-gt-LONGEST_TEXT.true, refl))))
+    rw c.fault_nowhere.ensures (inr (unreadable c.args.text.now too_large (inl (c.if-text-gt-LONGEST_TEXT.true, refl))))
 
 pub returns-in-Ok-clause-only : goal.returns-in-Ok-clause-only
 returns-in-Ok-clause-only c = λ s o.
@@ -26,12 +26,12 @@ returns-in-Ok-clause-err c =
     c.prepare_config.ensures.err
 
 pub returns-in-Err-clause-only : goal.returns-in-Err-clause-only
-returns-in-Err-clause-only c = λ s o. c.of_text.ensures ∙ ap (of_text c.args.text.now) (c.in-Err.ensures.only o.config o.within o.spells)
+returns-in-Err-clause-only c = λ s o. c.of_text_fault.ensures ∙ ap (of_text_fault c.args.text.now) (c.in-Err.ensures.only o.config o.within o.spells)
 
 pub returns-in-Err-clause-err : goal.returns-in-Err-clause-err
 returns-in-Err-clause-err c =
     let text = c.args.text.now in
     elim c.in-Err.ensures.err [
-      | inl m ↦ inl (c.of_text.ensures ∙ ap (of_text text) m)
-      | inr a ↦ inr (subst (IsFirstFault text) (sym c.of_text.ensures) (unreadable text c.in-Err.fault a))
+      | inl m ↦ inl (c.of_text_fault.ensures ∙ ap (of_text_fault text) m)
+      | inr a ↦ inr (subst (IsFirstFault text) (sym c.of_text_fault.ensures) (unreadable text c.in-Err.fault a))
     ]

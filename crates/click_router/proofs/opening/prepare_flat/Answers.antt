@@ -1,4 +1,4 @@
-use Rattle.click_router.proofs.Begun.{states_of}
+use Rattle.click_router.proofs.OfOpenings.FirstStates.{states_of}
 use Rattle.click_router.proofs.opening.prepare_flat.Goals as goal
 
 pub resolve-requires : goal.resolve-requires

@@ -1,4 +1,4 @@
-use Rattle.click_scopes.proofs.Nesting.{spelled-nested}
+use Rattle.click_scopes.proofs.OfBodies.NestedBodies.{spelled-nested}
 use Rattle.click_scopes.proofs.analysis.analyze.Goals as goal
 
 pub tables_of-requires-clause-nested : goal.tables_of-requires-clause-nested

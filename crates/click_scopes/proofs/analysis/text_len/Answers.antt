@@ -1,5 +1,5 @@
 use Rattle.std.proofs.Common.{subst, ◌<◌}
-use Rattle.click_scopes.proofs.Short.{spelled-short}
+use Rattle.click_scopes.proofs.OfBodies.BodyBraces.{spelled-short}
 use Rattle.click_scopes.proofs.analysis.text_len.Goals as goal
 
 pub returns : goal.returns

@@ -1,5 +1,5 @@
 use Rattle.std.proofs.Common.{arith}
-use Rattle.click_scopes.proofs.Least.{formals-at, formals-all, formal_names-at}
+use Rattle.click_scopes.proofs.OfFaults.LeastWrongUse.{formals-at, formals-all, formal_names-at}
 use Rattle.click_scopes.proofs.first_fault.in_formals.Goals as goal
 
 pub loop-formal-preserved : goal.loop-formal-preserved

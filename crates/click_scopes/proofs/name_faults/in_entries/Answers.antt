@@ -1,7 +1,7 @@
 use Rattle.std.proofs.Common.{◌≡◌, length, refl, ap, ◌∙◌, subst, arith}
 use Rattle.click_scopes.specs.kept.NameFaults.{IsWrongEntry}
 use Rattle.click_scopes.specs.kept.FirstFault.{IsLeast, first_of}
-use Rattle.click_scopes.proofs.Misnaming.{entries-none, entries-next}
+use Rattle.click_scopes.proofs.OfFaults.PlaceNameFaults.{entries-none, entries-next}
 use Rattle.click_scopes.proofs.name_faults.in_entries.Goals as goal
 
 pub loop-entry-init : goal.loop-entry-init

@@ -1,4 +1,4 @@
-use Rattle.click_scopes.proofs.Counting.{Counted}
+use Rattle.click_scopes.proofs.OfConnections.BodyPortCounts.{Counted}
 use Rattle.click_scopes.proofs.ports.all_ports.Given as goal
 
 abbrev pub invariant-loop-place : goal.invariant-loop-place

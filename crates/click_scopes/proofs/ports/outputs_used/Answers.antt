@@ -1,20 +1,20 @@
 use Rattle.std.proofs.Common.{◌+◌, take, refl, sym, subst}
 use Rattle.click_scopes.specs.kept.CompoundFaults.{outputs_kept, IsUsed}
 use Rattle.click_scopes.specs.declared.ports.PortsInUse.{PortsInUse}
-use Rattle.click_scopes.proofs.Porting.{outputs-yes, outputs-no}
+use Rattle.click_scopes.proofs.OfConnections.UsedPorts.{outputs-yes, outputs-no}
 use Rattle.click_scopes.proofs.ports.outputs_used.Goals as goal
 use Rattle.click_scopes.proofs.ports.outputs_used.Goals.{in-Output, in_default}
 
-pub loop-joint-preserved : goal.loop-joint-preserved
-loop-joint-preserved c =
-    let ks = c.args.joints.now in let i = c.loop-joint.joint-index in
-    elim c.match-joint.branch [
+pub loop-written_connection-preserved : goal.loop-written_connection-preserved
+loop-written_connection-preserved c =
+    let ks = c.args.written_connections.now in let i = c.loop-written_connection.written_connection-index in
+    elim c.match-written_connection.branch [
       | in-Output w ↦
           subst (λ (u : PortsInUse). IsUsed (outputs_kept (take (i + 1) ks)) u.count u.ports) (sym w.used-is)
           (subst (λ ps. IsUsed ps w.add.new.self.count w.add.new.self.ports)
-          (sym (outputs-yes ks i _ _ c.loop-joint-test.true refl w.in-Output.is)) (w.add.ensures (outputs_kept (take i ks)) c.loop-joint.invariant))
+          (sym (outputs-yes ks i _ _ c.loop-written_connection-test.true refl w.in-Output.is)) (w.add.ensures (outputs_kept (take i ks)) c.loop-written_connection.invariant))
       | in_default w ↦
           subst (λ (u : PortsInUse). IsUsed (outputs_kept (take (i + 1) ks)) u.count u.ports) (sym w.used-is)
-          (subst (λ ps. IsUsed ps c.loop-joint.used.count c.loop-joint.used.ports)
-          (sym (outputs-no ks i _ _ c.loop-joint-test.true refl w.in_default.not-Output)) c.loop-joint.invariant)
+          (subst (λ ps. IsUsed ps c.loop-written_connection.used.count c.loop-written_connection.used.ports)
+          (sym (outputs-no ks i _ _ c.loop-written_connection-test.true refl w.in_default.not-Output)) c.loop-written_connection.invariant)
     ]

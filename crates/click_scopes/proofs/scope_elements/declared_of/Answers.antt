@@ -1,6 +1,6 @@
 use Rattle.std.proofs.Common.{◌≡◌, Some, sym, ap, ◌∙◌, refl}
 use Rattle.click_scopes.specs.Elements.{has_name, head_name}
-use Rattle.click_scopes.proofs.Making.{undeclared, has_name-added, declared_by, declared_by-yes, declared_by-no, declared_by-all}
+use Rattle.click_scopes.proofs.OfElements.StatementElements.{undeclared, has_name-added, declared_by, declared_by-yes, declared_by-no, declared_by-all}
 use Rattle.click_scopes.proofs.scope_elements.declared_of.Goals as goal
 use Rattle.click_scopes.proofs.scope_elements.declared_of.Goals.{in-Declared+in_ok-add, in_default}
 

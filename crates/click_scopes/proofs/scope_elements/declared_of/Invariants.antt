@@ -1,6 +1,6 @@
 use Rattle.std.proofs.Common.{◌≡◌, ℕ, List}
 use Rattle.click_scopes.specs.Elements.{has_name}
-use Rattle.click_scopes.proofs.Making.{declared_by}
+use Rattle.click_scopes.proofs.OfElements.StatementElements.{declared_by}
 use Rattle.click_scopes.proofs.scope_elements.declared_of.Given as goal
 
 abbrev pub invariant-loop-one : goal.invariant-loop-one

@@ -1,7 +1,7 @@
 use Rattle.std.proofs.Common.{◌≡◌, ◌+◌, ◌∷◌, ◌++◌, [], drop, sym, ap, ◌∙◌, refl, arith}
 use Rattle.click_scopes.specs.Elements.{count_with}
 use Rattle.click_scopes.specs.kept.Tables.{role_kept}
-use Rattle.click_scopes.proofs.Making.{numbers_left, numbers-more, numbers-all, kept-makes, counts-other}
+use Rattle.click_scopes.proofs.OfElements.StatementElements.{numbers_left, numbers-more, numbers-all, kept-makes, counts-other}
 use Rattle.click_scopes.proofs.scope_elements.numbers_of.Goals as goal
 use Rattle.click_scopes.proofs.scope_elements.numbers_of.Goals.{in-Makes, in_default}
 

@@ -1,6 +1,6 @@
 use Rattle.std.proofs.Common.{◌≡◌, ◌≤◌, drop}
 use Rattle.click_scopes.specs.kept.Tables.{elements_of, numbers_from}
-use Rattle.click_scopes.proofs.Making.{numbers_left}
+use Rattle.click_scopes.proofs.OfElements.StatementElements.{numbers_left}
 use Rattle.click_scopes.proofs.scope_elements.numbers_of.Given as goal
 
 abbrev pub invariant-loop-one : goal.invariant-loop-one

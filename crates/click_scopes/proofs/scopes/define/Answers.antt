@@ -1,7 +1,7 @@
 use Rattle.std.proofs.Common.{◌≡◌, ◌∷◌, None, Some, length, sym, subst, rules}
 use Rattle.std.proofs.lemmas.List.{append-nil}
 use Rattle.click_scopes.specs.kept.Tables.{Shows}
-use Rattle.click_scopes.proofs.Keeping.{defined}
+use Rattle.click_scopes.proofs.OfLists.StatementTables.{defined}
 use Rattle.click_scopes.proofs.scopes.define.Goals as goal
 
 pub returns-in_ok-push-in-Some-clause-shows : goal.returns-in_ok-push-in-Some-clause-shows

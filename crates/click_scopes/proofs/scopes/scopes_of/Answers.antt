@@ -3,41 +3,41 @@ use Rattle.std.specs.List.{slice_get}
 use Rattle.std.proofs.lemmas.List.{length_push, nil_from_length}
 use Rattle.click_scopes.specs.Scopes.{body_statements}
 use Rattle.click_scopes.specs.kept.Scoped.{AreScopes}
-use Rattle.click_scopes.proofs.Walking.{walk-first, walk-next, walked-all, walked-synonyms, taken}
+use Rattle.click_scopes.proofs.OfBodies.ScopeWalk.{walk-first, walk-next, walked-all, walked-synonyms, taken}
 use Rattle.click_scopes.proofs.scopes.scopes_of.Goals as goal
 
-pub loop-root-init : goal.loop-root-init
-loop-root-init c =
-    walk-first c.args.config.now c.as_slice-text.result.now c.as_slice-statements.result.now _ c.written_of.new.entries.items _ c.written_of.new.roots.items
-    _ c.push_scope.new.scopes.items _ c.in_ok-push_scope.ensures c.new-scopes.ensures.items c.new-roots.ensures.items c.as_slice-text.ensures c.as_slice-statements.ensures
-    (ap length c.as_slice-bodies.ensures) c.requires (c.in_ok-written.ensures.written [] refl) c.in_ok-written.ensures.ports refl (c.in_ok-written.ensures.roots [] refl)
+pub loop-nested_body-init : goal.loop-nested_body-init
+loop-nested_body-init c =
+    walk-first c.args.config.now c.as_slice-text.result.now c.as_slice-statements.result.now _ c.written_of.new.entries.items _ c.written_of.new.nested_bodies.items
+    _ c.push_scope.new.scopes.items _ c.in_ok-push_scope.ensures c.new-scopes.ensures.items c.new-nested_bodies.ensures.items c.as_slice-text.ensures c.as_slice-statements.ensures
+    (ap length c.as_slice-bodies.ensures) c.requires (c.in_ok-written.ensures.written [] refl) c.in_ok-written.ensures.ports refl (c.in_ok-written.ensures.nested_bodies [] refl)
     _ c.new-entries.ensures.items (c.in_ok-written.ensures.synonyms [] refl)
 
-pub loop-root-smaller : goal.loop-root-smaller
-loop-root-smaller c =
-    let k = c.loop-root.scopes.items in
+pub loop-nested_body-smaller : goal.loop-nested_body-smaller
+loop-nested_body-smaller c =
+    let k = c.loop-nested_body.scopes.items in
     let e : length c.push_scope-in-Some.new.scopes.items ≡ length k + 1 = ap length c.in_ok-push_scope-2.ensures ∙ length_push k _ in
-    let n = (taken c.args.config.now c.loop-root.entries.items c.loop-root.roots.items c.pop.new.self.items c.in-Some.root k c.in-Some.ensures.items c.loop-root.invariant).count in
+    let n = (taken c.args.config.now c.loop-nested_body.entries.items c.loop-nested_body.nested_bodies.items c.pop.new.self.items c.in-Some.nested_body k c.in-Some.ensures.items c.loop-nested_body.invariant).count in
     omega (arith, e, n)
 
-pub loop-root-preserved : goal.loop-root-preserved
-loop-root-preserved c =
+pub loop-nested_body-preserved : goal.loop-nested_body-preserved
+loop-nested_body-preserved c =
     let config = c.args.config.now in
-    walk-next config c.as_slice-text.result.now c.statements_at-inner.result.now c.loop-root.entries.items c.written_of-in-Some.new.entries.items c.loop-root.roots.items c.pop.new.self.items
-    c.written_of-in-Some.new.roots.items c.in-Some.root c.loop-root.scopes.items c.push_scope-in-Some.new.scopes.items _ c.in_ok-push_scope-2.ensures c.in-Some.ensures.items
-    c.as_slice-text.ensures (c.statements_at-inner.ensures ∙ ap (λ bs. body_statements (slice_get bs c.in-Some.root.body)) c.as_slice-bodies.ensures) c.loop-root.invariant
-    c.written_of-in-Some.ensures.grows c.in_ok-written-2.ensures.written c.in_ok-written-2.ensures.ports refl c.in_ok-written-2.ensures.roots
+    walk-next config c.as_slice-text.result.now c.statements_at-inner.result.now c.loop-nested_body.entries.items c.written_of-in-Some.new.entries.items c.loop-nested_body.nested_bodies.items c.pop.new.self.items
+    c.written_of-in-Some.new.nested_bodies.items c.in-Some.nested_body c.loop-nested_body.scopes.items c.push_scope-in-Some.new.scopes.items _ c.in_ok-push_scope-2.ensures c.in-Some.ensures.items
+    c.as_slice-text.ensures (c.statements_at-inner.ensures ∙ ap (λ bs. body_statements (slice_get bs c.in-Some.nested_body.body)) c.as_slice-bodies.ensures) c.loop-nested_body.invariant
+    c.written_of-in-Some.ensures.grows c.in_ok-written-2.ensures.written c.in_ok-written-2.ensures.ports refl c.in_ok-written-2.ensures.nested_bodies
     c.in_ok-written-2.ensures.synonyms
 
 pub returns-clause-scopes : goal.returns-clause-scopes
 returns-clause-scopes c =
     let h = c.in_default.ensures.cases in
-    let none : length c.loop-root.roots.items ≡ 0 = omega (arith, h.0, c.loop-root.roots.ok.0) in
-    subst (AreScopes c.args.config.now c.loop-root.entries.items) (sym c.reverse.ensures.items)
-    (walked-all c.args.config.now c.loop-root.entries.items c.loop-root.roots.items c.loop-root.scopes.items c.requires (nil_from_length c.loop-root.roots.items none) c.loop-root.invariant)
+    let none : length c.loop-nested_body.nested_bodies.items ≡ 0 = omega (arith, h.0, c.loop-nested_body.nested_bodies.ok.0) in
+    subst (AreScopes c.args.config.now c.loop-nested_body.entries.items) (sym c.reverse.ensures.items)
+    (walked-all c.args.config.now c.loop-nested_body.entries.items c.loop-nested_body.nested_bodies.items c.loop-nested_body.scopes.items c.requires (nil_from_length c.loop-nested_body.nested_bodies.items none) c.loop-nested_body.invariant)
 
 pub returns-clause-synonyms : goal.returns-clause-synonyms
 returns-clause-synonyms c =
     let h = c.in_default.ensures.cases in
-    let none : length c.loop-root.roots.items ≡ 0 = omega (arith, h.0, c.loop-root.roots.ok.0) in
-    walked-synonyms c.args.config.now c.loop-root.entries.items c.loop-root.roots.items c.loop-root.scopes.items c.requires (nil_from_length c.loop-root.roots.items none) c.loop-root.invariant
+    let none : length c.loop-nested_body.nested_bodies.items ≡ 0 = omega (arith, h.0, c.loop-nested_body.nested_bodies.ok.0) in
+    walked-synonyms c.args.config.now c.loop-nested_body.entries.items c.loop-nested_body.nested_bodies.items c.loop-nested_body.scopes.items c.requires (nil_from_length c.loop-nested_body.nested_bodies.items none) c.loop-nested_body.invariant

@@ -2,8 +2,8 @@ use Rattle.std.proofs.Common.{◌++◌, [], sym, ap, subst}
 use Rattle.std.proofs.lemmas.List.{append-nil}
 use Rattle.click_scopes.specs.kept.Scoped.{ports_in}
 use Rattle.click_scopes.specs.kept.Standing.{written_ports}
-use Rattle.click_scopes.proofs.Keeping.{Kept, kept-first, kept-next, more-more}
-use Rattle.click_scopes.proofs.Synonyms.{renamed-first, renamed-next, renamed-all, ports-next, ports-all}
+use Rattle.click_scopes.proofs.OfLists.StatementTables.{Kept, kept-first, kept-next, more-more}
+use Rattle.click_scopes.proofs.OfNames.Synonyms.{renamed-first, renamed-next, renamed-all, ports-next, ports-all}
 use Rattle.click_scopes.proofs.scopes.written_of.Goals as goal
 
 pub loop-statement-preserved : goal.loop-statement-preserved
@@ -14,9 +14,9 @@ loop-statement-preserved c =
       grows = more-more _ es new v.grows c.define.ensures.grows;
       kept = λ visible h.
           kept-next c.args.text.now es new c.args.scope c.loop-statement.top c.in_ok-top.top ws c.push_elements.new.written.items
-          _ c.loop-statement.roots.items c.push_roots.new.roots.items visible
+          _ c.loop-statement.nested_bodies.items c.push_nested_bodies.new.nested_bodies.items visible
           all i _ c.statement-item.result c.loop-statement-test.true c.statement-item.is c.define.ensures.grows
-          c.in_ok-push_elements.ensures c.in_ok-push_roots.ensures c.in_ok-top.ensures.shows (v.kept visible h);
+          c.in_ok-push_elements.ensures c.in_ok-push_nested_bodies.ensures c.in_ok-top.ensures.shows (v.kept visible h);
       ports = ports-next ws c.push_elements.new.written.items c.loop-statement.top all i _ c.statement-item.result c.loop-statement-test.true c.statement-item.is
           c.in_ok-push_elements.ensures v.ports;
       synonyms = λ visible h.
@@ -26,12 +26,12 @@ loop-statement-preserved c =
 
 pub loop-statement-init : goal.loop-statement-init
 loop-statement-init c =
-    let text = c.args.text.now in let es = c.args.entries.now.items in let roots = c.args.roots.now.items in let ss = c.args.statements.now in
+    let text = c.args.text.now in let es = c.args.entries.now.items in let nested_bodies = c.args.nested_bodies.now.items in let ss = c.args.statements.now in
     record {
       grows = ([], sym (append-nil es));
       kept = λ visible h.
-          subst (λ ws. Kept text es c.args.scope c.args.outside ws roots roots visible 0 ss) (sym c.new-written.ensures.items)
-          (kept-first text es c.args.scope c.args.outside roots visible ss h);
+          subst (λ ws. Kept text es c.args.scope c.args.outside ws nested_bodies nested_bodies visible 0 ss) (sym c.new-written.ensures.items)
+          (kept-first text es c.args.scope c.args.outside nested_bodies visible ss h);
       ports = ap (λ ws. written_ports ws ++ ports_in ss) c.new-written.ensures.items;
       synonyms = λ visible h. renamed-first text visible es ss;
     }

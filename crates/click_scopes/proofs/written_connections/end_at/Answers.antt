@@ -2,7 +2,7 @@ use Rattle.std.proofs.Common.{sym, ap, ◌∙◌, subst}
 use Rattle.click_text.specs.declared.syntax.Element.{Element}
 use Rattle.click_scopes.specs.Faults.{first_token}
 use Rattle.click_scopes.specs.kept.FirstFault.{AreShort}
-use Rattle.click_scopes.proofs.Ending.{first-in}
+use Rattle.click_scopes.proofs.OfConnections.EndOwners.{first-in}
 use Rattle.click_scopes.proofs.written_connections.end_at.Goals as goal
 
 pub returns : goal.returns

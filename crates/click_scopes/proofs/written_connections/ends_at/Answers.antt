@@ -1,7 +1,7 @@
 use Rattle.std.proofs.Common.{◌<◌, ◌+◌, length, take, refl, sym, ap, ◌∙◌, subst, arith}
 use Rattle.std.proofs.lemmas.List.{length_push}
-use Rattle.click_scopes.specs.kept.ConnectionEnds.{names_among, locals_in, AreEndsKept}
-use Rattle.click_scopes.proofs.Ending.{ends-none, ends-next, ends-all}
+use Rattle.click_scopes.specs.kept.ConnectionEnds.{names_among, scope_elements_in, AreEndsKept}
+use Rattle.click_scopes.proofs.OfConnections.EndOwners.{ends-none, ends-next, ends-all}
 use Rattle.click_scopes.proofs.written_connections.ends_at.Goals as goal
 
 pub loop-place-init : goal.loop-place-init
@@ -9,8 +9,8 @@ loop-place-init c = record {
   count = ap length c.new-ends.ensures.items;
   known = λ ps known same.
       let config = c.args.config.now in let b = c.args.in_body in
-      subst (λ es. AreEndsKept (locals_in config.text b ps) config (names_among config.text b ps) 0 es (take 0 ps)) (sym c.new-ends.ensures.items)
-      (ends-none (locals_in config.text b ps) config (names_among config.text b ps) ps);
+      subst (λ es. AreEndsKept (scope_elements_in config.text b ps) config (names_among config.text b ps) 0 es (take 0 ps)) (sym c.new-ends.ensures.items)
+      (ends-none (scope_elements_in config.text b ps) config (names_among config.text b ps) ps);
 }
 
 pub loop-place-preserved : goal.loop-place-preserved

@@ -4,7 +4,7 @@ use Rattle.click_scopes.specs.declared.scopes.WrittenElement.{WrittenElement}
 use Rattle.click_scopes.specs.kept.Tables.{elements_of, names_declared, numbers_from}
 use Rattle.click_scopes.specs.Elements.{has_name}
 use Rattle.click_scopes.specs.kept.ConnectionEnds.{AreDeclared}
-use Rattle.click_scopes.proofs.Ending.{numbers-length, known-by}
+use Rattle.click_scopes.proofs.OfConnections.EndOwners.{numbers-length, known-by}
 use Rattle.click_scopes.proofs.written_connections.ends_of.Goals as goal
 
 pub ends_at-requires-clause-as_many : goal.ends_at-requires-clause-as_many

@@ -2,10 +2,10 @@ use Rattle.std.proofs.Common.{◌≡◌, Some, None, sym, ap, ◌∙◌, subst}
 use Rattle.std.specs.Str.{bytes_eq}
 use Rattle.click_scopes.specs.Elements.{role, word_of}
 use Rattle.click_scopes.specs.kept.WrittenConnections.{IsOwner}
-use Rattle.click_scopes.specs.kept.ConnectionEnds.{names_among, locals_in}
+use Rattle.click_scopes.specs.kept.ConnectionEnds.{names_among, scope_elements_in}
 use Rattle.click_scopes.specs.Faults.{written_end}
 use Rattle.click_scopes.specs.declared.written_connections.Owner.TheVariants as owner
-use Rattle.click_scopes.proofs.Ending.{owner-makes, owner-input, owner-output, owner-refers, some_same}
+use Rattle.click_scopes.proofs.OfConnections.EndOwners.{owner-makes, owner-input, owner-output, owner-refers, some_same}
 use Rattle.click_scopes.proofs.written_connections.owner_of.Goals as goal
 
 pub returns-then-eq : goal.returns-then-eq
@@ -29,7 +29,7 @@ returns-in-Some c = λ ps p known here.
     (c.word_of-word.ensures ∙ ap (λ x. word_of x c.args.element.head) t)
     (ap (λ x. role x b d.names c.args.element) (sym t) ∙ sym c.in-Refers.ensures) in
     let same : r.0 ≡ c.in-Some.place = some_same (sym r.1 ∙ sym c.in-Some.ensures) in
-    subst (λ m. IsOwner (locals_in config.text b ps) (owner.Element m) (written_end config (names_among config.text b ps) c.args.number p)) same r.2
+    subst (λ m. IsOwner (scope_elements_in config.text b ps) (owner.Element m) (written_end config (names_among config.text b ps) c.args.number p)) same r.2
 
 pub returns-in-None : goal.returns-in-None
 returns-in-None c = λ ps p known here.

@@ -1,4 +1,4 @@
-use Rattle.click_text.proofs.Quoting.{quoting_more, quoting_bad, quoting_all}
+use Rattle.click_text.proofs.OfArguments.ArgumentQuotes.{quoting_more, quoting_bad, quoting_all}
 use Rattle.click_text.proofs.argument_bytes.plain_of.Goals as goal
 
 pub returns-then-not-branch : goal.returns-then-not-branch

@@ -1,5 +1,5 @@
 use Rattle.std.proofs.Common.{◌-◌, length}
-use Rattle.click_text.proofs.Quoting.{Quoting}
+use Rattle.click_text.proofs.OfArguments.ArgumentQuotes.{Quoting}
 use Rattle.click_text.proofs.argument_bytes.plain_of.Given as goal
 
 abbrev pub invariant-items : goal.invariant-items

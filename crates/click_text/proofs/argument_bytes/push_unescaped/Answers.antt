@@ -2,7 +2,7 @@ use Rattle.std.proofs.Common.{◌++◌, refl, append_assoc}
 use Rattle.std.proofs.lemmas.List.{append-nil}
 use Rattle.click_text.specs.declared.argument_bytes.Escape.TheVariants as escape
 use Rattle.click_text.specs.Unquote.{unescaped, added}
-use Rattle.click_text.proofs.Quoting.{unescaped_step}
+use Rattle.click_text.proofs.OfArguments.ArgumentQuotes.{unescaped_step}
 use Rattle.click_text.proofs.argument_bytes.push_unescaped.Goals as goal
 use Rattle.click_text.proofs.argument_bytes.push_unescaped.Goals.{in-Some-adds+in_ok-push, in_default-adds}
 

@@ -1,4 +1,4 @@
-use Rattle.click_text.proofs.Joining.{arguments_order}
+use Rattle.click_text.proofs.OfArguments.JoinedArguments.{arguments_order}
 use Rattle.click_text.proofs.argument_laws.arguments_in_order.Goals as goal
 
 pub returns : goal.returns

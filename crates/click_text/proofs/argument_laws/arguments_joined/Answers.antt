@@ -1,4 +1,4 @@
-use Rattle.click_text.proofs.Joining.{arguments_join}
+use Rattle.click_text.proofs.OfArguments.JoinedArguments.{arguments_join}
 use Rattle.click_text.proofs.argument_laws.arguments_joined.Goals as goal
 
 pub returns : goal.returns

@@ -1,5 +1,5 @@
-use Rattle.click_text.proofs.ItemReading.{items_once, items_are_text}
-use Rattle.click_text.proofs.ItemsExist.{reading}
+use Rattle.click_text.proofs.OfItems.OneItemList.{items_once, items_are_text}
+use Rattle.click_text.proofs.OfItems.ItemExistence.{reading}
 use Rattle.click_text.proofs.argument_laws.items_once.Goals as goal
 
 pub returns : goal.returns

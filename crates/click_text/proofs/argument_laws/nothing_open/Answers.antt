@@ -1,4 +1,4 @@
-use Rattle.click_text.proofs.StringTexts.{nothing_open}
+use Rattle.click_text.proofs.OfArguments.StringTexts.{nothing_open}
 use Rattle.click_text.proofs.argument_laws.nothing_open.Goals as goal
 
 pub returns : goal.returns

@@ -1,6 +1,6 @@
 use Rattle.std.proofs.Common.{◌∙◌, sym, ap}
 use Rattle.click_text.specs.Unquote.{plain_bytes}
-use Rattle.click_text.proofs.ItemReading.{items_once}
+use Rattle.click_text.proofs.OfItems.OneItemList.{items_once}
 use Rattle.click_text.proofs.argument_laws.stands_once.Goals as goal
 
 pub returns : goal.returns

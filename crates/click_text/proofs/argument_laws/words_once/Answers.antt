@@ -1,6 +1,6 @@
 use Rattle.std.proofs.Common.{◌∙◌, sym, ap}
 use Rattle.click_text.specs.Words.{words_of}
-use Rattle.click_text.proofs.ItemReading.{items_once}
+use Rattle.click_text.proofs.OfItems.OneItemList.{items_once}
 use Rattle.click_text.proofs.argument_laws.words_once.Goals as goal
 
 pub returns : goal.returns

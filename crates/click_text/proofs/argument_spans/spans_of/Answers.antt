@@ -3,7 +3,7 @@ use Rattle.click_text.specs.declared.syntax.Span.{Span}
 use Rattle.std.specs.Prelude.{◌&&◌}
 use Rattle.std.proofs.lemmas.Bool.{eqb-true, false≢true}
 use Rattle.click_text.specs.kept.PartialArgument.{is_nothing}
-use Rattle.click_text.proofs.Cutting.{cutting_comma, both_false, cutting_more, cutting_blank, cutting_all}
+use Rattle.click_text.proofs.OfArguments.ArgumentCuts.{cutting_comma, both_false, cutting_more, cutting_blank, cutting_all}
 use Rattle.click_text.specs.Arguments.{is_comma}
 use Rattle.click_text.proofs.argument_spans.spans_of.Goals as goal
 use Rattle.click_text.proofs.argument_spans.spans_of.Goals.{else-depth-eq0-via-then-depth-eq0+else-is_comma, else-depth-eq0-via-else-depth-eq0}

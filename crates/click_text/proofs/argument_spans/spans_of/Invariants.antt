@@ -1,5 +1,5 @@
 use Rattle.std.proofs.Common.{◌-◌, length}
-use Rattle.click_text.proofs.Cutting.{Cutting}
+use Rattle.click_text.proofs.OfArguments.ArgumentCuts.{Cutting}
 use Rattle.click_text.proofs.argument_spans.spans_of.Given as goal
 
 abbrev pub invariant-items : goal.invariant-items

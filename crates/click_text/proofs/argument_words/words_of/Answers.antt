@@ -2,8 +2,8 @@ use Rattle.std.proofs.Common.{◌≡◌, ◌∙◌, sym, false, eqb}
 use Rattle.std.specs.Prelude.{◌&&◌}
 use Rattle.std.proofs.lemmas.Bool.{false≢true}
 use Rattle.click_text.specs.Items.{blank_kind}
-use Rattle.click_text.proofs.Cutting.{both_false}
-use Rattle.click_text.proofs.WordCutting.{words_end, words_more, words_all}
+use Rattle.click_text.proofs.OfArguments.ArgumentCuts.{both_false}
+use Rattle.click_text.proofs.OfArguments.WordCuts.{words_end, words_more, words_all}
 use Rattle.click_text.proofs.argument_words.words_of.Goals as goal
 use Rattle.click_text.proofs.argument_words.words_of.Goals.{then-depth-eq0+then-is_blank+in_ok-end_word, else-depth-eq0+in_ok-extend_from_slice, else-depth-eq0-via-then-depth-eq0+else-is_blank, else-depth-eq0-via-else-depth-eq0}
 

@@ -1,5 +1,5 @@
 use Rattle.std.proofs.Common.{◌-◌, length}
-use Rattle.click_text.proofs.WordCutting.{WordCutting}
+use Rattle.click_text.proofs.OfArguments.WordCuts.{WordCutting}
 use Rattle.click_text.proofs.argument_words.words_of.Given as goal
 
 abbrev pub invariant-items : goal.invariant-items

@@ -1,7 +1,7 @@
 use Rattle.std.proofs.Common.{arith}
 use Rattle.std.proofs.lemmas.List.{take_rest}
-use Rattle.click_text.proofs.Longest.{or_not}
-use Rattle.click_text.proofs.ItemForms.{comment_item, no_comment_item, double_item, single_item, angle_item}
+use Rattle.click_text.proofs.OfPieces.LongestPiece.{or_not}
+use Rattle.click_text.proofs.OfItems.ItemForms.{comment_item, no_comment_item, double_item, single_item, angle_item}
 use Rattle.click_text.proofs.items.long_item.Goals as goal
 
 pub returns-in_err-len-in-47-clause-none : goal.returns-in_err-len-in-47-clause-none

@@ -1,10 +1,10 @@
 use Rattle.std.proofs.Common.{◌≡◌, ℕ, ◌≤◌, ◌++◌, List, ◌∷◌, take, false}
-use Rattle.click_text.specs.Items.{leaves}
+use Rattle.click_text.specs.Items.{ends_quote}
 use Rattle.click_text.proofs.items.quote_len.Given as goal
 
 -- no front so far leads out of the quote, and what follows goes on from here
 abbrev pub invariant-loop-i : goal.invariant-loop-i
 invariant-loop-i l = record {
-  unclosed : (n : ℕ) → n ≤ l.i → leaves l.fn.quote (take n l.text) ≡ false;
-  goes_on : (y : ℕ) (ys : List ℕ) → leaves l.fn.quote (take l.i l.text ++ y ∷ ys) ≡ leaves l.mode (y ∷ ys);
+  unclosed : (n : ℕ) → n ≤ l.i → ends_quote l.fn.quote (take n l.text) ≡ false;
+  goes_on : (y : ℕ) (ys : List ℕ) → ends_quote l.fn.quote (take l.i l.text ++ y ∷ ys) ≡ ends_quote l.mode (y ∷ ys);
 }

@@ -1,4 +1,4 @@
-use Rattle.click_text.proofs.Either.{spelled_or_faulty}
+use Rattle.click_text.proofs.OfParser.TextOutcome.{spelled_or_faulty}
 use Rattle.click_text.proofs.laws.spelled_or_faulty.Goals as goal
 
 pub returns : goal.returns

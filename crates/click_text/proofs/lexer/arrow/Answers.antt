@@ -1,5 +1,5 @@
 use Rattle.std.proofs.Common.{arith}
-use Rattle.click_text.proofs.Longest.{longest_arrow, no_arrow, past_end}
+use Rattle.click_text.proofs.OfPieces.LongestPiece.{longest_arrow, no_arrow, past_end}
 use Rattle.click_text.proofs.lexer.arrow.Goals as goal
 use Rattle.click_text.proofs.lexer.arrow.Goals.{else-text-gt1-via-then-text-gt1+else-text-eq62, else-text-gt1-via-else-text-gt1}
 

@@ -1,6 +1,6 @@
 use Rattle.std.proofs.Common.{arith}
 use Rattle.std.proofs.lemmas.List.{take_rest}
-use Rattle.click_text.proofs.Longest.{longest_line, longest_comment, no_comment, no_slash, past_end, or_not}
+use Rattle.click_text.proofs.OfPieces.LongestPiece.{longest_line, longest_comment, no_comment, no_slash, past_end, or_not}
 use Rattle.click_text.proofs.lexer.comment.Goals as goal
 
 pub returns-then-text-lt2-clause-none : goal.returns-then-text-lt2-clause-none

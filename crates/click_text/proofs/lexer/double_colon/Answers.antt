@@ -1,5 +1,5 @@
 use Rattle.std.proofs.Common.{arith}
-use Rattle.click_text.proofs.Longest.{longest_colons, no_colons, past_end}
+use Rattle.click_text.proofs.OfPieces.LongestPiece.{longest_colons, no_colons, past_end}
 use Rattle.click_text.proofs.lexer.double_colon.Goals as goal
 use Rattle.click_text.proofs.lexer.double_colon.Goals.{else-text-gt1-via-then-text-gt1+else-text-eq58, else-text-gt1-via-else-text-gt1}
 

@@ -1,5 +1,5 @@
 use Rattle.std.proofs.Common.{sym, ◌∙◌, arith}
-use Rattle.click_text.proofs.Longest.{longest_blank, longest_word, longest_mark, no_beginning}
+use Rattle.click_text.proofs.OfPieces.LongestPiece.{longest_blank, longest_word, longest_mark, no_beginning}
 use Rattle.click_text.proofs.lexer.first_piece.Goals as goal
 
 pub returns-then-is_white-clause-some : goal.returns-then-is_white-clause-some

@@ -1,6 +1,6 @@
 use Rattle.std.proofs.Common.{arith}
 use Rattle.std.proofs.lemmas.List.{take_rest}
-use Rattle.click_text.proofs.Longest.{longest_formal, no_formal}
+use Rattle.click_text.proofs.OfPieces.LongestPiece.{longest_formal, no_formal}
 use Rattle.click_text.proofs.lexer.formal.Goals as goal
 
 pub returns-then-len-eq0-clause-none : goal.returns-then-len-eq0-clause-none

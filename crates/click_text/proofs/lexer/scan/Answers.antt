@@ -2,7 +2,7 @@ use Rattle.std.proofs.Common.{◌∙◌, sym, arith, drop, append_assoc, [], len
 use Rattle.std.proofs.lemmas.List.{append-nil, drop-drop, drop_all, take_rest}
 use Rattle.click_text.specs.declared.syntax.Ending.TheVariants as ending
 use Rattle.click_text.specs.Pieces.{ends, passes, takes, stuck}
-use Rattle.click_text.proofs.Reading.{none_tail, longest_tail}
+use Rattle.click_text.proofs.OfPieces.OnePieceList.{none_tail, longest_tail}
 use Rattle.click_text.proofs.lexer.scan.Goals as goal
 
 pub returns-in_default : goal.returns-in_default

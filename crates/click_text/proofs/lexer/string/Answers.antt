@@ -1,5 +1,5 @@
 use Rattle.std.proofs.lemmas.List.{take_rest}
-use Rattle.click_text.proofs.Longest.{longest_string, no_string, or_not}
+use Rattle.click_text.proofs.OfPieces.LongestPiece.{longest_string, no_string, or_not}
 use Rattle.click_text.proofs.lexer.string.Goals as goal
 
 pub returns-in_err-len-clause-none : goal.returns-in_err-len-clause-none

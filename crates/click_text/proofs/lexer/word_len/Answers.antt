@@ -1,5 +1,5 @@
 use Rattle.std.proofs.Common.{◌+◌, ◌<◌, length, arith, sym, ◌∙◌}
-use Rattle.click_text.proofs.WordForms.{word_more, word_joined, word_most}
+use Rattle.click_text.proofs.OfPieces.WordForms.{word_more, word_joined, word_most}
 use Rattle.click_text.proofs.lexer.word_len.Goals as goal
 use Rattle.click_text.proofs.lexer.word_len.Goals.{else-text-len-eq47-via-then-text-len-eq47+else-is_word_at, else-text-len-eq47-via-else-text-len-eq47}
 

@@ -1,7 +1,7 @@
 use Rattle.std.proofs.Common.{inr, ◌∙◌, refl, ap}
 use Rattle.click_text.specs.kept.ParserStates.{top, Refused}
-use Rattle.click_text.proofs.Steps.{refused, at_end}
-use Rattle.click_text.proofs.Outcomes.{accepted_stuck, accepted_text, refused_token}
+use Rattle.click_text.proofs.OfParser.ParserSteps.{refused, at_end}
+use Rattle.click_text.proofs.OfParser.RunOutcomes.{accepted_stuck, accepted_text, refused_token}
 use Rattle.click_text.proofs.parser.config_of.Goals as goal
 
 pub returns-in-Some-clause-err : goal.returns-in-Some-clause-err

@@ -1,5 +1,5 @@
 use Rattle.std.proofs.Common.{refl, ◌∙◌}
-use Rattle.click_workers.proofs.Driving.{none-driven, one-driven, held-back}
+use Rattle.click_workers.proofs.DriverRounds.{none-driven, one-driven, held-back}
 use Rattle.click_workers.proofs.driver.drive.Goals as goal
 
 pub loop-nth-init : goal.loop-nth-init

@@ -1,4 +1,4 @@
-use Rattle.click_workers.proofs.Sending.{made-quiet}
+use Rattle.click_workers.proofs.TransmitSeats.{made-quiet}
 use Rattle.click_workers.proofs.laws.commands_make_no_transmit.Goals as goal
 
 pub returns : goal.returns

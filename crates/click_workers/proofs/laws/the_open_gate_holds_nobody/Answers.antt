@@ -1,4 +1,4 @@
-use Rattle.click_workers.proofs.Gating.{never-closed}
+use Rattle.click_workers.proofs.OpenGates.{never-closed}
 use Rattle.click_workers.proofs.laws.the_open_gate_holds_nobody.Goals as goal
 
 pub returns : goal.returns

@@ -2,22 +2,22 @@ use Rattle.std.proofs.Common.{rules, refl, ◌≡◌, ◌++◌, ◌∷◌, [], t
 use Rattle.std.specs.List.{All}
 use Rattle.std.specs.Vec.Iter.{into_iter_items}
 use Rattle.std.proofs.lemmas.List.Elements.{All-head, All-tail}
-use Rattle.click_rings.specs.Feeds.{FeedName, are_apart}
+use Rattle.click_rings.specs.Feeds.{FeedName, have_distinct_devices}
 use Rattle.click_rings.proofs.Draws.{tail_apart}
-use Rattle.click_desk.specs.Booklet.{Booklet}
+use Rattle.click_desk.specs.BookState.{BookState}
 use Rattle.click_desk.specs.declared.entry.Entry.{Entry}
 use Rattle.click_links.specs.declared.run.Receiving.{Receiving}
 use Rattle.click_workers.specs.Linked.{HasRing, IsSettled}
 use Rattle.click_workers.specs.Work.{SideBySide}
 use Rattle.click_workers.specs.declared.linked.LinkEnd.{LinkEnd}
-use Rattle.click_workers.proofs.Linking.{others-differ}
-use Rattle.click_workers.proofs.Workings.{pairs-push}
+use Rattle.click_workers.proofs.LinkFeeds.{others-differ}
+use Rattle.click_workers.proofs.NewSeats.{pairs-push}
 use Rattle.click_workers.proofs.linked.settle_all.Goals as goal
 
 pub settle_one-requires : goal.settle_one-requires
 settle_one-requires g c =
     let R = Receiving g.row.L.Denot in
-    let P : R → Type 0 = λ r. HasRing c.loop-receiver.book.taps r.device r.intake.feed.ring in
+    let P : R → Type 0 = λ r. HasRing c.loop-receiver.book.consumers r.device r.intake.feed.ring in
     let all = subst (λ (l : List R). All P l) c.in-Some.ensures.steps.0 c.loop-receiver.invariant.feeds in
     All-head P c.in-Some.receiver (into_iter_items c.next.new.self) all
 
@@ -29,8 +29,8 @@ loop-receiver-init g c =
     record {
       book = refl;
       none = λ bare. bare;
-      feeds = subst (λ (l : List R). All (λ r. HasRing c.args.book.now.taps r.device r.intake.feed.ring) l) all c.requires.feeds;
-      apart = subst (λ (l : List R). are_apart (map F l) ≡ true) all c.requires.apart;
+      feeds = subst (λ (l : List R). All (λ r. HasRing c.args.book.now.consumers r.device r.intake.feed.ring) l) all c.requires.feeds;
+      apart = subst (λ (l : List R). have_distinct_devices (map F l) ≡ true) all c.requires.apart;
       room = search rules;
       ends = search rules;
     }
@@ -42,18 +42,18 @@ loop-receiver-preserved g c =
     let R = Receiving g.row.L.Denot in
     let F : R → FeedName = λ r. record { device = r.device; ring = r.intake.feed.ring } in
     let E = LinkEnd g.row.L.Denot in
-    let P : R → Type 0 = λ r. HasRing c.loop-receiver.book.taps r.device r.intake.feed.ring in
+    let P : R → Type 0 = λ r. HasRing c.loop-receiver.book.consumers r.device r.intake.feed.ring in
     let Q : R → E → Type 0 =
     λ r e. (e.device ≡ r.device) × (e.link ≡ r.link) × (e.received ≡ r.received) × IsSettled c.args.book.now.entries r.device r.intake.feed.put (option_map (λ v. v.items) e.left) in
     let r = c.in-Some.receiver in
     let coming = into_iter_items c.next.new.self in
-    let entries = ap (λ (b : Booklet). b.entries) h.book in
+    let entries = ap (λ (b : BookState). b.entries) h.book in
     let left = subst (λ (es : List Entry). IsSettled es r.device r.intake.feed.put (option_map (λ v. v.items) c.settle_one.result.left)) entries s.left in
     let more = pairs-push Q c.loop-receiver.yielded c.loop-receiver.ends.items r c.settle_one.result h.ends (s.same.0, s.same.1, s.same.2, left) in
     let feeds = All-tail P r coming (subst (λ (l : List R). All P l) c.in-Some.ensures.steps.0 h.feeds) in
-    let apart : are_apart (map F (r ∷ coming)) ≡ true = subst (λ (l : List R). are_apart (map F l) ≡ true) c.in-Some.ensures.steps.0 h.apart in
+    let apart : have_distinct_devices (map F (r ∷ coming)) ≡ true = subst (λ (l : List R). have_distinct_devices (map F l) ≡ true) c.in-Some.ensures.steps.0 h.apart in
     record {
-      book = s.book ∙ ap (λ (b : Booklet). record b { taps = c.settle_one.new.book.taps }) h.book;
+      book = s.book ∙ ap (λ (b : BookState). record b { consumers = c.settle_one.new.book.consumers }) h.book;
       none = λ bare. s.none (h.none bare);
       feeds = λ k d below. s.others _ _ (others-differ F r coming apart k d below) (feeds k d below);
       apart = tail_apart (F r) (map F coming) apart;

@@ -2,7 +2,7 @@ use Rattle.std.proofs.Common.{inr, ℕ, Bor, List, option_map, arith, subst}
 use Rattle.click_desk.specs.Openings.{IsViewFault}
 use Rattle.click_rings.specs.Feeds.{FeedName}
 use Rattle.click_workers.specs.Runs.{views_for}
-use Rattle.click_workers.proofs.Runnings.{late-begun, true-begun, view-begun, few-views}
+use Rattle.click_workers.proofs.WholeRuns.{late-begun, true-begun, view-begun, few-views}
 use Rattle.click_workers.proofs.runs.open_one.Goals as goal
 
 pub fault_of-requires : goal.fault_of-requires

@@ -1,8 +1,8 @@
 use Rattle.std.proofs.Common.{◌≡◌, ◌+◌, ◌∙◌, arith, append-nil, refl, subst}
 use Rattle.click_workers.specs.Runs.{HeadlineFor}
 use Rattle.click_workers.specs.Work.{AttendedInTurn, DroveFor}
-use Rattle.click_workers.proofs.Entering.{drivers-round}
-use Rattle.click_workers.proofs.Workings.{drove-alone, worked-as}
+use Rattle.click_workers.proofs.DriverEntries.{drivers-round}
+use Rattle.click_workers.proofs.NewSeats.{drove-alone, worked-as}
 use Rattle.click_workers.proofs.runs.run_alone.Goals as goal
 
 pub returns-in-Ok-clause-headline : goal.returns-in-Ok-clause-headline

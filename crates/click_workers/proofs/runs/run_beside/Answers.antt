@@ -2,65 +2,65 @@ use Rattle.std.proofs.Common.{◌≡◌, ◌⊎◌, ◌+◌, ◌∙◌, ℕ, Bor
 use Rattle.std.specs.List.{All}
 use Rattle.std.proofs.lemmas.Slice.Zip.{AllZip-long}
 use Rattle.click_desk.specs.Openings.{IsViewFault}
-use Rattle.click_desk.specs.Sittings.{Sitting}
+use Rattle.click_desk.specs.SeatStates.{SeatState}
 use Rattle.click_desk.specs.declared.open.OpenFault.TheVariants as told
 use Rattle.click_rings.specs.Feeds.{FeedName}
 use Rattle.click_workers.specs.Runs.{HeadlineWith, views_for}
 use Rattle.click_workers.specs.Work.{AttendedInTurn, DroveFor, numbers_below}
-use Rattle.click_workers.proofs.Besides.{from-many, from-of, all-of, all-numbers}
-use Rattle.click_workers.proofs.Runnings.{late-begun, true-begun, view-begun, few-views}
-use Rattle.click_workers.proofs.Workings.{worked-as}
+use Rattle.click_workers.proofs.OtherSeats.{from-many, from-of, all-of, all-numbers}
+use Rattle.click_workers.proofs.WholeRuns.{late-begun, true-begun, view-begun, few-views}
+use Rattle.click_workers.proofs.NewSeats.{worked-as}
 use Rattle.click_workers.proofs.runs.run_beside.Goals as goal
 
-pub serve_beside-crew-requires-clause-of : goal.serve_beside-crew-requires-clause-of
-serve_beside-crew-requires-clause-of g c κs within =
+pub serve_beside-run_seats-requires-clause-of : goal.serve_beside-run_seats-requires-clause-of
+serve_beside-run_seats-requires-clause-of g c κs within =
     let n = c.args.clients.places + c.args.clients.workers in
     let desk = c.in-Ok.begun.desk in
     let feeds = c.new-inlets.result.items in
-    subst (λ (l : List Sitting). All (λ (s : Sitting). s.desk ≡ desk) l) (sym c.in-Ok.ensures.beside) (λ k d below. (from-of desk feeds n g.B.Seats.Seating.many k d below).0)
+    subst (λ (l : List SeatState). All (λ (s : SeatState). s.desk ≡ desk) l) (sym c.in-Ok.ensures.beside) (λ k d below. (from-of desk feeds n g.B.Seats.SeatGroup.many k d below).0)
 
 pub finish-all-requires-clause-seats : goal.finish-all-requires-clause-seats
 finish-all-requires-clause-seats g c κs within =
     let n = c.args.clients.places + c.args.clients.workers in
     let desk = c.in-Ok.begun.desk in
     let feeds = c.new-inlets.result.items in
-    let s = c.serve_beside-crew.ensures in
-    λ k d below. (all-of desk feeds n g.B.Seats.Seating.many c.serve_beside-crew.result.0.work.seats.items (g.B.Seats.Seating.sittings c.in-Ok.begun.crew.beside) (g.B.Seats.Seating.sittings c.serve_beside-crew.result.0.beside) (s.desk feeds c.in-Ok.ensures.of) c.in-Ok.ensures.beside s.same k d below).0
+    let s = c.serve_beside-run_seats.ensures in
+    λ k d below. (all-of desk feeds n g.B.Seats.SeatGroup.many c.serve_beside-run_seats.result.0.work.seats.items (g.B.Seats.SeatGroup.sittings c.in-Ok.begun.run_seats.beside) (g.B.Seats.SeatGroup.sittings c.serve_beside-run_seats.result.0.beside) (s.desk feeds c.in-Ok.ensures.of) c.in-Ok.ensures.beside s.same k d below).0
 
 pub finish-all-requires-clause-numbers : goal.finish-all-requires-clause-numbers
 finish-all-requires-clause-numbers g c κs within =
     let n = c.args.clients.places + c.args.clients.workers in
-    let s = c.serve_beside-crew.ensures in
-    all-numbers c.in-Ok.begun.desk c.new-inlets.result.items n g.B.Seats.Seating.many c.serve_beside-crew.result.0.work.seats.items (g.B.Seats.Seating.sittings c.in-Ok.begun.crew.beside) (g.B.Seats.Seating.sittings c.serve_beside-crew.result.0.beside) (s.worked.numbers ∙ ap numbers_below c.in-Ok.ensures.count) c.in-Ok.ensures.beside s.same
+    let s = c.serve_beside-run_seats.ensures in
+    all-numbers c.in-Ok.begun.desk c.new-inlets.result.items n g.B.Seats.SeatGroup.many c.serve_beside-run_seats.result.0.work.seats.items (g.B.Seats.SeatGroup.sittings c.in-Ok.begun.run_seats.beside) (g.B.Seats.SeatGroup.sittings c.serve_beside-run_seats.result.0.beside) (s.worked.numbers ∙ ap numbers_below c.in-Ok.ensures.count) c.in-Ok.ensures.beside s.same
     ∙ ap numbers_below (sym c.in-Ok.ensures.desk.2)
 
 pub finish-all-requires-clause-some : goal.finish-all-requires-clause-some
 finish-all-requires-clause-some g c κs within =
-    omega (arith, c.requires.many.0, c.in-Ok.ensures.count, c.serve_beside-crew.ensures.worked.many, c.serve_beside-crew.result.0.work.seats.ok.0)
+    omega (arith, c.requires.many.0, c.in-Ok.ensures.count, c.serve_beside-run_seats.ensures.worked.many, c.serve_beside-run_seats.result.0.work.seats.ok.0)
 
 pub finish-all-requires-clause-room : goal.finish-all-requires-clause-room
 finish-all-requires-clause-room g c κs within =
     let n = c.args.clients.places + c.args.clients.workers in
-    let s = c.serve_beside-crew.ensures in
+    let s = c.serve_beside-run_seats.ensures in
     omega (
       arith,
       c.in-Ok.ensures.room,
       s.room,
       s.worked.many,
-      c.serve_beside-crew.result.0.work.seats.ok.0,
+      c.serve_beside-run_seats.result.0.work.seats.ok.0,
       AllZip-long _ _ _ s.same,
       ap length c.in-Ok.ensures.beside,
-      from-many c.in-Ok.begun.desk c.new-inlets.result.items n g.B.Seats.Seating.many,
+      from-many c.in-Ok.begun.desk c.new-inlets.result.items n g.B.Seats.SeatGroup.many,
     )
 
 pub returns-clause-headline : goal.returns-clause-headline
 returns-clause-headline g c =
     let n = c.args.clients.places + c.args.clients.workers in
-    let m = g.B.Seats.Seating.many in
+    let m = g.B.Seats.SeatGroup.many in
     let desk = c.in-Ok.begun.desk in
     let feeds = c.new-inlets.result.items in
-    let s = c.serve_beside-crew.ensures in
-    let all = all-of desk feeds n m c.serve_beside-crew.result.0.work.seats.items (g.B.Seats.Seating.sittings c.in-Ok.begun.crew.beside) (g.B.Seats.Seating.sittings c.serve_beside-crew.result.0.beside) (s.desk feeds c.in-Ok.ensures.of) c.in-Ok.ensures.beside s.same in
+    let s = c.serve_beside-run_seats.ensures in
+    let all = all-of desk feeds n m c.serve_beside-run_seats.result.0.work.seats.items (g.B.Seats.SeatGroup.sittings c.in-Ok.begun.run_seats.beside) (g.B.Seats.SeatGroup.sittings c.serve_beside-run_seats.result.0.beside) (s.desk feeds c.in-Ok.ensures.of) c.in-Ok.ensures.beside s.same in
     subst (λ (fs : List FeedName). HeadlineWith fs c.args.opening.room c.args.opening.text.now (n + m) c.finish-all.result.book) c.new-inlets.ensures.items
     (c.finish-all.ensures.headline feeds c.args.opening.room c.args.opening.text.now (n + m) all c.in-Ok.ensures.desk).0
 
@@ -68,11 +68,11 @@ pub returns-clause-work : goal.returns-clause-work
 returns-clause-work g c =
     let attends = AttendedInTurn g.D.Door.lets_in g.D.Reader.Source.input g.D.Writer.Sink.output g.G.Gate.gives g.G.Gate.told c.args.clients.door.now c.args.clients.gate.now c.args.clients.readonly c.args.clients.turns in
     let drives = DroveFor g.G.Gate.gives g.G.Gate.told c.args.clients.gate.now c.args.rounds in
-    let s = c.serve_beside-crew.ensures in
+    let s = c.serve_beside-run_seats.ensures in
     record {
-      served = c.serve_beside-crew.result.0.work.seats.items;
-      before = c.in-Ok.begun.crew.beside;
-      after = c.serve_beside-crew.result.0.beside;
+      served = c.serve_beside-run_seats.result.0.work.seats.items;
+      before = c.in-Ok.begun.run_seats.beside;
+      after = c.serve_beside-run_seats.result.0.beside;
       parts = c.finish-all.ensures.seats;
       worked = worked-as attends drives c.args.clients.places _ _ _ _ _ _ _ _ (sym c.in-Ok.ensures.count) refl c.finish-all.ensures.rest.0 c.finish-all.ensures.rest.1 s.worked;
       fresh = (c.in-Ok.begun.desk, c.new-inlets.result.items, c.in-Ok.ensures.beside);
@@ -82,7 +82,7 @@ returns-clause-work g c =
 
 pub fault_of-requires : goal.fault_of-requires
 fault_of-requires g c =
-    let n = c.args.clients.places + c.args.clients.workers + g.B.Seats.Seating.many in
+    let n = c.args.clients.places + c.args.clients.workers + g.B.Seats.SeatGroup.many in
     let name = option_map (λ (b : Bor (List ℕ)). b.now) c.args.opening.check in
     let text = c.args.opening.text.now in
     let f = c.in-Err.fault in
@@ -91,7 +91,7 @@ fault_of-requires g c =
 
 pub returns-in-Err-clause-config : goal.returns-in-Err-clause-config
 returns-in-Err-clause-config g c =
-    let n = c.args.clients.places + c.args.clients.workers + g.B.Seats.Seating.many in
+    let n = c.args.clients.places + c.args.clients.workers + g.B.Seats.SeatGroup.many in
     let name = option_map (λ (b : Bor (List ℕ)). b.now) c.args.opening.check in
     let text = c.args.opening.text.now in
     let f = c.in-Err.fault in
@@ -100,7 +100,7 @@ returns-in-Err-clause-config g c =
 
 pub returns-in-Err-clause-view_asked : goal.returns-in-Err-clause-view_asked
 returns-in-Err-clause-view_asked g c =
-    let n = c.args.clients.places + c.args.clients.workers + g.B.Seats.Seating.many in
+    let n = c.args.clients.places + c.args.clients.workers + g.B.Seats.SeatGroup.many in
     let name = option_map (λ (b : Bor (List ℕ)). b.now) c.args.opening.check in
     let text = c.args.opening.text.now in
     let f = c.in-Err.fault in

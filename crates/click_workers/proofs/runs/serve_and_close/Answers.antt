@@ -2,13 +2,13 @@ use Rattle.std.proofs.Common.{◌≡◌, ◌<◌, true, false, true≢false, Som
 use Rattle.std.specs.List.{All}
 use Rattle.std.proofs.lemmas.List.Elements.{All-nil, All-push}
 use Rattle.click_desk.specs.History.{Legal}
-use Rattle.click_desk.specs.Sittings.{Sitting, new_seat}
+use Rattle.click_desk.specs.SeatStates.{SeatState, new_seat}
 use Rattle.click_control.specs.Serving.{NoneRefused, most_reads}
 use Rattle.click_workers.specs.Seats.{SeatServes, IsOf}
 use Rattle.click_workers.specs.Runs.{entries_of}
 use Rattle.click_desk.specs.Closing.{IsEachOnce}
-use Rattle.click_workers.proofs.Workings.{last-new, once-of}
-use Rattle.click_workers.proofs.Runnings.{headline-of, one-seat}
+use Rattle.click_workers.proofs.NewSeats.{last-new, once-of}
+use Rattle.click_workers.proofs.WholeRuns.{headline-of, one-seat}
 use Rattle.click_workers.proofs.runs.serve_and_close.Goals as goal
 
 pub close_and_check-book-requires-clause-once : goal.close_and_check-book-requires-clause-once
@@ -18,37 +18,37 @@ close_and_check-book-requires-clause-once g c =
     let seats = c.push_reserved.new.self.items in
     let taken = last-new desk [] 0 1 c.args.seats.items c.pop.new.self.items c.in-Some.seat c.requires.seats c.in-Some.ensures.items refl in
     let items : seats ≡ s ∷ [] = c.push_reserved.ensures.items ∙ ap (λ l. l ++ s ∷ []) taken.0 in
-    let number : s.number ≡ 0 = c.serve_alone-ended.ensures.same.1 ∙ ap (λ (t : Sitting). t.number) taken.1 in
-    let once : IsEachOnce 1 seats = once-of desk 1 seats (ap (λ l. map (λ (t : Sitting). t.number) l) items ∙ ap (λ n. n ∷ []) number) in
+    let number : s.number ≡ 0 = c.serve_alone-ended.ensures.same.1 ∙ ap (λ (t : SeatState). t.number) taken.1 in
+    let once : IsEachOnce 1 seats = once-of desk 1 seats (ap (λ l. map (λ (t : SeatState). t.number) l) items ∙ ap (λ n. n ∷ []) number) in
     subst (λ m. IsEachOnce m seats) (sym c.requires.many) once
 
 pub returns-clause-headline : goal.returns-clause-headline
-returns-clause-headline g c = λ text terms.
+returns-clause-headline g c = λ text options.
     let closes = c.close_and_check-book.ensures.closes in
     let desk = c.args.desk in
     let s = c.serve_alone-ended.result.1 in
     let taken = last-new desk [] 0 1 c.args.seats.items c.pop.new.self.items c.in-Some.seat c.requires.seats c.in-Some.ensures.items refl in
     let items : c.push_reserved.new.self.items ≡ s ∷ [] = c.push_reserved.ensures.items ∙ ap (λ l. l ++ s ∷ []) taken.0 in
-    let of : IsOf desk [] s = (c.serve_alone-ended.ensures.same.0 ∙ ap (λ (t : Sitting). t.desk) taken.1, c.serve_alone-ended.ensures.same.2 ∙ ap (λ (t : Sitting). t.feeds) taken.1) in
-    let number : s.number ≡ 0 = c.serve_alone-ended.ensures.same.1 ∙ ap (λ (t : Sitting). t.number) taken.1 in
-    let alone : IsEachOnce 1 c.push_reserved.new.self.items = once-of desk 1 c.push_reserved.new.self.items (ap (λ l. map (λ (t : Sitting). t.number) l) items ∙ ap (λ n. n ∷ []) number) in
-    let once : IsEachOnce desk.terms.seats c.push_reserved.new.self.items = subst (λ m. IsEachOnce m c.push_reserved.new.self.items) (sym c.requires.many) alone in
-    headline-of [] (Some 1048576) text 1 desk c.push_reserved.new.self.items c.close_and_check-book.result.0 terms
-    (subst (λ (l : List Sitting). 0 < length l) (sym items) (omega arith))
-    (subst (λ (l : List Sitting). All (IsOf desk []) l) (sym items) (All-push (IsOf desk []) [] s (All-nil (IsOf desk [])) of)) once closes
+    let of : IsOf desk [] s = (c.serve_alone-ended.ensures.same.0 ∙ ap (λ (t : SeatState). t.desk) taken.1, c.serve_alone-ended.ensures.same.2 ∙ ap (λ (t : SeatState). t.feeds) taken.1) in
+    let number : s.number ≡ 0 = c.serve_alone-ended.ensures.same.1 ∙ ap (λ (t : SeatState). t.number) taken.1 in
+    let alone : IsEachOnce 1 c.push_reserved.new.self.items = once-of desk 1 c.push_reserved.new.self.items (ap (λ l. map (λ (t : SeatState). t.number) l) items ∙ ap (λ n. n ∷ []) number) in
+    let once : IsEachOnce desk.options.seats c.push_reserved.new.self.items = subst (λ m. IsEachOnce m c.push_reserved.new.self.items) (sym c.requires.many) alone in
+    headline-of [] (Some 1048576) text 1 desk c.push_reserved.new.self.items c.close_and_check-book.result.0 options
+    (subst (λ (l : List SeatState). 0 < length l) (sym items) (omega arith))
+    (subst (λ (l : List SeatState). All (IsOf desk []) l) (sym items) (All-push (IsOf desk []) [] s (All-nil (IsOf desk [])) of)) once closes
 
 pub returns-clause-served : goal.returns-clause-served
-returns-clause-served g c = λ text terms.
+returns-clause-served g c = λ text options.
     let book = c.close_and_check-book.result.0 in
     let desk = c.args.desk in
     let s = c.serve_alone-ended.result.1 in
     let closes = c.close_and_check-book.ensures.closes in
     let taken = last-new desk [] 0 1 c.args.seats.items c.pop.new.self.items c.in-Some.seat c.requires.seats c.in-Some.ensures.items refl in
     let seats : book.seats ≡ s ∷ [] = closes.seats_are ∙ c.push_reserved.ensures.items ∙ ap (λ l. l ++ s ∷ []) taken.0 in
-    let number : s.number ≡ 0 = c.serve_alone-ended.ensures.same.1 ∙ ap (λ (t : Sitting). t.number) taken.1 in
-    let same : s.desk ≡ desk = c.serve_alone-ended.ensures.same.0 ∙ ap (λ (t : Sitting). t.desk) taken.1 in
+    let number : s.number ≡ 0 = c.serve_alone-ended.ensures.same.1 ∙ ap (λ (t : SeatState). t.number) taken.1 in
+    let same : s.desk ≡ desk = c.serve_alone-ended.ensures.same.0 ∙ ap (λ (t : SeatState). t.desk) taken.1 in
     let fresh : c.in-Some.seat ≡ new_seat s.desk [] 0 = taken.1 ∙ ap (λ d. new_seat d [] 0) (sym same) in
-    let headline = returns-clause-headline g c text terms in
+    let headline = returns-clause-headline g c text options in
     record {
       seat = s;
       seats = seats;
@@ -65,4 +65,4 @@ unreachable-requires g c =
 
 pub serve_alone-ended-requires : goal.serve_alone-ended-requires
 serve_alone-ended-requires g c =
-    ap (λ (t : Sitting). t.desk) (last-new c.args.desk [] 0 1 c.args.seats.items c.pop.new.self.items c.in-Some.seat c.requires.seats c.in-Some.ensures.items refl).1
+    ap (λ (t : SeatState). t.desk) (last-new c.args.desk [] 0 1 c.args.seats.items c.pop.new.self.items c.in-Some.seat c.requires.seats c.in-Some.ensures.items refl).1

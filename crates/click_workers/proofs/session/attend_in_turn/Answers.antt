@@ -1,6 +1,6 @@
 use Rattle.std.proofs.Common.{◌∙◌, arith}
 use Rattle.click_workers.specs.Work.{Attends}
-use Rattle.click_workers.proofs.Workings.{one-more}
+use Rattle.click_workers.proofs.NewSeats.{one-more}
 use Rattle.click_workers.proofs.session.attend_in_turn.Goals as goal
 
 pub loop-nth-preserved : goal.loop-nth-preserved

@@ -1,5 +1,5 @@
 use Rattle.std.proofs.Common.{sym}
-use Rattle.click_workers.proofs.Growing.{serves-seat}
+use Rattle.click_workers.proofs.SeatLists.{serves-seat}
 use Rattle.click_workers.proofs.session.serve_at.Goals as goal
 
 pub returns : goal.returns

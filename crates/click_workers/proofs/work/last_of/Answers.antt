@@ -1,5 +1,5 @@
 use Rattle.std.proofs.Common.{arith}
-use Rattle.click_workers.proofs.Workings.{last-taken, ready-taken}
+use Rattle.click_workers.proofs.NewSeats.{last-taken, ready-taken}
 use Rattle.click_workers.proofs.work.last_of.Goals as goal
 
 pub returns-clause-some : goal.returns-clause-some

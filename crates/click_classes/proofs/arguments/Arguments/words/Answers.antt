@@ -1,5 +1,5 @@
 use Rattle.std.proofs.Common.{arith}
-use Rattle.click_classes.proofs.Given.{words_more}
+use Rattle.click_classes.proofs.OfArguments.ArgumentValues.{words_more}
 use Rattle.click_classes.proofs.arguments.Arguments.words.Goals as goal
 
 pub loop-place-preserved : goal.loop-place-preserved

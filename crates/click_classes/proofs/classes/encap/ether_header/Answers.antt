@@ -1,5 +1,5 @@
 use Rattle.std.proofs.Common.{◌≡◌, ◌∷◌, [], ◌/◌, ◌%◌, length, arith}
-use Rattle.click_classes.proofs.SixBytes.{two_of_six}
+use Rattle.click_classes.proofs.OfArguments.SixBytes.{two_of_six}
 use Rattle.click_classes.proofs.classes.encap.ether_header.Goals as goal
 
 pub returns : goal.returns

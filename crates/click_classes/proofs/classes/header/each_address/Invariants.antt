@@ -1,7 +1,7 @@
 use Rattle.std.proofs.Common.{◌≡◌, drop}
 use Rattle.click_classes.specs.Values.{address}
 use Rattle.click_classes.specs.Steps.{each}
-use Rattle.click_classes.proofs.Lists.{preceded}
+use Rattle.click_classes.proofs.OfArguments.ListParts.{preceded}
 use Rattle.click_classes.proofs.classes.header.each_address.Given as goal
 
 abbrev pub invariant-loop-word : goal.invariant-loop-word

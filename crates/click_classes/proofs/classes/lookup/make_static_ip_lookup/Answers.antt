@@ -1,4 +1,4 @@
-use Rattle.click_classes.proofs.Short.{table_short}
+use Rattle.click_classes.proofs.OfRoutes.PrefixLengths.{table_short}
 use Rattle.click_classes.proofs.classes.lookup.make_static_ip_lookup.Goals as goal
 
 pub of-requires : goal.of-requires

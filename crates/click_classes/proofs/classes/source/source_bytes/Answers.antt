@@ -1,5 +1,5 @@
 use Rattle.std.proofs.Common.{None, Some, refl, inr, arith}
-use Rattle.click_classes.proofs.Given.{bytes_given, source_long, source_short}
+use Rattle.click_classes.proofs.OfArguments.ArgumentValues.{bytes_given, source_long, source_short}
 use Rattle.click_classes.proofs.classes.source.source_bytes.Goals as goal
 
 pub returns-in_default-2 : goal.returns-in_default-2

@@ -3,7 +3,7 @@ use Rattle.std.proofs.Common.{◌≡◌, ◌∷◌, ◌∙◌, ap, sym, length, 
 use Rattle.click_packet.specs.Packet.{Packet}
 use Rattle.click_classes.specs.PacketList.{PacketList}
 use Rattle.click_classes.specs.kept.Ring.{window}
-use Rattle.click_classes.proofs.Ring.{front_gone, window_first}
+use Rattle.click_classes.proofs.OfQueues.RingSlots.{front_gone, window_first}
 use Rattle.click_classes.proofs.packet_list.PacketList.pop_front.Goals as goal
 
 pub returns-clause-first : goal.returns-clause-first

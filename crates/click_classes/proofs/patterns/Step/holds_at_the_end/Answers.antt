@@ -3,7 +3,7 @@ use Rattle.std.specs.Prelude.{nat_le}
 use Rattle.std.proofs.lemmas.Bool.Decides.{nat_tests}
 use Rattle.std.proofs.lemmas.List.{take_rest}
 use Rattle.click_classes.specs.kept.Masks.{behind, word}
-use Rattle.click_classes.proofs.ReadySteps.{rest_word}
+use Rattle.click_classes.proofs.OfPatterns.ClauseSteps.{rest_word}
 use Rattle.click_classes.proofs.patterns.Step.holds_at_the_end.Goals as goal
 
 pub returns-then-self-bytes : goal.returns-then-self-bytes

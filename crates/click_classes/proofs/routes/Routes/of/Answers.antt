@@ -1,6 +1,6 @@
 use Rattle.std.proofs.Common.{ap, ◌∙◌}
 use Rattle.click_classes.specs.kept.Rows.{longest_first}
-use Rattle.click_classes.proofs.LongestFirst.{rows_route}
+use Rattle.click_classes.proofs.OfRoutes.EntryOrder.{rows_route}
 use Rattle.click_classes.proofs.routes.Routes.of.Goals as goal
 
 pub invariant_of-result : goal.invariant_of-result

@@ -1,7 +1,7 @@
 use Rattle.std.proofs.Common.{arith, ap, sym, ◌∙◌}
 use Rattle.std.proofs.lemmas.Grind.{common_steps}
 use Rattle.click_classes.specs.Entries.{has_prefix}
-use Rattle.click_classes.proofs.Tables.{seen_more}
+use Rattle.click_classes.proofs.OfRoutes.RouteTables.{seen_more}
 use Rattle.click_classes.proofs.values.entry.read_table.Goals as goal
 
 pub loop-words-preserved : goal.loop-words-preserved

@@ -2,7 +2,7 @@ use Rattle.std.proofs.Common.{◌≡◌, [], drop}
 use Rattle.std.specs.BTreeSet.{contains}
 use Rattle.click_classes.specs.declared.values.prefix.Prefix.{Prefix}
 use Rattle.click_classes.specs.Entries.{has_prefix, table}
-use Rattle.click_classes.proofs.Tables.{prefix_cmp}
+use Rattle.click_classes.proofs.OfRoutes.RouteTables.{prefix_cmp}
 use Rattle.click_classes.proofs.values.entry.read_table.Given as goal
 
 abbrev pub invariant-loop-words : goal.invariant-loop-words

@@ -1,6 +1,6 @@
 use Rattle.std.proofs.Common.{◌≡◌, ◌+◌, ◌-◌, length, sym, ◌∙◌, suc, arith, length-set}
 use Rattle.std.proofs.lemmas.List.{take_rest}
-use Rattle.click_classes.proofs.Groups.{preceded_none, separated_unseparated, separated_broken, separated_broken_last, separated_step, separated_end}
+use Rattle.click_classes.proofs.OfArguments.Groups.{preceded_none, separated_unseparated, separated_broken, separated_broken_last, separated_step, separated_end}
 use Rattle.click_classes.proofs.values.groups.read_separated.Goals as goal
 
 pub returns-in_default : goal.returns-in_default

@@ -1,6 +1,6 @@
 use Rattle.std.proofs.Common.{◌≡◌, ◌-◌, length, take}
 use Rattle.click_classes.specs.Values.{separated}
-use Rattle.click_classes.proofs.Groups.{preceded}
+use Rattle.click_classes.proofs.OfArguments.Groups.{preceded}
 use Rattle.click_classes.proofs.values.groups.read_separated.Given as goal
 
 abbrev pub invariant-loop-i : goal.invariant-loop-i

@@ -1,7 +1,7 @@
 use Rattle.std.proofs.Common.{◌+◌, ◌*◌, ◌≤◌, ◌≡◌, get_or, drop, sym, ◌∙◌}
 use Rattle.std.proofs.lemmas.List.{at_drop_more}
 use Rattle.click_classes.specs.Values.{spelled, digit_value}
-use Rattle.click_classes.proofs.Numbers.{spelled_grows, above_most, none_above}
+use Rattle.click_classes.proofs.OfNumbers.DigitNumbers.{spelled_grows, above_most, none_above}
 use Rattle.click_classes.proofs.values.number.spelled.Goals as goal
 
 pub returns-in_default : goal.returns-in_default

@@ -1,6 +1,6 @@
 use Rattle.std.proofs.Common.{◌≡◌, ℕ, length, take, replicate, inr, arith}
 use Rattle.std.proofs.lemmas.List.{take-replicate}
-use Rattle.click_classes.proofs.Clauses.{clause_of-long}
+use Rattle.click_classes.proofs.OfPatterns.Clauses.{clause_of-long}
 use Rattle.click_classes.proofs.values.pattern.full_clause.Goals as goal
 
 pub returns-then-digits-gt-MOST_DIGITS : goal.returns-then-digits-gt-MOST_DIGITS

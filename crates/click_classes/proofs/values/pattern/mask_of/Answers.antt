@@ -1,5 +1,5 @@
 use Rattle.std.proofs.Common.{Ok, ap, sym, ◌∙◌, arith}
-use Rattle.click_classes.proofs.Lists.{mask_more, mask_end}
+use Rattle.click_classes.proofs.OfArguments.ListParts.{mask_more, mask_end}
 use Rattle.click_classes.proofs.values.pattern.mask_of.Goals as goal
 
 pub loop-i-preserved : goal.loop-i-preserved

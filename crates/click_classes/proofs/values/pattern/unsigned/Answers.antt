@@ -1,6 +1,6 @@
 use Rattle.std.proofs.Common.{sym, ◌∙◌}
 use Rattle.std.proofs.lemmas.List.{take_rest}
-use Rattle.click_classes.proofs.Clauses.{unsigned_masked, unsigned_full}
+use Rattle.click_classes.proofs.OfPatterns.Clauses.{unsigned_masked, unsigned_full}
 use Rattle.click_classes.proofs.values.pattern.unsigned.Goals as goal
 
 pub returns-in-Some-place : goal.returns-in-Some-place

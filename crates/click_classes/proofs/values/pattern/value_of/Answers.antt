@@ -1,5 +1,5 @@
 use Rattle.std.proofs.Common.{Ok, ap, sym, ◌∙◌, arith}
-use Rattle.click_classes.proofs.Lists.{value_more, value_end}
+use Rattle.click_classes.proofs.OfArguments.ListParts.{value_more, value_end}
 use Rattle.click_classes.proofs.values.pattern.value_of.Goals as goal
 
 pub loop-i-preserved : goal.loop-i-preserved

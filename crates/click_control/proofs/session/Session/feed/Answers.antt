@@ -1,6 +1,6 @@
 use Rattle.std.proofs.Common.{is_ok}
 use Rattle.click_control.specs.kept.Lines.{reading_of}
-use Rattle.click_control.proofs.Sessions.{placed_fed}
+use Rattle.click_control.proofs.SessionLines.{placed_fed}
 use Rattle.click_control.proofs.session.Session.feed.Goals as goal
 
 pub invariant_of-self : goal.invariant_of-self

@@ -1,44 +1,44 @@
 use Rattle.std.proofs.Common.{inl, ap, sym, is_some, ◌∙◌}
 use Rattle.click_desk.specs.History.{installs}
-use Rattle.click_desk.specs.declared.charter.Charter.{Charter}
+use Rattle.click_desk.specs.declared.desk_setup.DeskSetup.{DeskSetup}
 use Rattle.click_desk.specs.declared.view.View.{View}
-use Rattle.click_desk.proofs.Calls.{as_call, may_give, sound, polls, refuses}
+use Rattle.click_desk.proofs.SeatKnowledge.{as_call, may_give, sound, polls, refuses}
 use Rattle.click_desk.proofs.desk.Desk.poll.Goals as goal
 
 pub enter_poll-result-requires : goal.enter_poll-result-requires
-enter_poll-result-requires g c = record { keeps = c.seat.invariant.4 ∙ ap (λ (t : Charter). is_some t.room) (sym c.take-booked.ensures.taken.1.0) }
+enter_poll-result-requires g c = record { keeps = c.seat.invariant.4 ∙ ap (λ (t : DeskSetup). is_some t.room) (sym c.take-logged_router.ensures.taken.1.0) }
 
 pub give-requires-clause-rule : goal.give-requires-clause-rule
 give-requires-clause-rule g c =
     let e = c.enter_poll-result.ensures in
     let calls = c.seat.inside.calls.items in
     let calls2 = c.enter_poll-result.new.calls.items in
-    let some = as_call c.take-booked.result c.enter_poll-result.new.self c.seat.inside.number calls calls2 c.args.device.now c.args.most c.enter_poll-result.result (record { terms = e.terms; legal = e.legal; ok = e.ok; err = e.err; full = e.full }) in
-    inl (may_give c.seat.inside.number calls _ _ _ _ calls2 some.0 c.enter_poll-result.result c.seat.invariant.1 c.seat.invariant.2.made c.take-booked.ensures.taken some.1)
+    let some = as_call c.take-logged_router.result c.enter_poll-result.new.self c.seat.inside.number calls calls2 c.args.device.now c.args.most c.enter_poll-result.result (record { options = e.options; legal = e.legal; ok = e.ok; err = e.err; full = e.full }) in
+    inl (may_give c.seat.inside.number calls _ _ _ _ calls2 some.0 c.enter_poll-result.result c.seat.invariant.1 c.seat.invariant.2.made c.take-logged_router.ensures.taken some.1)
 
 pub invariant_of-seat : goal.invariant_of-seat
 invariant_of-seat g c =
     let e = c.enter_poll-result.ensures in
     let calls = c.seat.inside.calls.items in
     let calls2 = c.enter_poll-result.new.calls.items in
-    let some = as_call c.take-booked.result c.enter_poll-result.new.self c.seat.inside.number calls calls2 c.args.device.now c.args.most c.enter_poll-result.result (record { terms = e.terms; legal = e.legal; ok = e.ok; err = e.err; full = e.full }) in
-    let s = sound _ c.seat.inside.number calls _ _ _ _ _ calls2 some.0 c.enter_poll-result.result c.seat.invariant.1 c.seat.invariant.2.made c.take-booked.ensures.taken some.1 c.give.ensures.given in
-    let terms = sym (ap (λ (v : View). v.terms) c.give.ensures.given) in
+    let some = as_call c.take-logged_router.result c.enter_poll-result.new.self c.seat.inside.number calls calls2 c.args.device.now c.args.most c.enter_poll-result.result (record { options = e.options; legal = e.legal; ok = e.ok; err = e.err; full = e.full }) in
+    let s = sound _ c.seat.inside.number calls _ _ _ _ _ calls2 some.0 c.enter_poll-result.result c.seat.invariant.1 c.seat.invariant.2.made c.take-logged_router.ensures.taken some.1 c.give.ensures.given in
+    let options = sym (ap (λ (v : View). v.options) c.give.ensures.given) in
     let seen = sym (ap (λ (v : View). v.seen) c.give.ensures.given) in
-    (c.give.ensures.queue.1, s.0, s.1, c.notice-notice.ensures ∙ (λ i. record { board = (terms i).origin; list = installs (terms i).opening (seen i) }), e.keeps ∙ (c.seat.invariant.4 ∙ ap (λ (t : Charter). is_some t.room) (sym (ap (λ (v : View). v.terms) c.give.ensures.given ∙ (e.terms ∙ c.take-booked.ensures.taken.1.0)))))
+    (c.give.ensures.queue.1, s.0, s.1, c.notice-notice.ensures ∙ (λ i. record { board = (options i).origin; list = installs (options i).opening (seen i) }), e.keeps ∙ (c.seat.invariant.4 ∙ ap (λ (t : DeskSetup). is_some t.room) (sym (ap (λ (v : View). v.options) c.give.ensures.given ∙ (e.options ∙ c.take-logged_router.ensures.taken.1.0)))))
 
 pub returns-clause-ok : goal.returns-clause-ok
 returns-clause-ok g c =
     let e = c.enter_poll-result.ensures in
     let calls = c.seat.inside.calls.items in
     let calls2 = c.enter_poll-result.new.calls.items in
-    let some = as_call c.take-booked.result c.enter_poll-result.new.self c.seat.inside.number calls calls2 c.args.device.now c.args.most c.enter_poll-result.result (record { terms = e.terms; legal = e.legal; ok = e.ok; err = e.err; full = e.full }) in
-    rw (c.told.ensures, ← c.seat.view_is) (polls _ _ c.seat.inside.number calls _ _ _ _ _ calls2 c.args.device.now c.args.most c.enter_poll-result.result c.seat.invariant.1 c.seat.invariant.2.made c.take-booked.ensures.taken some c.give.ensures.given)
+    let some = as_call c.take-logged_router.result c.enter_poll-result.new.self c.seat.inside.number calls calls2 c.args.device.now c.args.most c.enter_poll-result.result (record { options = e.options; legal = e.legal; ok = e.ok; err = e.err; full = e.full }) in
+    rw (c.entered_reply.ensures, ← c.seat.view_is) (polls _ _ c.seat.inside.number calls _ _ _ _ _ calls2 c.args.device.now c.args.most c.enter_poll-result.result c.seat.invariant.1 c.seat.invariant.2.made c.take-logged_router.ensures.taken some c.give.ensures.given)
 
 pub returns-clause-err : goal.returns-clause-err
 returns-clause-err g c =
     let e = c.enter_poll-result.ensures in
     let calls = c.seat.inside.calls.items in
     let calls2 = c.enter_poll-result.new.calls.items in
-    let some = as_call c.take-booked.result c.enter_poll-result.new.self c.seat.inside.number calls calls2 c.args.device.now c.args.most c.enter_poll-result.result (record { terms = e.terms; legal = e.legal; ok = e.ok; err = e.err; full = e.full }) in
-    rw (c.told.ensures, ← c.seat.view_is) (refuses _ _ c.seat.inside.number calls _ _ _ _ _ calls2 some.0 c.enter_poll-result.result c.seat.invariant.1 c.seat.invariant.2.made c.take-booked.ensures.taken some.1 c.give.ensures.given)
+    let some = as_call c.take-logged_router.result c.enter_poll-result.new.self c.seat.inside.number calls calls2 c.args.device.now c.args.most c.enter_poll-result.result (record { options = e.options; legal = e.legal; ok = e.ok; err = e.err; full = e.full }) in
+    rw (c.entered_reply.ensures, ← c.seat.view_is) (refuses _ _ c.seat.inside.number calls _ _ _ _ _ calls2 some.0 c.enter_poll-result.result c.seat.invariant.1 c.seat.invariant.2.made c.take-logged_router.ensures.taken some.1 c.give.ensures.given)

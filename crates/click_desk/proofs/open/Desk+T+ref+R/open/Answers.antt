@@ -1,4 +1,4 @@
-use Rattle.click_desk.proofs.Viewless.{viewless}
+use Rattle.click_desk.proofs.MissingViews.{viewless}
 use Rattle.click_desk.proofs.open.Desk+T+ref+R.open.Goals as goal
 
 pub returns-in-Err-clause-fault : goal.returns-in-Err-clause-fault

@@ -2,32 +2,32 @@ use Rattle.std.proofs.Common.{◌≡◌, List, ap, ◌∙◌, sym, subst}
 use Rattle.std.specs.List.{All}
 use Rattle.crossbeam_queue.specs.Passes.{view}
 use Rattle.click_rings.specs.Feeds.{FeedName}
-use Rattle.click_desk.specs.Charters.{charter_of, terms_of}
-use Rattle.click_desk.specs.declared.booked.Ledger.{Ledger}
-use Rattle.click_desk.specs.declared.charter.Charter.{Charter}
+use Rattle.click_desk.specs.DeskSetups.{setup_of, terms_of}
+use Rattle.click_desk.specs.declared.logged_router.RouterLog.{RouterLog}
+use Rattle.click_desk.specs.declared.desk_setup.DeskSetup.{DeskSetup}
 use Rattle.click_desk.specs.declared.view.View.{View}
 use Rattle.click_desk.specs.Openings.{IsViewFault}
-use Rattle.click_desk.specs.Sittings.{DeskName, Sitting, seats_below}
-use Rattle.click_desk.proofs.Books.{all_belong, all_fed}
+use Rattle.click_desk.specs.SeatStates.{DeskName, SeatState, seats_below}
+use Rattle.click_desk.proofs.SeatedEntries.{all_belong, all_fed}
 use Rattle.click_desk.proofs.open.Desk+T+ref+R.open_of.Goals as goal
 
 pub returns-clause-seats : goal.returns-clause-seats
 returns-clause-seats g c =
     let parts = c.in-Ok-make_parts.parts in
-    let t = c.in-Ok-make_parts.ensures.terms in
+    let t = c.in-Ok-make_parts.ensures.options in
     let feeds : List FeedName = c.args.inlets.items in
-    let terms : (view c.give.new.pass).terms ≡ charter_of parts.beside feeds =
-    ap (λ (v : View). v.terms) c.give.ensures.given ∙ (c.new.ensures.0 ∙ (λ i. charter_of ((ap (λ (l : Ledger). l.terms) c.deref_mut.ensures.value ∙ sym t.1) i) (c.open_all.ensures.names i))) in
-    let desk : DeskName = record { table = parts.queue.table.shared.table_id; terms = parts.beside } in
+    let options : (view c.give.new.pass).options ≡ setup_of parts.beside feeds =
+    ap (λ (v : View). v.options) c.give.ensures.given ∙ (c.new.ensures.0 ∙ (λ i. setup_of ((ap (λ (l : RouterLog). l.options) c.deref_mut.ensures.value ∙ sym t.1) i) (c.open_all.ensures.names i))) in
+    let desk : DeskName = record { table = parts.queue.table.shared.table_id; options = parts.beside } in
     let made : c.make_seats.new.given.items ≡ seats_below desk feeds c.args.seats =
-    c.make_seats.ensures ∙ ap (λ (y : Charter). seats_below (record { table = desk.table; terms = terms_of y }) y.feeds c.args.seats) terms in
-    (made, subst (λ (l : List Sitting). All (λ s. s.desk ≡ desk) l) (sym made) (all_belong desk feeds c.args.seats))
+    c.make_seats.ensures ∙ ap (λ (y : DeskSetup). seats_below (record { table = desk.table; options = terms_of y }) y.feeds c.args.seats) options in
+    (made, subst (λ (l : List SeatState). All (λ s. s.desk ≡ desk) l) (sym made) (all_belong desk feeds c.args.seats))
 
 pub returns-clause-fed : goal.returns-clause-fed
 returns-clause-fed g c =
     let feeds : List FeedName = c.args.inlets.items in
     let made = (returns-clause-seats g c).0 in
-    subst (λ (l : List Sitting). All (λ s. s.feeds ≡ feeds) l) (sym made) (all_fed _ feeds c.args.seats)
+    subst (λ (l : List SeatState). All (λ s. s.feeds ≡ feeds) l) (sym made) (all_fed _ feeds c.args.seats)
 
 pub returns-in-Some-clause-fault : goal.returns-in-Some-clause-fault
 returns-in-Some-clause-fault g c =

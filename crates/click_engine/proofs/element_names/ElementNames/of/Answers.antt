@@ -1,6 +1,6 @@
 use Rattle.std.proofs.Common.{◌≡◌, ◌<◌, ◌++◌, ◌∷◌, [], ap, sym, length, arith}
 use Rattle.std.proofs.lemmas.List.{length_push}
-use Rattle.click_engine.proofs.First_named.{known_name, new_name}
+use Rattle.click_engine.proofs.OfNames.FirstNames.{known_name, new_name}
 use Rattle.click_engine.proofs.element_names.ElementNames.of.Goals as goal
 
 pub loop-at-preserved-then-has : goal.loop-at-preserved-then-has

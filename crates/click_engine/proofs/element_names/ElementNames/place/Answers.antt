@@ -1,7 +1,7 @@
 use Rattle.std.proofs.Common.{◌<◌, ◌∙◌, Some, ap, sym, length, rules}
 use Rattle.std.proofs.lemmas.Option.{slice_get-get_or}
 use Rattle.click_engine.specs.Devices.{element_with}
-use Rattle.click_engine.proofs.First_devices.{beside, beside_name}
+use Rattle.click_engine.proofs.OfNames.FirstDevices.{beside, beside_name}
 use Rattle.click_engine.proofs.element_names.ElementNames.place.Goals as goal
 
 pub returns-in_err-at : goal.returns-in_err-at

@@ -3,7 +3,7 @@ use Rattle.std.specs.Prelude.{slice_index_or}
 use Rattle.click_engine.specs.Plant.{Plant}
 use Rattle.click_engine.specs.TakeOver.{named}
 use Rattle.click_engine.specs.kept.Taking.{taken_at}
-use Rattle.click_engine.proofs.Taking.{taken_next}
+use Rattle.click_engine.proofs.OfPlants.ElementTakeOver.{taken_next}
 use Rattle.click_ports.specs.Net.{Net}
 use Rattle.click_engine.proofs.plant.Plant.take_over.Goals as goal
 

@@ -1,6 +1,6 @@
 use Rattle.std.proofs.Common.{◌≡◌}
 use Rattle.click_engine.specs.kept.Taking.{IsKeptBefore}
-use Rattle.click_engine.proofs.Taking.{taken_from}
+use Rattle.click_engine.proofs.OfPlants.ElementTakeOver.{taken_from}
 use Rattle.click_engine.proofs.plant.Plant.take_over.Given as goal
 
 -- the elements from the place on have taken over, and those before it find what they had to take over

@@ -4,39 +4,39 @@ use Rattle.std.proofs.lemmas.List.{get_or_default, set-get_or}
 use Rattle.std.specs.Prelude.{slice_index_or, option_and_then}
 use Rattle.std.proofs.lemmas.Option.{slice_get_read, slice_get_past}
 use Rattle.click_engine.specs.Plant.{Plant}
-use Rattle.click_engine.specs.TakeOver.{named, place_of, after_it}
-use Rattle.click_engine.specs.World.{blank}
-use Rattle.click_engine.specs.declared.world.Element.{Element}
-use Rattle.click_engine.proofs.Taking.{finds_before, set-past}
+use Rattle.click_engine.specs.TakeOver.{named, place_of, with_taken_over}
+use Rattle.click_engine.specs.RunState.{blank}
+use Rattle.click_engine.specs.declared.run_state.Element.{Element}
+use Rattle.click_engine.proofs.OfPlants.ElementTakeOver.{finds_before, set-past}
 use Rattle.click_engine.proofs.plant.Plant.take_over_at.Goals.{else-at-len-via-then-at-len+else-place-len, else-at-len-via-else-at-len}
 use Rattle.click_engine.proofs.plant.Plant.take_over_at.Goals as goal
 
 pub returns-then-place-len-clause-taken : goal.returns-then-place-len-clause-taken
 returns-then-place-len-clause-taken c =
     let v = c.self.view_is in let at = c.args.at in let old = c.args.old.now in let place = c.in-Some.place in
-    let es = c.self.inside.work.elements.items in let r = c.index_mut-element.result.now in
-    let os = c.old.inside.work.elements.items in let b = c.index_mut-before.result.now in
-    let here : at < length es = omega (arith, c.if-at-len.true, c.len.ensures, c.self.inside.work.elements.ok.0) in
-    let there : place < length os = omega (arith, c.if-place-len.true, c.len-then-at-len.ensures, c.old.inside.work.elements.ok.0) in
+    let es = c.self.inside.run_memory.elements.items in let r = c.index_mut-element.result.now in
+    let os = c.old.inside.run_memory.elements.items in let b = c.index_mut-before.result.now in
+    let here : at < length es = omega (arith, c.if-at-len.true, c.len.ensures, c.self.inside.run_memory.elements.ok.0) in
+    let there : place < length os = omega (arith, c.if-place-len.true, c.len-then-at-len.ensures, c.old.inside.run_memory.elements.ok.0) in
     let lent : r ≡ get_or es at blank = c.index_mut-element.ensures.value ∙ get_or_default es at _ blank here in
-    let name : c.name-name.result.now ≡ slice_index_or c.self.inside.wires.names at [] = c.name-name.ensures.value ∙ ap (λ ns. slice_index_or ns at []) (ap (λ n. n.names) c.net.ensures) in
-    let found : Some b ≡ named old (slice_index_or c.self.inside.wires.names at []) =
+    let name : c.name-name.result.now ≡ slice_index_or c.self.inside.adjacency.names at [] = c.name-name.ensures.value ∙ ap (λ ns. slice_index_or ns at []) (ap (λ n. n.names) c.net.ensures) in
+    let found : Some b ≡ named old (slice_index_or c.self.inside.adjacency.names at []) =
     sym (slice_get_read os (length os) place b refl there c.index_mut-before.ensures.value) ∙ ap (λ (p : Plant). slice_get p.elements place) c.old.view_is
     ∙ ap (λ o. option_and_then (slice_get old.elements) o) c.in-Some.ensures ∙ ap (named old) name in
-    let after : record r { state = c.take_over.new.self } ≡ after_it (get_or es at blank) (named old (slice_index_or c.self.inside.wires.names at [])) =
-    ap (λ s. record r { state = s }) c.take_over.ensures.taken ∙ ap (after_it r) found ∙ ap (λ (e : Element). after_it e (named old (slice_index_or c.self.inside.wires.names at []))) lent in
-    rw after (ap (λ (q : Plant). record q { elements = set q.elements at (after_it (get_or q.elements at blank) (named old (slice_index_or q.net.names at []))) }) v)
+    let after : record r { state = c.take_over.new.self } ≡ with_taken_over (get_or es at blank) (named old (slice_index_or c.self.inside.adjacency.names at [])) =
+    ap (λ s. record r { state = s }) c.take_over.ensures.taken ∙ ap (with_taken_over r) found ∙ ap (λ (e : Element). with_taken_over e (named old (slice_index_or c.self.inside.adjacency.names at []))) lent in
+    rw after (ap (λ (q : Plant). record q { elements = set q.elements at (with_taken_over (get_or q.elements at blank) (named old (slice_index_or q.net.names at []))) }) v)
 
 pub returns-then-place-len-clause-kept : goal.returns-then-place-len-clause-kept
 returns-then-place-len-clause-kept c =
     let at = c.args.at in let place = c.in-Some.place in let names = c.args.self.now.net.names in let name = c.name-name.result.now in
-    let os = c.old.inside.work.elements.items in let b = c.index_mut-before.result.now in
+    let os = c.old.inside.run_memory.elements.items in let b = c.index_mut-before.result.now in
     let e : Element = record b { state = c.take_over.new.old } in
-    let found : Some place ≡ position (bytes_eq name) c.old.inside.wires.names = c.in-Some.ensures ∙ ap (λ (p : Plant). place_of p name) (sym c.old.view_is) in
+    let found : Some place ≡ position (bytes_eq name) c.old.inside.adjacency.names = c.in-Some.ensures ∙ ap (λ (p : Plant). place_of p name) (sym c.old.view_is) in
     record {
       overruns = ap (λ (p : Plant). p.overruns) c.old.view_is;
       finds = λ j before.
-          finds_before names at c.old.inside.wires.names os place b e name c.place-2.result c.place-2.ensures found c.index_mut-before.ensures.value
+          finds_before names at c.old.inside.adjacency.names os place b e name c.place-2.result c.place-2.ensures found c.index_mut-before.ensures.value
           (λ k. ap (λ s. record b { state = s }) (c.take_over.ensures.kept (c.ne-keeps.ensures ∙ k))) j before
           ∙ ap (λ (p : Plant). named p (slice_index_or names j [])) c.old.view_is;
     }
@@ -44,18 +44,18 @@ returns-then-place-len-clause-kept c =
 pub returns-else-at-len-clause-taken : goal.returns-else-at-len-clause-taken
 returns-else-at-len-clause-taken c =
     let v = c.args.self.now in let at = c.args.at in let old = c.args.old.now in let place = c.in-Some.place in
-    let es = c.self.inside.work.elements.items in let os = c.old.inside.work.elements.items in
+    let es = c.self.inside.run_memory.elements.items in let os = c.old.inside.run_memory.elements.items in
     let n = slice_index_or v.net.names at [] in
     let name : c.name-name.result.now ≡ n =
     c.name-name.ensures.value ∙ ap (λ ns. slice_index_or ns at []) (ap (λ n. n.names) c.net.ensures ∙ ap (λ (p : Plant). p.net.names) c.self.view_is) in
     let count : length es ≡ length v.elements = ap (λ (p : Plant). length p.elements) c.self.view_is in
     elim c.else-at-len.branch [
       | else-at-len-via-then-at-len+else-place-len w ↦
-          let past : length os ≤ place = omega (arith, w.if-place-len.false, w.len-then-at-len.ensures, c.old.inside.work.elements.ok.0) in
+          let past : length os ≤ place = omega (arith, w.if-place-len.false, w.len-then-at-len.ensures, c.old.inside.run_memory.elements.ok.0) in
           let none : named old n ≡ None =
           ap (named old) (sym name) ∙ ap (λ o. option_and_then (slice_get old.elements) o) (sym c.in-Some.ensures) ∙ ap (λ (p : Plant). slice_get p.elements place) (sym c.old.view_is) ∙ slice_get_past os place past in
-          sym (ap (λ l. record v { elements = l }) (ap (λ o. slice_set v.elements at (after_it (slice_index_or v.elements at blank) o)) none ∙ set-get_or v.elements at blank))
+          sym (ap (λ l. record v { elements = l }) (ap (λ o. slice_set v.elements at (with_taken_over (slice_index_or v.elements at blank) o)) none ∙ set-get_or v.elements at blank))
       | else-at-len-via-else-at-len w ↦
-          let past : length v.elements ≤ at = omega (arith, count, w.if-at-len.false, c.len.ensures, c.self.inside.work.elements.ok.0) in
-          sym (ap (λ l. record v { elements = l }) (set-past v.elements at (after_it (slice_index_or v.elements at blank) (named old n)) past))
+          let past : length v.elements ≤ at = omega (arith, count, w.if-at-len.false, c.len.ensures, c.self.inside.run_memory.elements.ok.0) in
+          sym (ap (λ l. record v { elements = l }) (set-past v.elements at (with_taken_over (slice_index_or v.elements at blank) (named old n)) past))
     ]

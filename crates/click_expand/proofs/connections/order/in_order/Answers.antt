@@ -1,7 +1,7 @@
 use Rattle.std.proofs.lemmas.List.Filters.{dedup_is}
 use Rattle.std.proofs.lemmas.List.Kept.{Contains-dedup, Contains-from_dedup, IsStrictlySortedBy-dedup}
 use Rattle.std.proofs.lemmas.List.Sorted.{Contains-permutation, IsPermutation-sym}
-use Rattle.click_expand.proofs.OfConnections.Ordered.{compare_total, same, same_equiv, ties, exact, InOrder-from_sorted}
+use Rattle.click_expand.proofs.OfConnections.ConnectionOrder.{compare_total, same, same_equiv, ties, exact, InOrder-from_sorted}
 use Rattle.click_expand.proofs.connections.order.in_order.Goals as goal
 
 pub returns-clause-order : goal.returns-clause-order

@@ -3,7 +3,7 @@ use Rattle.std.proofs.lemmas.List.{take_all}
 use Rattle.click_scopes.specs.declared.written_connections.Owner.TheVariants as owner
 use Rattle.click_expand.specs.declared.connections.connection_index.ScopePort.{ScopePort}
 use Rattle.click_expand.specs.kept.Wiring.{scope_port}
-use Rattle.click_expand.proofs.OfConnections.LeadingThrough.{owned-next}
+use Rattle.click_expand.proofs.OfConnections.PassthroughSearch.{owned-next}
 use Rattle.click_expand.proofs.connections.passthrough.are_outputs.Goals as goal
 
 abbrev blank : ScopePort

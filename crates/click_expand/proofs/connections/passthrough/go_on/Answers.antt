@@ -5,8 +5,8 @@ use Rattle.click_scopes.specs.declared.written_connections.Owner.TheVariants as 
 use Rattle.click_expand.specs.declared.connections.connection_index.ScopePort.{ScopePort}
 use Rattle.click_expand.specs.kept.Wiring.{scope_port, HasAll}
 use Rattle.click_expand.specs.kept.Passthrough.{IsOutputOf}
-use Rattle.click_expand.proofs.OfConnections.Derived.{port-eq}
-use Rattle.click_expand.proofs.OfConnections.LeadingThrough.{outputs-next}
+use Rattle.click_expand.proofs.OfConnections.PortEquality.{port-eq}
+use Rattle.click_expand.proofs.OfConnections.PassthroughSearch.{outputs-next}
 use Rattle.click_expand.proofs.connections.passthrough.go_on.Goals as goal
 
 abbrev blank : ScopePort

@@ -1,8 +1,8 @@
 use Rattle.std.proofs.Common.{◌≡◌, Some, ap, ◌∙◌}
 use Rattle.std.specs.List.{slice_get}
 use Rattle.std.specs.Option.{option_copied}
-use Rattle.click_expand.proofs.OfConnections.Gathering.{item-is}
-use Rattle.click_expand.proofs.OfConnections.LeadingThrough.{leads-through}
+use Rattle.click_expand.proofs.OfConnections.OutputSearches.{item-is}
+use Rattle.click_expand.proofs.OfConnections.PassthroughSearch.{leads-through}
 use Rattle.click_expand.proofs.connections.passthrough.outputs_through.Goals as goal
 
 pub returns-then-are_outputs : goal.returns-then-are_outputs

@@ -4,4 +4,4 @@ use Rattle.click_expand.specs.kept.Passthrough.{body_at, AreShortened, AreStoodF
 use Rattle.click_expand.proofs.connections.passthrough.ports_for.Given as goal
 
 abbrev pub invariant-loop-end : goal.invariant-loop-end
-invariant-loop-end l = (all short : ℕ → ScopePort → List ScopePort) → AreShortened all (body_at l.locals) short l.done → AreStoodFor all (body_at l.locals) short l.scope (take l.end-index l.ends) l.ports.keys
+invariant-loop-end l = (all short : ℕ → ScopePort → List ScopePort) → AreShortened all (body_at l.scope_elements) short l.done → AreStoodFor all (body_at l.scope_elements) short l.scope (take l.end-index l.ends) l.ports.keys

@@ -1,7 +1,7 @@
 use Rattle.std.proofs.Common.{◌≡◌, length, refl, arith}
 use Rattle.std.proofs.lemmas.List.{nil_from_length}
-use Rattle.click_expand.proofs.OfConnections.StandingIn.{changed-by}
-use Rattle.click_expand.proofs.OfConnections.Shortening.{Puts, puts-next, puts-all}
+use Rattle.click_expand.proofs.OfConnections.PortStandIns.{changed-by}
+use Rattle.click_expand.proofs.OfConnections.ShortcutIndices.{Puts, puts-next, puts-all}
 use Rattle.click_expand.proofs.connections.passthrough.with_shortcuts.Goals as goal
 use Rattle.click_expand.proofs.connections.passthrough.with_shortcuts.Goals.{In_ok-insert}
 

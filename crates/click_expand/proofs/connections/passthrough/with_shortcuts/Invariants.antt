@@ -1,5 +1,5 @@
 use Rattle.std.proofs.Common.{length}
-use Rattle.click_expand.proofs.OfConnections.Shortening.{Puts}
+use Rattle.click_expand.proofs.OfConnections.ShortcutIndices.{Puts}
 use Rattle.click_expand.proofs.connections.passthrough.with_shortcuts.Given as goal
 
 abbrev pub invariant-loop-one : goal.invariant-loop-one

@@ -1,13 +1,13 @@
 use Rattle.std.proofs.Common.{[], arith}
 use Rattle.click_expand.specs.Flat.{most_connections}
-use Rattle.click_expand.specs.kept.Wiring.{IsFromUse}
-use Rattle.click_expand.proofs.OfConnections.Gathering.{gathers-more, all-sound, all-complete}
+use Rattle.click_expand.specs.kept.Wiring.{IsFromInstance}
+use Rattle.click_expand.proofs.OfConnections.OutputSearches.{gathers-more, all-sound, all-complete}
 use Rattle.click_expand.proofs.connections.wiring.search_all.Goals as goal
 
 pub loop-within-preserved : goal.loop-within-preserved
 loop-within-preserved c =
-    gathers-more (IsFromUse c.args.instances.now c.args.indices.now) most_connections c.loop-within.within [] c.loop-within.found.keys c.search_use.new.found.keys c.loop-within.invariant
-    c.in_ok-search_use.ensures.more c.in_ok-search_use.ensures.all
+    gathers-more (IsFromInstance c.args.instances.now c.args.indices.now) most_connections c.loop-within.within [] c.loop-within.found.keys c.search_instance.new.found.keys c.loop-within.invariant
+    c.in_ok-search_instance.ensures.more c.in_ok-search_instance.ensures.all
 
 pub returns-clause-sound : goal.returns-clause-sound
 returns-clause-sound c = all-sound c.args.instances.now c.args.indices.now most_connections c.loop-within.within c.loop-within.found.keys c.loop-within.invariant

@@ -1,4 +1,4 @@
-use Rattle.click_expand.proofs.OfInstances.FlatNaming.{IsWalked}
+use Rattle.click_expand.proofs.OfInstances.OutwardNames.{IsWalked}
 use Rattle.click_expand.proofs.instances.flat_names.outward.Given as goal
 
 abbrev pub invariant-loop-place : goal.invariant-loop-place

@@ -2,5 +2,5 @@ use Rattle.std.proofs.Common.{take}
 use Rattle.click_expand.specs.kept.Counted.{IsSum}
 use Rattle.click_expand.proofs.instances.sizes.scope_size.Given as goal
 
-abbrev pub invariant-loop-local : goal.invariant-loop-local
-invariant-loop-local l = IsSum l.sizes (take l.local-index l.locals) l.all
+abbrev pub invariant-loop-scope_element : goal.invariant-loop-scope_element
+invariant-loop-scope_element l = IsSum l.sizes (take l.scope_element-index l.scope_elements) l.all

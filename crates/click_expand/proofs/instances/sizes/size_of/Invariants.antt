@@ -1,5 +1,5 @@
 use Rattle.std.proofs.Common.{◌≡◌, length}
-use Rattle.click_expand.proofs.OfInstances.Weighing.{AreWeighed}
+use Rattle.click_expand.proofs.OfInstances.ScopeSizes.{AreWeighed}
 use Rattle.click_expand.proofs.instances.sizes.size_of.Given as goal
 
 abbrev pub invariant-loop-elements : goal.invariant-loop-elements

@@ -1,7 +1,7 @@
 use Rattle.std.proofs.Common.{◌≡◌, ◌<◌, ◌++◌, ◌∷◌, [], length, rules, sym, ap, ◌∙◌, subst, arith, length-append}
 use Rattle.click_expand.specs.kept.Buffered.{AreSteps, BeginWithin, weight}
 use Rattle.click_expand.specs.declared.texts.writing.TextStep.TheVariants as step
-use Rattle.click_expand.proofs.OfTexts.Buffering.{ends-keep, begin-pop, begin-last, kept-put, left-own, left-keep}
+use Rattle.click_expand.proofs.OfTexts.TextBuffer.{ends-keep, begin-pop, begin-last, kept-put, left-own, left-keep}
 use Rattle.click_expand.proofs.texts.writing.write_text.Goals as goal
 
 pub steps-smaller-in_ok-keep-in-Keep : goal.steps-smaller-in_ok-keep-in-Keep
@@ -27,11 +27,11 @@ steps-preserved-in_ok-keep-in-Keep c =
     }
 
 pub returns-then-not-branch-clause-full : goal.returns-then-not-branch-clause-full
-returns-then-not-branch-clause-full c _ places known leaves whole are h =
+returns-then-not-branch-clause-full c _ places known primitive_elements whole are h =
     let ss = c.pop.new.self.items in let text = c.steps.buffer.text.items in let before = c.args.buffer.now.text.items in let i = c.steps.invariant in
     let is : c.steps.steps.items ≡ ss ++ step.Read c.in-Read.reading ∷ [] = search rules in
-    let led = subst (λ z. AreSteps c.args.config.now known z text (before ++ whole)) is (i.left places known leaves whole are h) in
-    let l = c.in_ok-read_on-in-Read.ensures.full c.if-not-branch.true places known leaves (before ++ whole) are led in let r = i.room in
+    let led = subst (λ z. AreSteps c.args.config.now known z text (before ++ whole)) is (i.left places known primitive_elements whole are h) in
+    let l = c.in_ok-read_on-in-Read.ensures.full c.if-not-branch.true places known primitive_elements (before ++ whole) are led in let r = i.room in
     omega (arith, l, r, length-append before whole)
 
 pub steps-preserved : goal.steps-preserved
@@ -43,11 +43,11 @@ steps-preserved c =
       kept = k.kept;
       room = k.room ∙ i.room;
       begin = k.begin (begin-pop (length text) ss (step.Read c.in-Read.reading) (subst (BeginWithin (length text)) is i.begin));
-      left = λ places known leaves whole are h.
-          k.led c.if-not-branch.false places known leaves (before ++ whole) are (subst (λ z. AreSteps c.args.config.now known z text (before ++ whole)) is (i.left places known leaves whole are h));
+      left = λ places known primitive_elements whole are h.
+          k.led c.if-not-branch.false places known primitive_elements (before ++ whole) are (subst (λ z. AreSteps c.args.config.now known z text (before ++ whole)) is (i.left places known primitive_elements whole are h));
     }
 
 pub returns-clause-fits : goal.returns-clause-fits
-returns-clause-fits c _ places known leaves whole are h =
+returns-clause-fits c _ places known primitive_elements whole are h =
     let none : c.steps.steps.items ≡ [] = search rules in
-    sym (subst (λ z. AreSteps c.args.config.now known z c.steps.buffer.text.items (c.args.buffer.now.text.items ++ whole)) none (c.steps.invariant.left places known leaves whole are h))
+    sym (subst (λ z. AreSteps c.args.config.now known z c.steps.buffer.text.items (c.args.buffer.now.text.items ++ whole)) none (c.steps.invariant.left places known primitive_elements whole are h))

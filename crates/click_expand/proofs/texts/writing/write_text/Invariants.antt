@@ -1,6 +1,6 @@
 use Rattle.std.proofs.Common.{◌≡◌, ◌+◌, length}
 use Rattle.click_expand.specs.kept.Buffered.{AreKept, BeginWithin, weight}
-use Rattle.click_expand.proofs.OfTexts.Buffering.{AreLeft}
+use Rattle.click_expand.proofs.OfTexts.TextBuffer.{AreLeft}
 use Rattle.click_expand.proofs.texts.writing.write_text.Given as goal
 
 abbrev pub invariant-steps : goal.invariant-steps

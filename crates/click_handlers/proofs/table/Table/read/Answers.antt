@@ -1,6 +1,6 @@
 use Rattle.std.proofs.Common.{sym, ◌∙◌}
 use Rattle.click_handlers.specs.Names.{of_class}
-use Rattle.click_handlers.proofs.Listed.{found_row, no_row}
+use Rattle.click_handlers.proofs.RowLists.{found_row, no_row}
 use Rattle.click_handlers.proofs.table.Table.read.Goals as goal
 
 pub returns-then-is_read_row-clause-there : goal.returns-then-is_read_row-clause-there

@@ -1,6 +1,6 @@
 use Rattle.std.proofs.Common.{sym, ◌∙◌}
 use Rattle.click_handlers.specs.Names.{of_class}
-use Rattle.click_handlers.proofs.Listed.{found_row, no_row}
+use Rattle.click_handlers.proofs.RowLists.{found_row, no_row}
 use Rattle.click_handlers.proofs.table.Table.write.Goals as goal
 
 pub returns-then-is_write_row-clause-there : goal.returns-then-is_write_row-clause-there

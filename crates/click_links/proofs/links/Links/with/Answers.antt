@@ -15,7 +15,7 @@ invariant_of-result g c =
     let P : R → Type 0 = λ r. IsNewFeed r.intake in
     let old = c.args.self.receivers.items in
     let r = c.new-receiver.result in
-    let device : r.device ≡ c.args.name.now = c.new-receiver.ensures.0 ∙ c.in_ok-copy.ensures in
+    let device : r.device ≡ c.args.name.now = c.new-receiver.ensures.0 ∙ c.in_ok-copy_of.ensures in
     let intake : r.intake ≡ record { feed = c.in_ok-feed.feed; asked = [] } = c.new-receiver.ensures.1 ∙ c.of.ensures in
     let is : c.in_ok-feed.inlet ≡ F r =
     c.in_ok-feed.ensures.pair ∙ ap (λ d. named d c.in_ok-feed.feed.ring) (sym device) ∙ ap (λ (o : Offering). named r.device o.feed.ring) (sym intake) in

@@ -1,8 +1,8 @@
 use Rattle.std.proofs.Common.{◌≡◌, ◌+◌, ◌<◌, length, arith}
 use Rattle.click_ports.specs.kept.Wiring.{port_index}
 use Rattle.click_ports.specs.kept.LaidOut.{IsLaidOut}
-use Rattle.click_ports.proofs.Using.{has-within}
-use Rattle.click_ports.proofs.Places.{laid-seen, number-read}
+use Rattle.click_ports.proofs.PortUses.{has-within}
+use Rattle.click_ports.proofs.PortNumbers.{laid-seen, number-read}
 use Rattle.click_ports.proofs.layout.Layout.number.Goals as goal
 use Rattle.click_ports.proofs.layout.Layout.number.Goals.{After-self, After-ahead}
 

@@ -1,7 +1,7 @@
 use Rattle.std.proofs.Common.{sym, subst, List}
 use Rattle.click_ports.specs.declared.port.Port.{Port}
 use Rattle.click_ports.specs.kept.Wiring.{InPlace}
-use Rattle.click_ports.proofs.Places.{laid-seen}
+use Rattle.click_ports.proofs.PortNumbers.{laid-seen}
 use Rattle.click_ports.proofs.layout.Layout.ports.Goals as goal
 
 pub returns-clause-right : goal.returns-clause-right

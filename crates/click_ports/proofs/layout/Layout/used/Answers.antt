@@ -1,4 +1,4 @@
-use Rattle.click_ports.proofs.Places.{laid-seen, used-read}
+use Rattle.click_ports.proofs.PortNumbers.{laid-seen, used-read}
 use Rattle.click_ports.proofs.layout.Layout.used.Goals as goal
 
 pub returns-clause-value : goal.returns-clause-value

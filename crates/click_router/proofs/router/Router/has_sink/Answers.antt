@@ -1,7 +1,7 @@
 use Rattle.std.proofs.Common.{◌↔◌, IsTrue, IsSome, subst}
 use Rattle.click_engine.specs.Rounds.{sink_of}
 use Rattle.click_router.specs.State.{RouterState}
-use Rattle.click_router.proofs.Sources.{no_sink}
+use Rattle.click_router.proofs.OfCalls.DeviceSources.{no_sink}
 use Rattle.click_router.proofs.router.Router.has_sink.Goals as goal
 
 pub returns-clause-asked : goal.returns-clause-asked

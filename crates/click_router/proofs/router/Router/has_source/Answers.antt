@@ -1,7 +1,7 @@
 use Rattle.std.proofs.Common.{◌↔◌, IsTrue, IsSome, subst}
 use Rattle.click_engine.specs.Rounds.{source_of}
 use Rattle.click_router.specs.State.{RouterState}
-use Rattle.click_router.proofs.Sources.{no_device}
+use Rattle.click_router.proofs.OfCalls.DeviceSources.{no_device}
 use Rattle.click_router.proofs.router.Router.has_source.Goals as goal
 
 pub returns-clause-polled : goal.returns-clause-polled

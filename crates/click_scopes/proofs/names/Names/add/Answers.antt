@@ -1,7 +1,7 @@
 use Rattle.std.proofs.Common.{◌≡◌, ℕ, List, ◌∷◌, [], ◌++◌, ◌∙◌, ap, cond, map}
 use Rattle.std.specs.Str.{bytes_eq}
 use Rattle.click_scopes.specs.Elements.{has_name}
-use Rattle.click_scopes.proofs.Places.{added_map}
+use Rattle.click_scopes.proofs.OfLists.NamePlaces.{added_map}
 use Rattle.click_scopes.proofs.names.Names.add.Goals as goal
 
 pub returns-clause-added : goal.returns-clause-added

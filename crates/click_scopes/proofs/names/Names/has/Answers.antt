@@ -1,7 +1,7 @@
 use Rattle.std.proofs.Common.{sym, ◌∙◌, ap}
 use Rattle.std.specs.Str.{bytes_eq}
 use Rattle.click_scopes.specs.Elements.{has_name}
-use Rattle.click_scopes.proofs.Places.{any_map}
+use Rattle.click_scopes.proofs.OfLists.NamePlaces.{any_map}
 use Rattle.click_scopes.proofs.names.Names.has.Goals as goal
 
 pub returns : goal.returns

@@ -1,6 +1,6 @@
 use Rattle.std.proofs.Common.{sym, ◌∙◌, ap, position}
 use Rattle.std.specs.Str.{bytes_eq}
-use Rattle.click_scopes.proofs.Places.{position_map}
+use Rattle.click_scopes.proofs.OfLists.NamePlaces.{position_map}
 use Rattle.click_scopes.proofs.names.Names.place.Goals as goal
 
 pub returns : goal.returns

@@ -1,5 +1,5 @@
 use Rattle.std.proofs.Common.{◌+◌, arith}
-use Rattle.click_scopes.proofs.Porting.{used-add}
+use Rattle.click_scopes.proofs.OfConnections.UsedPorts.{used-add}
 use Rattle.click_scopes.proofs.ports.PortsInUse.add.Goals as goal
 
 pub returns-then-self-place : goal.returns-then-self-place

@@ -1,5 +1,5 @@
 use Rattle.std.proofs.Common.{refl, arith}
-use Rattle.click_scopes.proofs.Porting.{gap-found, gap-none}
+use Rattle.click_scopes.proofs.OfConnections.UsedPorts.{gap-found, gap-none}
 use Rattle.click_scopes.proofs.ports.PortsInUse.has_gap.Goals as goal
 
 pub returns : goal.returns

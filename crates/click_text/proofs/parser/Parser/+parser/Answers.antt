@@ -2,8 +2,8 @@ use Rattle.std.proofs.Common.{◌+◌, ◌∙◌, refl, arith}
 use Rattle.std.proofs.lemmas.Result.{err_from_is_err_and, IfOk-weaker, IfErr-weaker}
 use Rattle.std.proofs.lemmas.Grind.{common_steps}
 use Rattle.click_text.specs.kept.ParserStates.{inside, as_element, as_class, as_definition, of_head, between, statement_wanted, define, define_named, element_wanted, class_wanted, a_synonym}
-use Rattle.click_text.proofs.Takes.{begun_by, classed_by, define_on_by, stated_by, neither}
-use Rattle.click_text.proofs.Steps.{taken, refused, refused_at_end, same_step, stops_from, too_deep, opened, closed_at, lists, chain_first}
+use Rattle.click_text.proofs.OfParser.StateTokens.{begun_by, classed_by, define_on_by, stated_by, neither}
+use Rattle.click_text.proofs.OfParser.ParserSteps.{taken, refused, refused_at_end, same_step, stops_from, too_deep, opened, closed_at, lists, chain_first}
 use Rattle.click_text.proofs.parser.Parser.+parser.Goals as goal
 
 pub body-returns-then-depth-ge-MOST_OPEN-clause-stops : goal.body-returns-then-depth-ge-MOST_OPEN-clause-stops

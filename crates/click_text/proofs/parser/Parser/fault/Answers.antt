@@ -1,5 +1,5 @@
 use Rattle.std.proofs.Common.{inr}
-use Rattle.click_text.proofs.Outcomes.{refused_end, refused_token, deep_none, deep_token}
+use Rattle.click_text.proofs.OfParser.RunOutcomes.{refused_end, refused_token, deep_none, deep_token}
 use Rattle.click_text.proofs.parser.Parser.fault.Goals as goal
 
 pub returns-in-None : goal.returns-in-None

@@ -1,6 +1,6 @@
 use Rattle.std.proofs.Common.{refl, arith}
-use Rattle.click_text.proofs.Takes.{worded_by, otherwise}
-use Rattle.click_text.proofs.Steps.{taken, same_step, same_end}
+use Rattle.click_text.proofs.OfParser.StateTokens.{worded_by, otherwise}
+use Rattle.click_text.proofs.OfParser.ParserSteps.{taken, same_step, same_end}
 use Rattle.click_text.proofs.tokens.Tokens.double_colon.Goals as goal
 
 pub returns-in_default-clause-goes_on : goal.returns-in_default-clause-goes_on

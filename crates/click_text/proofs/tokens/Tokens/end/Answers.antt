@@ -1,6 +1,6 @@
 use Rattle.std.proofs.Common.{refl}
-use Rattle.click_text.proofs.Takes.{over_by, neither}
-use Rattle.click_text.proofs.Steps.{taken, refused, same_step, same_end}
+use Rattle.click_text.proofs.OfParser.StateTokens.{over_by, neither}
+use Rattle.click_text.proofs.OfParser.ParserSteps.{taken, refused, same_step, same_end}
 use Rattle.click_text.proofs.tokens.Tokens.end.Goals as goal
 
 pub returns-in_default-clause-goes_on : goal.returns-in_default-clause-goes_on

@@ -1,7 +1,7 @@
 use Rattle.std.proofs.Common.{[], refl, arith}
 use Rattle.click_text.specs.kept.ParserStates.{body_opened, formal_wanted}
-use Rattle.click_text.proofs.Takes.{unfolded_by, otherwise}
-use Rattle.click_text.proofs.Steps.{same_step, same_end}
+use Rattle.click_text.proofs.OfParser.StateTokens.{unfolded_by, otherwise}
+use Rattle.click_text.proofs.OfParser.ParserSteps.{same_step, same_end}
 use Rattle.click_text.proofs.tokens.Tokens.formals.Goals as goal
 
 pub returns-in_default-clause-goes_on : goal.returns-in_default-clause-goes_on

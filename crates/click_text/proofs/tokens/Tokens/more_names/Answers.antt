@@ -1,6 +1,6 @@
 use Rattle.std.proofs.Common.{refl}
-use Rattle.click_text.proofs.Takes.{names_by, neither}
-use Rattle.click_text.proofs.Steps.{taken, refused, refused_at_end}
+use Rattle.click_text.proofs.OfParser.StateTokens.{names_by, neither}
+use Rattle.click_text.proofs.OfParser.ParserSteps.{taken, refused, refused_at_end}
 use Rattle.click_text.proofs.tokens.Tokens.more_names.Goals as goal
 
 pub returns-in_default-clause-stops : goal.returns-in_default-clause-stops

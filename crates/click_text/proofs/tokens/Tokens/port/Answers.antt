@@ -1,8 +1,8 @@
 use Rattle.std.proofs.Common.{◌∙◌, None, refl, sym, arith}
 use Rattle.std.proofs.lemmas.Result.{err_from_is_err_and}
-use Rattle.click_text.proofs.Runs.{step_ported, finish_ported}
-use Rattle.click_text.proofs.Takes.{joined_by, bracketed_by, otherwise}
-use Rattle.click_text.proofs.Steps.{taken, refused, refused_at_end, same_step, same_end, stops_from}
+use Rattle.click_text.proofs.OfParser.GrammarRuns.{step_ported, finish_ported}
+use Rattle.click_text.proofs.OfParser.StateTokens.{joined_by, bracketed_by, otherwise}
+use Rattle.click_text.proofs.OfParser.ParserSteps.{taken, refused, refused_at_end, same_step, same_end, stops_from}
 use Rattle.click_text.proofs.tokens.Tokens.port.Goals as goal
 
 pub returns-in_default-clause-goes_on : goal.returns-in_default-clause-goes_on

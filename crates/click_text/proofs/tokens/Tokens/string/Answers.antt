@@ -1,8 +1,8 @@
 use Rattle.std.proofs.Common.{◌∙◌, None, refl, sym, arith}
 use Rattle.click_text.specs.Grammar.{element}
-use Rattle.click_text.proofs.Runs.{step_grown, finish_grown}
-use Rattle.click_text.proofs.Takes.{headed_by, listed_by, required_by, otherwise}
-use Rattle.click_text.proofs.Steps.{taken, same_step, same_end}
+use Rattle.click_text.proofs.OfParser.GrammarRuns.{step_grown, finish_grown}
+use Rattle.click_text.proofs.OfParser.StateTokens.{headed_by, listed_by, required_by, otherwise}
+use Rattle.click_text.proofs.OfParser.ParserSteps.{taken, same_step, same_end}
 use Rattle.click_text.proofs.tokens.Tokens.string.Goals as goal
 
 pub returns-in_default-clause-of_head : goal.returns-in_default-clause-of_head

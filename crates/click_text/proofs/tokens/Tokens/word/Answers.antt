@@ -1,6 +1,6 @@
 use Rattle.std.proofs.Common.{refl}
-use Rattle.click_text.proofs.Takes.{named_by, defined_by, otherwise}
-use Rattle.click_text.proofs.Steps.{taken, refused, refused_at_end}
+use Rattle.click_text.proofs.OfParser.StateTokens.{named_by, defined_by, otherwise}
+use Rattle.click_text.proofs.OfParser.ParserSteps.{taken, refused, refused_at_end}
 use Rattle.click_text.proofs.tokens.Tokens.word.Goals as goal
 
 pub returns-in_default-clause-stops : goal.returns-in_default-clause-stops

@@ -4,8 +4,8 @@ use Rattle.std.specs.Option.{IsSome}
 use Rattle.std.proofs.lemmas.Bool.{cases_Bool}
 use Rattle.click_expand.specs.kept.Wiring.{ends_or_none, ends_in, same_port}
 use Rattle.click_expand.specs.declared.connections.connection_index.ScopePort.{ScopePort}
-use Rattle.click_expand.proofs.OfConnections.Indexing.{port-exact}
-use Rattle.click_expand.proofs.OfConnections.Derived.{port-eq}
+use Rattle.click_expand.proofs.OfConnections.ConnectionIndex.{port-exact}
+use Rattle.click_expand.proofs.OfConnections.PortEquality.{port-eq}
 use Rattle.click_expand.proofs.connections.connection_index.ConnectionIndex.add.Goals as goal
 
 -- what stands at a port once these ends stand at one of them

@@ -3,8 +3,8 @@ use Rattle.std.specs.Map.{lookup}
 use Rattle.click_expand.specs.declared.connections.connection_index.ScopePort.{ScopePort}
 use Rattle.click_expand.specs.declared.connections.passthrough.ScopeShortcuts.{ScopeShortcuts}
 use Rattle.click_expand.specs.kept.Wiring.{ends_in, same_port}
-use Rattle.click_expand.proofs.OfConnections.Derived.{port-eq}
-use Rattle.click_expand.proofs.OfConnections.FoundShortcuts.{shortcut, found-first, found-other}
+use Rattle.click_expand.proofs.OfConnections.PortEquality.{port-eq}
+use Rattle.click_expand.proofs.OfConnections.ShortcutLists.{shortcut, found-first, found-other}
 use Rattle.click_expand.proofs.connections.passthrough.ScopeShortcuts.add.Goals as goal
 use Rattle.click_expand.proofs.connections.passthrough.ScopeShortcuts.add.Goals.{in-Some+in_ok-insert, in_default}
 

@@ -2,8 +2,8 @@ use Rattle.std.proofs.Common.{◌≡◌, ℕ, Bool, Option, Some, None, IfSome, 
 use Rattle.std.specs.Map.{lookup}
 use Rattle.click_expand.specs.declared.connections.connection_index.ScopePort.{ScopePort}
 use Rattle.click_expand.specs.kept.Wiring.{ends_in, same_port}
-use Rattle.click_expand.proofs.OfConnections.Derived.{port-eq}
-use Rattle.click_expand.proofs.OfConnections.FoundShortcuts.{like-first}
+use Rattle.click_expand.proofs.OfConnections.PortEquality.{port-eq}
+use Rattle.click_expand.proofs.OfConnections.ShortcutLists.{like-first}
 use Rattle.click_expand.proofs.connections.passthrough.ScopeShortcuts.like.Goals as goal
 
 pub returns-in-Some : goal.returns-in-Some

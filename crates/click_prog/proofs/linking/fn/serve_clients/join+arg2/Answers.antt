@@ -10,7 +10,7 @@ returns g c =
         gate = c.captures.gate.now;
         headline = rw names at h;
         work = rw names at w;
-        sent = s (quiet-behind g.B.Seats.Seating.sittings g.B.Seats.Seating.many (g.B.Beside.does c.captures.beside) c.requires.8 _ _ _ _ _ _ _ _ _ _ _ w);
+        sent = s (quiet-behind g.B.Seats.SeatGroup.sittings g.B.Seats.SeatGroup.many (g.B.Beside.does c.captures.beside) c.requires.8 _ _ _ _ _ _ _ _ _ _ _ w);
         links = l;
       }) c.run_linked_beside-ran.result c.run_linked_beside-ran.ensures.headline c.run_linked_beside-ran.ensures.work c.run_linked_beside-ran.ensures.sent c.run_linked_beside-ran.ensures.links;
       config = rw names at c.run_linked_beside-ran.ensures.config;

@@ -1,0 +1,3 @@
+pub mod BlanksAround
+pub mod ClassNames
+pub mod LastDot

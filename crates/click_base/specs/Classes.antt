@@ -1,0 +1,51 @@
+-- The classes, their order and their names (Click element reference).
+use Rattle.std.specs.Prelude.{ℕ, List, [], ◌∷◌, codes, find, Option}
+use Rattle.std.specs.Str.{bytes_eq}
+use Rattle.click_base.specs.declared.class.Class.{Class}
+use Rattle.click_base.specs.declared.class.Class.TheVariants as class
+
+-- the thirty classes in the order of the reference
+abbrev pub classes : List Class
+classes =
+    class.Queue ∷ class.FrontDropQueue ∷ class.Unqueue ∷ class.Counter ∷ class.Switch ∷ class.PullSwitch ∷ class.RoundRobinSwitch ∷
+    class.RoundRobinSched ∷ class.PrioSched ∷ class.Tee ∷ class.PullTee ∷ class.Idle ∷ class.Discard ∷ class.Null ∷ class.PushNull ∷
+    class.PullNull ∷ class.Suppressor ∷ class.Paint ∷ class.PaintTee ∷ class.Strip ∷ class.CheckLength ∷ class.Classifier ∷
+    class.GetIPAddress ∷ class.StaticIPLookup ∷ class.CheckIPHeader ∷ class.DecIPTTL ∷ class.EtherEncap ∷ class.InfiniteSource ∷
+    class.FromDevice ∷ class.ToDevice ∷ []
+
+-- a class's name, as configurations write it
+abbrev pub name : Class → List ℕ
+name class.Queue = codes "Queue"
+name class.FrontDropQueue = codes "FrontDropQueue"
+name class.Unqueue = codes "Unqueue"
+name class.Counter = codes "Counter"
+name class.Switch = codes "Switch"
+name class.PullSwitch = codes "PullSwitch"
+name class.RoundRobinSwitch = codes "RoundRobinSwitch"
+name class.RoundRobinSched = codes "RoundRobinSched"
+name class.PrioSched = codes "PrioSched"
+name class.Tee = codes "Tee"
+name class.PullTee = codes "PullTee"
+name class.Idle = codes "Idle"
+name class.Discard = codes "Discard"
+name class.Null = codes "Null"
+name class.PushNull = codes "PushNull"
+name class.PullNull = codes "PullNull"
+name class.Suppressor = codes "Suppressor"
+name class.Paint = codes "Paint"
+name class.PaintTee = codes "PaintTee"
+name class.Strip = codes "Strip"
+name class.CheckLength = codes "CheckLength"
+name class.Classifier = codes "Classifier"
+name class.GetIPAddress = codes "GetIPAddress"
+name class.StaticIPLookup = codes "StaticIPLookup"
+name class.CheckIPHeader = codes "CheckIPHeader"
+name class.DecIPTTL = codes "DecIPTTL"
+name class.EtherEncap = codes "EtherEncap"
+name class.InfiniteSource = codes "InfiniteSource"
+name class.FromDevice = codes "FromDevice"
+name class.ToDevice = codes "ToDevice"
+
+-- the class of that name
+unfoldable pub class_of : List ℕ → Option Class
+class_of text = find (λ c. bytes_eq (name c) text) classes

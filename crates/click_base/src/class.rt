@@ -1,0 +1,121 @@
+//! The classes and their names.
+
+ghost use Rattle.std.specs.Prelude.{◌≡◌};
+ghost use Rattle.click_base.specs.Classes.{name, class_of};
+
+/// A class of elements (Click element reference).
+#[derive(Clone, Copy, Debug, PartialEq, Eq)]
+pub enum Class {
+    Queue,
+    FrontDropQueue,
+    Unqueue,
+    Counter,
+    Switch,
+    PullSwitch,
+    RoundRobinSwitch,
+    RoundRobinSched,
+    PrioSched,
+    Tee,
+    PullTee,
+    Idle,
+    Discard,
+    Null,
+    PushNull,
+    PullNull,
+    Suppressor,
+    Paint,
+    PaintTee,
+    Strip,
+    CheckLength,
+    Classifier,
+    GetIPAddress,
+    StaticIPLookup,
+    CheckIPHeader,
+    DecIPTTL,
+    EtherEncap,
+    InfiniteSource,
+    FromDevice,
+    ToDevice,
+}
+
+/// The classes in the order of the reference.
+pub const CLASSES: [Class; 30] = [
+    Class::Queue,
+    Class::FrontDropQueue,
+    Class::Unqueue,
+    Class::Counter,
+    Class::Switch,
+    Class::PullSwitch,
+    Class::RoundRobinSwitch,
+    Class::RoundRobinSched,
+    Class::PrioSched,
+    Class::Tee,
+    Class::PullTee,
+    Class::Idle,
+    Class::Discard,
+    Class::Null,
+    Class::PushNull,
+    Class::PullNull,
+    Class::Suppressor,
+    Class::Paint,
+    Class::PaintTee,
+    Class::Strip,
+    Class::CheckLength,
+    Class::Classifier,
+    Class::GetIPAddress,
+    Class::StaticIPLookup,
+    Class::CheckIPHeader,
+    Class::DecIPTTL,
+    Class::EtherEncap,
+    Class::InfiniteSource,
+    Class::FromDevice,
+    Class::ToDevice,
+];
+
+impl Class {
+    /// The name that configurations write.
+    pub fn name(self) -> &'static [u8]
+        ensures { result.now ≡ name self }
+    {
+        match self {
+            Class::Queue => b"Queue",
+            Class::FrontDropQueue => b"FrontDropQueue",
+            Class::Unqueue => b"Unqueue",
+            Class::Counter => b"Counter",
+            Class::Switch => b"Switch",
+            Class::PullSwitch => b"PullSwitch",
+            Class::RoundRobinSwitch => b"RoundRobinSwitch",
+            Class::RoundRobinSched => b"RoundRobinSched",
+            Class::PrioSched => b"PrioSched",
+            Class::Tee => b"Tee",
+            Class::PullTee => b"PullTee",
+            Class::Idle => b"Idle",
+            Class::Discard => b"Discard",
+            Class::Null => b"Null",
+            Class::PushNull => b"PushNull",
+            Class::PullNull => b"PullNull",
+            Class::Suppressor => b"Suppressor",
+            Class::Paint => b"Paint",
+            Class::PaintTee => b"PaintTee",
+            Class::Strip => b"Strip",
+            Class::CheckLength => b"CheckLength",
+            Class::Classifier => b"Classifier",
+            Class::GetIPAddress => b"GetIPAddress",
+            Class::StaticIPLookup => b"StaticIPLookup",
+            Class::CheckIPHeader => b"CheckIPHeader",
+            Class::DecIPTTL => b"DecIPTTL",
+            Class::EtherEncap => b"EtherEncap",
+            Class::InfiniteSource => b"InfiniteSource",
+            Class::FromDevice => b"FromDevice",
+            Class::ToDevice => b"ToDevice",
+        }
+    }
+}
+
+/// The class of that name.
+#[tactic(auto, unfolding(crate::specs::Classes::class_of))]
+pub fn class_of(name: &[u8]) -> Option<Class>
+    ensures { result ≡ class_of name.now }
+{
+    CLASSES.iter().copied().find(|class| class.name() == name)
+}

@@ -1,0 +1,17 @@
+//! Names of two parts with a dot between, as `element.handler` (Click manual, "Handlers").
+
+ghost use Rattle.std.specs.Prelude.{◌≡◌, is_some, IfSome};
+ghost use Rattle.std.specs.List.{list_any, before_last, after_last};
+ghost use Rattle.click_base.specs.Dotted.{is_dot};
+
+use memchr::memrchr;
+
+/// The two parts of a name, parted by its last dot: none where it has no dot.
+pub fn split(name: &[u8]) -> Option<(&[u8], &[u8])>
+    ensures dot { is_some result ≡ list_any is_dot name.now }
+    ensures front { IfSome result (λ parts. parts.0.now ≡ before_last is_dot name.now) }
+    ensures back { IfSome result (λ parts. parts.1.now ≡ after_last is_dot name.now) }
+{
+    let dot = memrchr(b'.', name)?;
+    Some((&name[..dot], &name[dot + 1..]))
+}

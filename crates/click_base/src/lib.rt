@@ -1,0 +1,12 @@
+//! What every layer stands on: the element classes by name, lists that contracts see, blanks, and dotted names.
+#![tactic(auto)]
+
+mod blanks;
+mod class;
+mod dotted;
+pub mod laws;
+pub mod sequence;
+
+pub use blanks::{is_blank, trimmed, without_front};
+pub use class::{CLASSES, Class, class_of};
+pub use dotted::split;

@@ -1,0 +1,161 @@
+-- The ports that an element names are there.
+use Rattle.std.proofs.Common.{◌≡◌, ℕ, ◌+◌, ◌<◌, ◌≤◌, List, [], ◌∷◌, length, take, ◌==◌, nat_lt, Bool, true, false, Option, Some, None, if◌then◌else◌, min, max, refl, sym, ap, ◌∙◌, arith}
+use Rattle.std.specs.Prelude.{position}
+use Rattle.std.proofs.Math.Nat.{le-max_left, le-max_right}
+use Rattle.std.proofs.lemmas.Bool.{cond_both}
+use Rattle.std.proofs.lemmas.Bool.Decides.{nat_tests}
+use Rattle.std.proofs.lemmas.List.{length-take}
+use Rattle.std.proofs.lemmas.List.Quantifiers.{position-Some}
+use Rattle.click_packet.specs.Packet.{Packet}
+use Rattle.click_classes.specs.Acts.{act, pass, gives, pushed_to, copied_to, is_active, front_dropped, switched, routed, classified, tries, PushEffect}
+use Rattle.click_classes.specs.Ports.{outputs_for}
+use Rattle.click_classes.specs.Fitting.{FitsPorts, AreThere, AreAsked}
+use Rattle.click_classes.specs.Matches.{matches}
+use Rattle.click_classes.specs.PacketList.{PacketList}
+use Rattle.click_classes.specs.Routes.{route, covers, longer}
+use Rattle.click_classes.specs.declared.packet_effects.Verdict.{Verdict}
+use Rattle.click_classes.specs.declared.packet_effects.Verdict.TheVariants as verdict
+use Rattle.click_classes.specs.declared.state.State.{State}
+use Rattle.click_classes.specs.declared.state.State.TheVariants as state
+use Rattle.click_classes.specs.declared.values.entry.Entry.{Entry}
+use Rattle.click_classes.specs.declared.values.pattern.Pattern.{Pattern}
+
+-- ---- by the packet's fate
+
+pushed-there : (outputs : ℕ) (f : Verdict) → 1 ≤ outputs → AreThere outputs (pushed_to outputs f)
+pushed-there outputs verdict.Forward h c = h
+pushed-there outputs verdict.Copied h c = grind (arith, nat_tests)
+pushed-there outputs verdict.SideOutput h c = grind (arith, nat_tests)
+pushed-there outputs verdict.Dropped h c = omega (arith, c)
+
+copied-there : (outputs : ℕ) (f : Verdict) → AreThere outputs (copied_to outputs f)
+copied-there outputs verdict.Forward c = omega (arith, c)
+copied-there outputs verdict.Copied c = grind (arith, nat_tests)
+copied-there outputs verdict.SideOutput c = grind (arith, nat_tests)
+copied-there outputs verdict.Dropped c = omega (arith, c)
+
+-- ---- by what the state says
+
+either-there : (outputs : ℕ) (b : Bool) (x y : PushEffect) → AreThere outputs x.outputs → AreThere outputs y.outputs → AreThere outputs (if b then x else y).outputs
+either-there outputs b x y e f = cond_both b x y (λ (r : PushEffect). AreThere outputs r.outputs) (λ t. e) (λ t. f)
+
+dropped-there : (outputs : ℕ) (ps : List Packet) (q : PacketList) (drops highest : ℕ) (p : Packet) → AreThere outputs (front_dropped ps q drops highest p).outputs
+dropped-there outputs [] q drops highest p c = omega (arith, c)
+dropped-there outputs (first ∷ rest) q drops highest p c = omega (arith, c)
+
+switched-there : (outputs : ℕ) (s : State) (o : Option ℕ) (p : Packet) → ((k : ℕ) → o ≡ Some k → k + 1 ≤ outputs) → AreThere outputs (switched s o p).outputs
+switched-there outputs s None p h c = omega (arith, c)
+switched-there outputs s (Some k) p h c = h k refl
+
+classified-below : (ps : List Pattern) (bytes : List ℕ) (k : ℕ) → classified ps bytes ≡ Some k → k + 1 ≤ min (length ps) 65535
+classified-below ps bytes k e = go (take 256 ps) refl
+  where
+    go : (qs : List Pattern) → take 256 ps ≡ qs → k + 1 ≤ min (length ps) 65535
+    go [] is = absurd (cc (ap (λ xs. position (λ q. matches q bytes) xs) (sym is) ∙ e))
+    go (q ∷ qs) is =
+        let inside = (position-Some (λ r. matches r bytes) (take 256 ps) k q e).0 in
+        grind (arith, nat_tests, inside, length-take 256 ps)
+
+-- an entry that is the first or one of the rest names an output that is counted
+module _ (f e : Entry) (fs : List Entry) (a : List ℕ) (rest : route fs a ≡ Some e → e.output + 1 ≤ outputs_for fs) where
+  abbrev most : ℕ
+  most = max (f.output + 1) (outputs_for fs)
+
+  later : route fs a ≡ Some e → e.output + 1 ≤ most
+  later k = omega (arith, rest k, le-max_right (f.output + 1) (outputs_for fs))
+
+  here : f ≡ e → e.output + 1 ≤ most
+  here k = omega (arith, ap (λ (x : Entry). x.output) k, le-max_left (f.output + 1) (outputs_for fs))
+
+  of_two : (o : Option Entry) → route fs a ≡ o → longer f o ≡ e → e.output + 1 ≤ most
+  of_two None r k = here k
+  of_two (Some g) r k = by_len (nat_lt f.prefix.len g.prefix.len) refl
+    where
+      by_len : (b : Bool) → nat_lt f.prefix.len g.prefix.len ≡ b → e.output + 1 ≤ most
+      by_len true t = later (r ∙ ap (λ x. Some x) (let s : longer f (Some g) ≡ g = rw t refl in sym s ∙ k))
+      by_len false t = here (let s : longer f (Some g) ≡ f = rw t refl in sym s ∙ k)
+
+  by_first : (b : Bool) → covers f.prefix a ≡ b → route (f ∷ fs) a ≡ Some e → e.output + 1 ≤ most
+  by_first true t h = let s : Some (longer f (route fs a)) ≡ route (f ∷ fs) a = rw t refl in of_two (route fs a) refl (let u : Some (longer f (route fs a)) ≡ Some e = s ∙ h in cc u)
+  by_first false t h = let s : route fs a ≡ route (f ∷ fs) a = rw t refl in later (s ∙ h)
+
+found-output : (es : List Entry) (a : List ℕ) (e : Entry) → route es a ≡ Some e → e.output + 1 ≤ outputs_for es
+found-output [] a e h = absurd (cc h)
+found-output (f ∷ fs) a e h = by_first f e fs a (λ k. found-output fs a e k) (covers f.prefix a) refl h
+
+routed-there : (outputs : ℕ) (s : State) (o : Option Entry) (p : Packet) → ((e : Entry) → o ≡ Some e → e.output + 1 ≤ outputs) → AreThere outputs (routed s o p).outputs
+routed-there outputs s None p h c = omega (arith, c)
+routed-there outputs s (Some e) p h c = h e refl
+
+pub act-there : (inputs outputs input : ℕ) (s : State) (p : Packet) → FitsPorts inputs outputs s → input < inputs → AreThere outputs (act outputs s input p).outputs
+unfolding act pass
+act-there inputs outputs input (state.Queue q drops highest) p h i c = either-there outputs (length q.packets == q.capacity) _ _ (λ k. omega (arith, k)) (λ k. omega (arith, k)) c
+act-there inputs outputs input (state.FrontDropQueue q drops highest) p h i c =
+    either-there outputs (length q.packets == q.capacity) _ _ (dropped-there outputs q.packets q drops highest p) (λ c. omega (arith, c)) c
+act-there inputs outputs input (state.Switch None) p h i c = omega (arith, c)
+act-there inputs outputs input (state.Switch (Some k)) p h i c = h.outputs_from
+act-there inputs outputs input (state.RoundRobinSwitch next) p h i c = omega (arith, h.turn)
+act-there inputs outputs input (state.Tee n) p h i c = omega arith
+act-there inputs outputs input (state.Suppressor active) p h i c =
+    either-there outputs (is_active active input) _ _ (λ c. omega (arith, i, h.equal refl)) (λ c. omega (arith, c)) c
+act-there inputs outputs input (state.Classifier ps) p h i c =
+    switched-there outputs (state.Classifier ps) (classified ps p.bytes) p (λ k e. omega (arith, h.outputs_from, classified-below ps p.bytes k e)) c
+act-there inputs outputs input (state.StaticIPLookup es) p h i c =
+    routed-there outputs (state.StaticIPLookup es) (route es p.destination) p (λ e k. omega (arith, h.outputs_from, found-output es p.destination e k)) c
+act-there inputs outputs input state.Unqueue p h i c = pushed-there outputs verdict.Dropped h.outputs_from c
+act-there inputs outputs input (state.Counter n b) p h i c = pushed-there outputs verdict.Forward h.outputs_from c
+act-there inputs outputs input (state.PullSwitch k) p h i c = pushed-there outputs verdict.Dropped h.outputs_from c
+act-there inputs outputs input (state.RoundRobinSched n) p h i c = pushed-there outputs verdict.Dropped h.outputs_from c
+act-there inputs outputs input state.PrioSched p h i c = pushed-there outputs verdict.Dropped h.outputs_from c
+act-there inputs outputs input (state.PullTee n) p h i c = omega (arith, c)
+act-there inputs outputs input state.Idle p h i c = omega (arith, c)
+act-there inputs outputs input state.Discard p h i c = omega (arith, c)
+act-there inputs outputs input state.Null p h i c = pushed-there outputs verdict.Forward h.outputs_from c
+act-there inputs outputs input state.PushNull p h i c = pushed-there outputs verdict.Forward h.outputs_from c
+act-there inputs outputs input state.PullNull p h i c = pushed-there outputs verdict.Forward h.outputs_from c
+act-there inputs outputs input (state.Paint k) p h i c = pushed-there outputs verdict.Forward h.outputs_from c
+act-there inputs outputs input (state.PaintTee k) p h i c = pushed-there outputs (pass (state.PaintTee k) p).verdict h.outputs_from c
+act-there inputs outputs input (state.Strip n) p h i c = pushed-there outputs verdict.Forward h.outputs_from c
+act-there inputs outputs input (state.CheckLength n) p h i c = pushed-there outputs (pass (state.CheckLength n) p).verdict h.outputs_from c
+act-there inputs outputs input (state.GetIPAddress n) p h i c = pushed-there outputs verdict.Forward h.outputs_from c
+act-there inputs outputs input (state.CheckIPHeader rs) p h i c = pushed-there outputs (pass (state.CheckIPHeader rs) p).verdict h.outputs_from c
+act-there inputs outputs input state.DecIPTTL p h i c = pushed-there outputs (pass state.DecIPTTL p).verdict h.outputs_from c
+act-there inputs outputs input (state.EtherEncap header) p h i c = pushed-there outputs (pass (state.EtherEncap header) p).verdict h.outputs_from c
+act-there inputs outputs input (state.InfiniteSource b l u a n) p h i c = pushed-there outputs verdict.Dropped h.outputs_from c
+act-there inputs outputs input (state.FromDevice d) p h i c = pushed-there outputs verdict.Dropped h.outputs_from c
+act-there inputs outputs input (state.ToDevice d) p h i c = omega (arith, c)
+
+pub gives-there : (inputs outputs input : ℕ) (s : State) (p : Packet) → AreThere outputs (gives inputs outputs s input p).copies
+unfolding gives
+gives-there inputs outputs input (state.PullSwitch k) p c = omega (arith, c)
+gives-there inputs outputs input (state.RoundRobinSched n) p c = omega (arith, c)
+gives-there inputs outputs input state.PrioSched p c = omega (arith, c)
+gives-there inputs outputs input (state.Suppressor active) p c = omega (arith, c)
+gives-there inputs outputs input (state.PullTee n) p c = omega (arith, c)
+gives-there inputs outputs input s p c = copied-there outputs (pass s p).verdict c
+
+at_most_one : (b : Bool) → (if b then 1 else 0) ≤ 1
+at_most_one true = omega arith
+at_most_one false = omega arith
+
+pub tries-there : (inputs outputs output : ℕ) (s : State) → FitsPorts inputs outputs s → output < outputs → AreAsked inputs (tries inputs s output)
+unfolding tries
+tries-there inputs outputs output (state.PullSwitch None) h o c = absurd (omega (arith, c))
+tries-there inputs outputs output (state.PullSwitch (Some k)) h o c = (omega (arith, h.inputs_from), omega (arith, h.inputs_from))
+tries-there inputs outputs output (state.RoundRobinSched n) h o c = (h.turn, omega arith)
+tries-there inputs outputs output state.PrioSched h o c = (omega (arith, c), omega arith)
+tries-there inputs outputs output (state.PullTee n) h o c = (omega (arith, h.inputs_from), omega (arith, h.inputs_from))
+tries-there inputs outputs output (state.Suppressor active) h o c =
+    let same = h.equal refl in (omega (arith, o, same), (let one : (if is_active active output then 1 else 0) ≤ 1 = at_most_one (is_active active output) in omega (arith, o, same, one)))
+tries-there inputs outputs output (state.Counter n b) h o c = (omega (arith, h.inputs_from), omega (arith, h.inputs_from))
+tries-there inputs outputs output state.Null h o c = (omega (arith, h.inputs_from), omega (arith, h.inputs_from))
+tries-there inputs outputs output state.PullNull h o c = (omega (arith, h.inputs_from), omega (arith, h.inputs_from))
+tries-there inputs outputs output (state.Paint k) h o c = (omega (arith, h.inputs_from), omega (arith, h.inputs_from))
+tries-there inputs outputs output (state.PaintTee k) h o c = (omega (arith, h.inputs_from), omega (arith, h.inputs_from))
+tries-there inputs outputs output (state.Strip n) h o c = (omega (arith, h.inputs_from), omega (arith, h.inputs_from))
+tries-there inputs outputs output (state.CheckLength n) h o c = (omega (arith, h.inputs_from), omega (arith, h.inputs_from))
+tries-there inputs outputs output (state.GetIPAddress n) h o c = (omega (arith, h.inputs_from), omega (arith, h.inputs_from))
+tries-there inputs outputs output (state.CheckIPHeader rs) h o c = (omega (arith, h.inputs_from), omega (arith, h.inputs_from))
+tries-there inputs outputs output state.DecIPTTL h o c = (omega (arith, h.inputs_from), omega (arith, h.inputs_from))
+tries-there inputs outputs output (state.EtherEncap header) h o c = (omega (arith, h.inputs_from), omega (arith, h.inputs_from))
+tries-there inputs outputs output s h o c = absurd (omega (arith, c))

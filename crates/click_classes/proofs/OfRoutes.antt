@@ -1,0 +1,8 @@
+-- Tables of routes: their rows (`RouteTables`, `TableRows`, `PrefixLengths`), the longest first (`EntryOrder`), and the route of an address
+-- (`LongestRoute`, `OneRoute`).
+pub mod EntryOrder
+pub mod LongestRoute
+pub mod OneRoute
+pub mod PrefixLengths
+pub mod RouteTables
+pub mod TableRows

@@ -1,0 +1,94 @@
+-- Packets keep an element's settings.
+use Rattle.std.proofs.Common.{◌≡◌, ℕ, ◌+◌, List, [], ◌∷◌, length, ◌==◌, nat_le, Bool, true, false, Option, Some, None, if◌then◌else◌, refl, sym, ap, ◌∙◌}
+use Rattle.std.proofs.lemmas.Bool.{cond_both}
+use Rattle.click_packet.specs.Header.{ttl}
+use Rattle.click_packet.specs.Packet.{Packet}
+use Rattle.click_classes.specs.Acts.{act, pass, gives, stored, emission, is_active, front_dropped, switched, routed, classified, aged, first_of, fresh_packet, up_by, PassEffect, PushEffect, Stored}
+use Rattle.click_classes.specs.Routes.{route}
+use Rattle.click_classes.specs.PacketList.{PacketList}
+use Rattle.click_classes.specs.Settings.{settings}
+use Rattle.click_classes.specs.State.{class}
+use Rattle.click_classes.specs.declared.state.State.{State}
+use Rattle.click_classes.specs.declared.state.State.TheVariants as state
+use Rattle.click_classes.specs.declared.values.entry.Entry.{Entry}
+
+-- one of two results that both keep them
+acts : (s : State) (b : Bool) (x y : PushEffect) → settings x.state ≡ settings s → settings y.state ≡ settings s → settings (if b then x else y).state ≡ settings s
+acts s b x y e f = cond_both b x y (λ (r : PushEffect). settings r.state ≡ settings s) (λ t. e) (λ t. f)
+
+passes : (s : State) (b : Bool) (x y : PassEffect) → settings x.state ≡ settings s → settings y.state ≡ settings s → settings (if b then x else y).state ≡ settings s
+passes s b x y e f = cond_both b x y (λ (r : PassEffect). settings r.state ≡ settings s) (λ t. e) (λ t. f)
+
+aged-settings : (p : Packet) (hops : Option ℕ) → settings (aged p hops).state ≡ settings state.DecIPTTL
+aged-settings p None = refl
+aged-settings p (Some hops) = passes state.DecIPTTL (nat_le hops 1) _ _ refl refl
+
+pub pass-settings : (s : State) (p : Packet) → settings (pass s p).state ≡ settings s
+unfolding pass
+pass-settings state.DecIPTTL p = aged-settings p (ttl p.bytes)
+pass-settings (state.EtherEncap header) p = passes (state.EtherEncap header) (nat_le (length header + length p.bytes) 1600) _ _ refl refl
+pass-settings _ p = refl
+
+front_dropped-settings : (ps : List Packet) (q : PacketList) (drops highest : ℕ) (p : Packet)
+    → settings (front_dropped ps q drops highest p).state ≡ settings (state.FrontDropQueue q drops highest)
+front_dropped-settings [] q drops highest p = refl
+front_dropped-settings (first ∷ rest) q drops highest p = refl
+
+switched-settings : (s : State) (o : Option ℕ) (p : Packet) → settings (switched s o p).state ≡ settings s
+switched-settings s None p = refl
+switched-settings s (Some output) p = refl
+
+routed-settings : (s : State) (o : Option Entry) (p : Packet) → settings (routed s o p).state ≡ settings s
+routed-settings s None p = refl
+routed-settings s (Some e) p = refl
+
+pub act-settings : (outputs input : ℕ) (s : State) (p : Packet) → settings (act outputs s input p).state ≡ settings s
+unfolding act
+act-settings outputs input (state.Queue q drops highest) p = acts (state.Queue q drops highest) (length q.packets == q.capacity) _ _ refl refl
+act-settings outputs input (state.FrontDropQueue q drops highest) p =
+    acts (state.FrontDropQueue q drops highest) (length q.packets == q.capacity) _ _ (front_dropped-settings q.packets q drops highest p) refl
+act-settings outputs input (state.Switch output) p = switched-settings (state.Switch output) output p
+act-settings outputs input (state.RoundRobinSwitch next) p = refl
+act-settings outputs input (state.Tee n) p = refl
+act-settings outputs input (state.Suppressor active) p = acts (state.Suppressor active) (is_active active input) _ _ refl refl
+act-settings outputs input (state.Classifier patterns) p = switched-settings (state.Classifier patterns) (classified patterns p.bytes) p
+act-settings outputs input (state.StaticIPLookup entries) p = routed-settings (state.StaticIPLookup entries) (route entries p.destination) p
+act-settings outputs input s p = pass-settings s p
+
+pub gives-settings : (inputs outputs input : ℕ) (s : State) (p : Packet) → settings (gives inputs outputs s input p).state ≡ settings s
+unfolding gives
+gives-settings inputs outputs input (state.PullSwitch from) p = refl
+gives-settings inputs outputs input (state.RoundRobinSched next) p = refl
+gives-settings inputs outputs input state.PrioSched p = refl
+gives-settings inputs outputs input (state.Suppressor active) p = refl
+gives-settings inputs outputs input (state.PullTee n) p = refl
+gives-settings inputs outputs input s p = pass-settings s p
+
+first_of-settings : (s : State) (ps : List Packet) (with_rest : List Packet → State) → ((rest : List Packet) → settings (with_rest rest) ≡ settings s)
+    → (e : Stored) → first_of ps with_rest ≡ Some e → settings e.state ≡ settings s
+first_of-settings s [] with_rest h e is = cc
+first_of-settings s (p ∷ rest) with_rest h e is =
+    let same : ◌≡◌ {A = Stored} (record { packet = p; state = with_rest rest }) e = cc in
+    ap (λ (x : Stored). settings x.state) (sym same) ∙ h rest
+
+pub stored-settings : (s : State) (e : Stored) → stored s ≡ Some e → settings e.state ≡ settings s
+unfolding stored
+stored-settings (state.Queue q drops highest) e is = first_of-settings (state.Queue q drops highest) q.packets _ (λ rest. refl) e is
+stored-settings (state.FrontDropQueue q drops highest) e is = first_of-settings (state.FrontDropQueue q drops highest) q.packets _ (λ rest. refl) e is
+stored-settings _ e is = cc
+
+pub one_of : (o : Option Stored) (X : Stored → Type 0) → ((x : Stored) → o ≡ Some x → X x) → (b : Bool) (e : Stored) → (if b then o else None) ≡ Some e → X e
+one_of o X h true e is = h e is
+one_of o X h false e is = cc
+
+pub emission-settings : (s : State) (e : Stored) → emission s ≡ Some e → settings e.state ≡ settings s
+unfolding emission
+emission-settings (state.InfiniteSource bytes limit burst active count) e is =
+    let next : Stored = record { packet = fresh_packet bytes; state = state.InfiniteSource bytes limit burst active (up_by count 1) } in
+    one_of (Some next) (λ (x : Stored). settings x.state ≡ state.InfiniteSource bytes limit burst active 0)
+    (λ x same. let is_next : next ≡ x = cc in ap (λ (y : Stored). settings y.state) (sym is_next)) _ e is
+emission-settings _ e is = cc
+
+pub class-settings : (s : State) → class (settings s) ≡ class s
+class-settings (state.Queue q drops highest) = refl
+class-settings _ = refl

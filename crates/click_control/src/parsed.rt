@@ -1,0 +1,189 @@
+//! What a line says.
+
+ghost use Rattle.std.specs.Prelude.{◌≡◌, ◌≤◌, length, not, IfOk, Some};
+ghost use Rattle.std.specs.List.{prefix_len};
+ghost use Rattle.std.specs.Str.{str_eq_ignore_ascii_case};
+ghost use Rattle.click_base.specs.Blanks.{is_blank, trimmed};
+ghost use Rattle.click_control.specs.Commands.{first_word, after_word, second_word, third_word, parse_line, parse_text, parse_check, parse_data, payload_line, text_command, check_command};
+ghost use Rattle.click_control.specs.kept.Lines.{says, bad_count};
+
+use crate::command::Command;
+use crate::direction::Direction;
+use click_base::sequence::Sequence;
+use click_base::{is_blank, trimmed, without_front};
+use click_classes::{ArgFault, decimal_number};
+use std::alloc::{AllocError, Global};
+
+/// How many bytes a payload may have.
+const LONGEST_PAYLOAD: u64 = 1_048_576;
+
+/// What a line says.
+#[derive(Drop)]
+pub enum ParsedLine {
+    /// Nothing.
+    Blank,
+    /// A command that needs no more than the line.
+    Whole(Command),
+    /// A payload of so many bytes, one at least, is to come for a handler.
+    Announces {
+        direction: Direction,
+        handler: Sequence<u8>,
+        count: usize,
+    },
+}
+
+/// What a line says.
+pub fn parse_line(alloc: Global, line: &[u8]) -> Result<ParsedLine, AllocError>
+    ensures { IfOk result (λ parsed. says parsed ≡ parse_line line.now) }
+{
+    let (word, rest) = cut(line);
+    if word.is_empty() {
+        Ok(ParsedLine::Blank)
+    } else if is_word(word, b"READ") {
+        parse_text(alloc, Direction::Read, rest)
+    } else if is_word(word, b"WRITE") {
+        parse_text(alloc, Direction::Write, rest)
+    } else if is_word(word, b"READDATA") {
+        parse_data(alloc, Direction::Read, rest)
+    } else if is_word(word, b"WRITEDATA") {
+        parse_data(alloc, Direction::Write, rest)
+    } else if is_word(word, b"CHECKREAD") {
+        parse_check(alloc, Direction::Read, rest)
+    } else if is_word(word, b"CHECKWRITE") {
+        parse_check(alloc, Direction::Write, rest)
+    } else if is_word(word, b"QUIT") {
+        Ok(ParsedLine::Whole(Command::Quit))
+    } else {
+        Ok(ParsedLine::Whole(Command::Unknown {
+            word: Sequence::copy_of(alloc, word)?,
+        }))
+    }
+}
+
+/// What `READ` or `WRITE` says, with the rest of its line.
+fn parse_text(alloc: Global, direction: Direction, rest: &[u8]) -> Result<ParsedLine, AllocError>
+    ensures { IfOk result (λ parsed. says parsed ≡ parse_text direction (first_word rest.now) (trimmed (after_word rest.now))) }
+{
+    let (handler, text) = cut(rest);
+    if handler.is_empty() {
+        return Ok(ParsedLine::Whole(Command::Syntax));
+    }
+    let handler = Sequence::copy_of(alloc, handler)?;
+    let text = Sequence::copy_of(alloc, trimmed(text))?;
+    Ok(ParsedLine::Whole(text_command(direction, handler, text)))
+}
+
+/// What `CHECKREAD` or `CHECKWRITE` says, with the rest of its line.
+fn parse_check(alloc: Global, direction: Direction, rest: &[u8]) -> Result<ParsedLine, AllocError>
+    ensures { IfOk result (λ parsed. says parsed ≡ parse_check direction (first_word rest.now) (second_word rest.now)) }
+{
+    let (handler, rest) = cut(rest);
+    let (second, _) = cut(rest);
+    if handler.is_empty() || !second.is_empty() {
+        return Ok(ParsedLine::Whole(Command::Syntax));
+    }
+    let handler = Sequence::copy_of(alloc, handler)?;
+    Ok(ParsedLine::Whole(check_command(direction, handler)))
+}
+
+/// What `READDATA` or `WRITEDATA` says, with the rest of its line.
+fn parse_data(alloc: Global, direction: Direction, rest: &[u8]) -> Result<ParsedLine, AllocError>
+    ensures { IfOk result (λ parsed. says parsed ≡ parse_data direction (first_word rest.now) (second_word rest.now) (third_word rest.now)) }
+{
+    let (handler, rest) = cut(rest);
+    let (count, rest) = cut(rest);
+    let (third, _) = cut(rest);
+    if !third.is_empty() {
+        return Ok(ParsedLine::Whole(Command::Syntax));
+    }
+    match decimal_number(count, 0, LONGEST_PAYLOAD) {
+        Ok(count) => payload_line(alloc, direction, handler, count as usize),
+        Err(fault) => Ok(ParsedLine::Whole(bad_count(fault))),
+    }
+}
+
+/// What a line is whose payload has no length.
+fn bad_count(fault: ArgFault) -> Command
+    ensures { result ≡ bad_count fault }
+{
+    match fault {
+        ArgFault::OutOfRange => Command::DataTooLong,
+        ArgFault::NoMemory
+        | ArgFault::ArgumentCount
+        | ArgFault::BadNumber
+        | ArgFault::BadText
+        | ArgFault::BadAddress
+        | ArgFault::BadEntry => Command::Syntax,
+    }
+}
+
+/// A payload of so many bytes; of none, the command is whole.
+fn payload_line(
+    alloc: Global,
+    direction: Direction,
+    handler: &[u8],
+    count: usize,
+) -> Result<ParsedLine, AllocError>
+    requires { count ≤ 1048576 }
+    ensures { IfOk result (λ parsed. says parsed ≡ payload_line direction handler.now (Some count)) }
+{
+    let handler = Sequence::copy_of(alloc, handler)?;
+    if count == 0 {
+        let command = text_command(direction, handler, Sequence::new(alloc));
+        return Ok(ParsedLine::Whole(command));
+    }
+    Ok(ParsedLine::Announces {
+        direction,
+        handler,
+        count,
+    })
+}
+
+/// The command that hands a handler a text.
+pub fn text_command(direction: Direction, handler: Sequence<u8>, text: Sequence<u8>) -> Command
+    ensures { result ≡ text_command direction handler text }
+{
+    match direction {
+        Direction::Read => Command::Read { handler, text },
+        Direction::Write => Command::Write { handler, text },
+    }
+}
+
+/// The command that asks whether a handler can be used.
+fn check_command(direction: Direction, handler: Sequence<u8>) -> Command
+    ensures { result ≡ check_command direction handler }
+{
+    match direction {
+        Direction::Read => Command::CheckRead { handler },
+        Direction::Write => Command::CheckWrite { handler },
+    }
+}
+
+/// The first word, and what follows it.
+fn cut(line: &[u8]) -> (&[u8], &[u8])
+    ensures word { result.0.now ≡ first_word line.now }
+    ensures rest { result.1.now ≡ after_word line.now }
+{
+    let words = without_front(line);
+    words.split_at(word_len(words))
+}
+
+/// Whether a word is that one; case does not matter.
+fn is_word(word: &[u8], known: &[u8]) -> bool
+    ensures { result ≡ str_eq_ignore_ascii_case word.now known.now }
+{
+    word.eq_ignore_ascii_case(known)
+}
+
+/// How many bytes stand before the first blank.
+fn word_len(bytes: &[u8]) -> usize
+    ensures len { result ≡ prefix_len (λ b. not (is_blank b)) bytes.now }
+    ensures within { result ≤ length bytes.now }
+{
+    for (i, byte) in bytes.iter().enumerate() {
+        if is_blank(*byte) {
+            return i;
+        }
+    }
+    bytes.len()
+}

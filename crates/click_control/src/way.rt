@@ -1,8 +1,0 @@
-//! The two ways to use a handler.
-
-/// Which way a handler is used.
-#[derive(Clone, Copy, Debug, PartialEq, Eq)]
-pub enum Way {
-    Read,
-    Write,
-}

@@ -1,0 +1,453 @@
+//! The router with its history, as one value.
+
+ghost use Rattle.std.specs.Prelude.{◌≡◌, ◌++◌, ◌∷◌, ◌↔◌, [], length, map, false, IfOk, IfErr, OnErr, Ok, Err, IsTrue, MatchResult, true, is_some};
+ghost use Rattle.std.specs.List.{All};
+ghost use Rattle.click_rings.specs.Feeds.{name_of, have_distinct_devices};
+ghost use Rattle.click_router.specs.One.{is_transmit, sends_packet, holds_memory};
+ghost use Rattle.click_router.specs.Polls.{is_poll};
+ghost use Rattle.click_router.specs.Opened.{IsOpened};
+ghost use Rattle.click_desk.specs.Bounds.{IsWithin, IsFull};
+ghost use Rattle.click_desk.specs.DeskSetups.{setup_of};
+ghost use Rattle.click_router.specs.One.{Answers};
+ghost use Rattle.click_router.specs.Swap.{Swaps};
+ghost use Rattle.click_router.specs.declared.call.Reply.{Reply};
+ghost use Rattle.click_desk.specs.History.{entry, Legal, asked, installed, installs, text_if_done};
+ghost use Rattle.click_desk.specs.Polls.{IsPolled};
+
+use crate::entry::Entry;
+use crate::options::DeskOptions;
+use crate::watch::Notice;
+use click_packet::PacketRoom;
+use click_rings::PacketConsumer;
+use click_router::{
+    Call, CompactReply, FaultKind, Handlers, Install, Router, StepFault, StoredReply, prepare,
+};
+use click_trail::Trail;
+use click_views::{ClosedPublisher, Publisher};
+use std::alloc::{AllocError, Global};
+use std::marker::Model;
+use std::sync::Wait;
+use thiserror::Error;
+
+/// Why a call was refused. It changed nothing, and is in no list.
+#[derive(Clone, Copy, Debug, PartialEq, Eq, Error)]
+pub enum DeskFault {
+    #[error("out of memory")]
+    NoMemory,
+    /// The history has as many entries as it may have.
+    #[error("history full")]
+    HistoryFull,
+}
+
+/// What a desk was opened with, its history, which is kept where it has a bound, and its feeds.
+#[derive(Drop)]
+pub(crate) struct RouterLog {
+    pub(crate) options: DeskOptions,
+    pub(crate) entries: Trail<Entry>,
+    pub(crate) consumers: Vec<PacketConsumer>,
+    pub(crate) published: Publisher<Install>,
+}
+
+/// A router and its history, which leads from the opening text to it, with the feeds from which was drawn what the history polled. It is small, since each call
+/// moves it out of the queue and back.
+#[derive(Drop)]
+pub struct LoggedRouter<T> {
+    pub(crate) router_log: Box<RouterLog>,
+    pub(crate) router: Router<T>,
+}
+
+impl<T> Model for LoggedRouter<T> {
+    ghost use Rattle.std.specs.Prelude.{◌≡◌, map, true, is_some};
+    ghost use Rattle.click_rings.specs.Feeds.{name_of, have_distinct_devices};
+    ghost use Rattle.click_desk.specs.LoggedRouterState.{LoggedRouterState};
+    ghost use Rattle.click_desk.specs.DeskSetups.{setup_of};
+    ghost use Rattle.click_desk.specs.History.{Legal, installs};
+    ghost use Rattle.click_desk.specs.Polls.{IsPolled};
+
+    ghost Value = { LoggedRouterState };
+
+    ghost view = { λ b. record { options = setup_of b.router_log.value.options (map name_of b.router_log.value.consumers.items); entries = b.router_log.value.entries.items; state = b.router; consumers = b.router_log.value.consumers.items } };
+
+    ghost invariant = { λ b. Legal b.router_log.value.options.opening b.router_log.value.entries.items b.router × IsPolled b.router_log.value.entries.items b.router_log.value.consumers.items
+        × (have_distinct_devices (map name_of b.router_log.value.consumers.items) ≡ true)
+        × (b.router_log.value.published ≡ record { board = b.router_log.value.options.origin; list = installs b.router_log.value.options.opening b.router_log.value.entries.items })
+        × (b.router_log.value.entries.keeps ≡ is_some b.router_log.value.options.room) };
+}
+
+impl<T> LoggedRouter<T> {
+    /// A router of the ledger's text, with an empty history, and feeds from which nothing was drawn.
+    pub fn new(router_log: Box<RouterLog>, router: Router<T>) -> LoggedRouter<T>
+        requires opened { IsOpened router_log.value.options.opening router }
+        requires empty { router_log.value.entries.items ≡ [] }
+        requires keeps { router_log.value.entries.keeps ≡ is_some router_log.value.options.room }
+        requires apart { have_distinct_devices (map name_of router_log.value.consumers.items) ≡ true }
+        requires fresh { All (λ t. t.drawn ≡ []) router_log.value.consumers.items }
+        requires published { router_log.value.published ≡ record { board = router_log.value.options.origin; list = router_log.value.options.opening ∷ [] } }
+        ensures { (result.options ≡ setup_of router_log.value.options (map name_of router_log.value.consumers.items)) × (result.entries ≡ []) × (result.state ≡ router) }
+    {
+        LoggedRouter { router_log, router }
+    }
+
+    /// Its parts.
+    pub fn into_parts(
+        self,
+    ) -> (
+        DeskOptions,
+        Trail<Entry>,
+        Router<T>,
+        Vec<PacketConsumer>,
+        ClosedPublisher<Install>,
+    )
+        ensures options { self.options ≡ setup_of result.0 (map name_of result.3.items) }
+        ensures parts { (result.1.items ≡ self.entries) × (result.2 ≡ self.state) × (result.3.items ≡ self.consumers) }
+        ensures kept { result.1.keeps ≡ is_some self.options.room }
+        ensures legal { Legal self.options.opening self.entries self.state }
+        ensures polled { IsPolled self.entries self.consumers }
+        ensures apart { have_distinct_devices (map name_of self.consumers) ≡ true }
+        ensures published { result.4 ≡ record { board = self.options.origin; list = installs self.options.opening self.entries } }
+    {
+        let LoggedRouter { router_log, router } = self;
+        let RouterLog {
+            options,
+            entries,
+            consumers,
+            published,
+        } = Box::into_inner(router_log);
+        (options, entries, router, consumers, published.close())
+    }
+
+    /// What was published so far.
+    pub fn notice(&self) -> Notice
+        ensures { result ≡ record { board = self.now.options.origin; list = installs self.now.options.opening self.now.entries } }
+    {
+        self.router_log.published.notice()
+    }
+
+    /// Whether the history has as many entries as it may have. One that is not kept may have as many as there are.
+    pub(crate) fn is_full(&self) -> bool
+        ensures { IsTrue result ↔ IsFull self.now.options.room (length self.now.entries) }
+    {
+        match self.router_log.options.room {
+            Some(room) => self.router_log.entries.as_slice().len() >= room,
+            None => false,
+        }
+    }
+}
+
+/// Room for a packet in the reply, in the history and in a seat's list.
+pub(crate) struct Rooms {
+    told: Option<PacketRoom>,
+    entered: Option<PacketRoom>,
+    listed: Option<PacketRoom>,
+}
+
+/// Room for the packet that the call may send.
+fn room_for(alloc: Global, call: &Call) -> Result<Option<PacketRoom>, AllocError>
+    ensures { IfOk result (λ room. is_transmit call.now ≡ true → is_some room ≡ true) }
+{
+    match call {
+        Call::Transmit { .. } => Ok(Some(PacketRoom::new(alloc)?)),
+        _ => Ok(None),
+    }
+}
+
+/// The same in the reply, in the history and in a seat's list.
+fn rooms_for(alloc: Global, call: &Call) -> Result<Rooms, AllocError>
+    ensures { IfOk result (λ rooms. is_transmit call.now ≡ true → (is_some rooms.told ≡ true) × (is_some rooms.entered ≡ true) × (is_some rooms.listed ≡ true)) }
+{
+    match call {
+        Call::Transmit { .. } => Ok(Rooms {
+            told: Some(PacketRoom::new(alloc)?),
+            entered: Some(PacketRoom::new(alloc)?),
+            listed: Some(PacketRoom::new(alloc)?),
+        }),
+        _ => Ok(Rooms {
+            told: None,
+            entered: None,
+            listed: None,
+        }),
+    }
+}
+
+/// What is kept of a reply, in the history and in a seat's list.
+pub(crate) fn copy_twice(
+    alloc: Global,
+    reply: &StoredReply,
+    entered: Option<PacketRoom>,
+    listed: Option<PacketRoom>,
+) -> Result<(StoredReply, StoredReply), AllocError>
+    requires { sends_packet reply.now ≡ true → (is_some entered ≡ true) × (is_some listed ≡ true) }
+    ensures kept { IfOk result (λ both. (both.0 ≡ reply.now) × (both.1 ≡ reply.now)) }
+    ensures light { IfErr result (λ _. holds_memory reply.now ≡ true) }
+{
+    Ok((reply.copy(alloc, entered)?, reply.copy(alloc, listed)?))
+}
+
+/// The configuration of a text is published and takes the place of the running one, or is refused. All memory is taken before either; to publish is the last that
+/// may be refused.
+fn swap<T, R: Wait>(
+    rt: &R,
+    alloc: Global,
+    router: &mut Router<T>,
+    published: &mut Publisher<Install>,
+    text: &[u8],
+) -> Result<StoredReply, StepFault>
+    ensures board { published.new.board ≡ published.old.board }
+    ensures swaps { MatchResult result (λ reply. Swaps router.old text.now router.new reply) (λ _. router.new ≡ router.old) }
+    ensures list { MatchResult result (λ reply. published.new.list ≡ published.old.list ++ asked (text_if_done text.now reply)) (λ _. published.new.list ≡ published.old.list) }
+    ensures light { IfOk result (λ reply. holds_memory reply ≡ true → router.new ≡ router.old) }
+    ensures quiet { IfOk result (λ reply. sends_packet reply ≡ false) }
+{
+    match prepare(alloc, text) {
+        Ok(prepared) => {
+            let Ok(install) = Install::of_prepared(alloc, text, &prepared) else {
+                return Err(StepFault::NoMemory);
+            };
+            if published.publish(rt, install).is_err() {
+                return Err(StepFault::NoMemory);
+            }
+            router.install(prepared);
+            Ok(StoredReply::of(CompactReply::Done))
+        }
+        Err(fault) => match fault.kind {
+            FaultKind::NoMemory => Err(StepFault::NoMemory),
+            _ => match StoredReply::faulty(alloc, fault) {
+                Ok(reply) => Ok(reply),
+                Err(_) => Err(StepFault::NoMemory),
+            },
+        },
+    }
+}
+
+/// Answers one call, and publishes what it installs. Where memory is refused nothing has changed.
+fn answer<T: Handlers, R: Wait>(
+    rt: &R,
+    alloc: Global,
+    router: &mut Router<T>,
+    published: &mut Publisher<Install>,
+    call: &Call,
+    room: Option<PacketRoom>,
+) -> Result<StoredReply, StepFault>
+    requires { is_transmit call.now ≡ true → is_some room ≡ true }
+    ensures board { published.new.board ≡ published.old.board }
+    ensures answer { MatchResult result (λ reply. Answers router.old call.now router.new reply) (λ _. router.new ≡ router.old) }
+    ensures list { MatchResult result (λ reply. published.new.list ≡ published.old.list ++ installed call.now reply) (λ _. published.new.list ≡ published.old.list) }
+    ensures light { IfOk result (λ reply. holds_memory reply ≡ true → (router.new ≡ router.old) × (installed call.now reply ≡ [])) }
+    ensures sends { IfOk result (λ reply. sends_packet reply ≡ true → is_transmit call.now ≡ true) }
+{
+    match call.swap_text() {
+        Some(text) => swap(rt, alloc, router, published, text),
+        None => router.record(alloc, call, room),
+    }
+}
+
+/// Enters a call with its reply where neither is kept. It takes no memory.
+#[inline(always)]
+pub(crate) fn note(
+    entries: &mut Trail<Entry>,
+    calls: &mut Trail<(Call, StoredReply)>,
+    number: usize,
+    call: Call,
+    reply: StoredReply,
+) -> StoredReply
+    requires { (entries.old.keeps ≡ false) × (calls.old.keeps ≡ false) }
+    ensures keeps { (entries.new.keeps ≡ entries.old.keeps) × (calls.new.keeps ≡ calls.old.keeps) }
+    ensures entries { entries.new.items ≡ entries.old.items ++ entry number call reply ∷ [] }
+    ensures calls { calls.new.items ≡ calls.old.items ++ (call, reply) ∷ [] }
+    ensures reply { result ≡ reply }
+{
+    let made = Entry {
+        seat: number,
+        call,
+        reply,
+    };
+    entries.note(&made);
+    let Entry { call, reply, .. } = made;
+    let pair = (call, reply);
+    calls.note(&pair);
+    let (_, reply) = pair;
+    reply
+}
+
+impl<T: Handlers> LoggedRouter<T> {
+    /// One call of the seat with this number, which is no poll, entered in the history and in the seat's list. All memory is taken before the router changes.
+    pub fn enter<R: Wait>(
+        &mut self,
+        rt: &R,
+        alloc: Global,
+        number: usize,
+        calls: &mut Trail<(Call, StoredReply)>,
+        call: Call,
+    ) -> Result<StoredReply, DeskFault>
+        requires call { is_poll call ≡ false }
+        requires keeps { calls.old.keeps ≡ is_some self.old.options.room }
+        ensures options { self.new.options ≡ self.old.options }
+        ensures legal { Legal self.new.options.opening self.new.entries self.new.state }
+        ensures polled { IsPolled self.new.entries self.new.consumers }
+        ensures ok { IfOk result (λ reply. (self.new.entries ≡ self.old.entries ++ entry number call reply ∷ []) × (calls.new.items ≡ calls.old.items ++ (call, reply) ∷ []) × IsWithin self.new.options.room (length self.new.entries)) }
+        ensures err { OnErr result ((self.new ≡ self.old) × (calls.new.items ≡ calls.old.items)) }
+        ensures keeps { calls.new.keeps ≡ calls.old.keeps }
+        ensures full { (result ≡ Err DeskFault.HistoryFull) ↔ IsFull self.old.options.room (length self.old.entries) }
+    {
+        // What the type keeps is known where one of its fields is named.
+        let _ = &self.router_log;
+        if self.is_full() {
+            return Err(DeskFault::HistoryFull);
+        }
+        self.enter_any(rt, alloc, number, calls, call)
+    }
+
+    /// A Round, as `enter` makes it, and how many packets its tasks gave or pulled. It takes no memory but for its places in both lists, where they are kept.
+    pub fn enter_round(
+        &mut self,
+        number: usize,
+        calls: &mut Trail<(Call, StoredReply)>,
+    ) -> Result<u64, DeskFault>
+        requires { calls.old.keeps ≡ is_some self.old.options.room }
+        ensures options { self.new.options ≡ self.old.options }
+        ensures legal { Legal self.new.options.opening self.new.entries self.new.state }
+        ensures polled { IsPolled self.new.entries self.new.consumers }
+        ensures ok { IfOk result (λ count. (self.new.entries ≡ self.old.entries ++ entry number Call.Round (Reply.Worked count) ∷ []) × (calls.new.items ≡ calls.old.items ++ (Call.Round, Reply.Worked count) ∷ []) × IsWithin self.new.options.room (length self.new.entries)) }
+        ensures err { OnErr result ((self.new ≡ self.old) × (calls.new.items ≡ calls.old.items)) }
+        ensures keeps { calls.new.keeps ≡ calls.old.keeps }
+        ensures full { (result ≡ Err DeskFault.HistoryFull) ↔ IsFull self.old.options.room (length self.old.entries) }
+    {
+        // What the type keeps is known where one of its fields is named.
+        let _ = &self.router_log;
+        if self.is_full() {
+            return Err(DeskFault::HistoryFull);
+        }
+        let router_log = &mut *self.router_log;
+        if !router_log.entries.keeps() {
+            let worked = self.router.round();
+            let reply = StoredReply::worked(worked);
+            let _ = note(&mut router_log.entries, calls, number, Call::Round, reply);
+            return Ok(worked);
+        }
+        if router_log.entries.reserve().is_err() || calls.reserve().is_err() {
+            return Err(DeskFault::NoMemory);
+        }
+        let worked = self.router.round();
+        router_log.entries.add(Entry {
+            seat: number,
+            call: Call::Round,
+            reply: StoredReply::worked(worked),
+        });
+        calls.add((Call::Round, StoredReply::worked(worked)));
+        Ok(worked)
+    }
+
+    /// A call as `enter` makes it, which may send a packet and may take memory.
+    fn enter_any<R: Wait>(
+        &mut self,
+        rt: &R,
+        alloc: Global,
+        number: usize,
+        calls: &mut Trail<(Call, StoredReply)>,
+        call: Call,
+    ) -> Result<StoredReply, DeskFault>
+        requires call { is_poll call ≡ false }
+        requires keeps { calls.old.keeps ≡ is_some self.old.options.room }
+        ensures options { self.new.options ≡ self.old.options }
+        ensures legal { Legal self.new.options.opening self.new.entries self.new.state }
+        ensures polled { IsPolled self.new.entries self.new.consumers }
+        ensures ok { IfOk result (λ reply. (self.new.entries ≡ self.old.entries ++ entry number call reply ∷ []) × (calls.new.items ≡ calls.old.items ++ (call, reply) ∷ [])) }
+        ensures err { OnErr result ((self.new ≡ self.old) × (calls.new.items ≡ calls.old.items)) }
+        ensures keeps { calls.new.keeps ≡ calls.old.keeps }
+        ensures fault { IfErr result (λ fault. fault ≡ DeskFault.NoMemory) }
+    {
+        if self.router_log.options.room.is_some() {
+            self.enter_with_history(rt, alloc, number, calls, call)
+        } else {
+            self.enter_without_history(rt, alloc, number, calls, call)
+        }
+    }
+
+    /// A call, with copies of it and of its reply in both lists.
+    #[inline(never)]
+    fn enter_with_history<R: Wait>(
+        &mut self,
+        rt: &R,
+        alloc: Global,
+        number: usize,
+        calls: &mut Trail<(Call, StoredReply)>,
+        call: Call,
+    ) -> Result<StoredReply, DeskFault>
+        requires call { is_poll call ≡ false }
+        requires keeps { (is_some self.old.options.room ≡ true) × (calls.old.keeps ≡ true) }
+        ensures options { self.new.options ≡ self.old.options }
+        ensures legal { Legal self.new.options.opening self.new.entries self.new.state }
+        ensures polled { IsPolled self.new.entries self.new.consumers }
+        ensures ok { IfOk result (λ reply. (self.new.entries ≡ self.old.entries ++ entry number call reply ∷ []) × (calls.new.items ≡ calls.old.items ++ (call, reply) ∷ [])) }
+        ensures err { OnErr result ((self.new ≡ self.old) × (calls.new.items ≡ calls.old.items)) }
+        ensures keeps { calls.new.keeps ≡ calls.old.keeps }
+        ensures fault { IfErr result (λ fault. fault ≡ DeskFault.NoMemory) }
+    {
+        let router_log = &mut *self.router_log;
+        if router_log.entries.reserve().is_err() || calls.reserve().is_err() {
+            return Err(DeskFault::NoMemory);
+        }
+        let Ok(listed) = call.copy(alloc) else {
+            return Err(DeskFault::NoMemory);
+        };
+        let Ok(rooms) = rooms_for(alloc, &call) else {
+            return Err(DeskFault::NoMemory);
+        };
+        let Rooms {
+            told,
+            entered,
+            listed: beside,
+        } = rooms;
+        let Ok(reply) = answer(
+            rt,
+            alloc,
+            &mut self.router,
+            &mut router_log.published,
+            &call,
+            told,
+        ) else {
+            return Err(DeskFault::NoMemory);
+        };
+        // A reply that holds memory comes of a call that changed nothing.
+        let Ok((entered, told)) = copy_twice(alloc, &reply, entered, beside) else {
+            return Err(DeskFault::NoMemory);
+        };
+        router_log.entries.add(Entry {
+            seat: number,
+            call,
+            reply: entered,
+        });
+        calls.add((listed, told));
+        Ok(reply)
+    }
+
+    /// A call of which nothing is kept. It takes no memory but what its step takes and its reply holds.
+    fn enter_without_history<R: Wait>(
+        &mut self,
+        rt: &R,
+        alloc: Global,
+        number: usize,
+        calls: &mut Trail<(Call, StoredReply)>,
+        call: Call,
+    ) -> Result<StoredReply, DeskFault>
+        requires call { is_poll call ≡ false }
+        requires notes { (is_some self.old.options.room ≡ false) × (calls.old.keeps ≡ false) }
+        ensures options { self.new.options ≡ self.old.options }
+        ensures legal { Legal self.new.options.opening self.new.entries self.new.state }
+        ensures polled { IsPolled self.new.entries self.new.consumers }
+        ensures ok { IfOk result (λ reply. (self.new.entries ≡ self.old.entries ++ entry number call reply ∷ []) × (calls.new.items ≡ calls.old.items ++ (call, reply) ∷ [])) }
+        ensures err { OnErr result ((self.new ≡ self.old) × (calls.new.items ≡ calls.old.items)) }
+        ensures keeps { calls.new.keeps ≡ calls.old.keeps }
+        ensures fault { IfErr result (λ fault. fault ≡ DeskFault.NoMemory) }
+    {
+        let router_log = &mut *self.router_log;
+        let Ok(room) = room_for(alloc, &call) else {
+            return Err(DeskFault::NoMemory);
+        };
+        let published = &mut router_log.published;
+        let Ok(reply) = answer(rt, alloc, &mut self.router, published, &call, room) else {
+            return Err(DeskFault::NoMemory);
+        };
+        Ok(note(&mut router_log.entries, calls, number, call, reply))
+    }
+}

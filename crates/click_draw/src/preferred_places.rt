@@ -1,0 +1,169 @@
+//! How far from the left each node of the rows would stand: below and above what it is joined to.
+
+use crate::blocks::{Level, align_blocks, midway, separate_blocks};
+use crate::loose::line_up_all;
+use crate::measures::BESIDE;
+use crate::routes::{Link, Node};
+use std::alloc::{AllocError, Global};
+
+/// How often the rows are gone through from the top down and from the bottom up.
+const ROUNDS: usize = 8;
+
+/// Where the first row begins, so far from 0 that nothing comes there.
+const START: u64 = 0x1_0000_0000;
+
+/// Where the node would stand so that its lines are straight in the mean, else where it stands. Lines out of the node's scope do not count.
+pub fn preferred(node: &Node, links: &[Link], own: u64, state: &State) -> u64 {
+    let mut sum = 0u64;
+    let mut count = 0u64;
+    for link in links {
+        if state.shares(node, link.node) {
+            let left = state.lefts.get(link.node).copied().unwrap_or(START);
+            sum = sum.saturating_add(left.saturating_add(link.there).saturating_sub(link.here));
+            count = count.saturating_add(1);
+        }
+    }
+    sum.checked_div(count).unwrap_or(own)
+}
+
+/// The nodes, how far from the left they stand, and the level whose blocks are laid out, each by itself.
+#[derive(Drop)]
+pub struct State<'a> {
+    pub nodes: &'a [Node],
+    pub lefts: Vec<u64>,
+    pub level: Level,
+}
+
+impl State<'_> {
+    /// Whether another node is in the block of this one.
+    fn shares(&self, node: &Node, other: usize) -> bool {
+        self.nodes
+            .get(other)
+            .is_some_and(|it| it.name(self.level) == node.name(self.level))
+    }
+}
+
+/// The wishes of a row's nodes.
+fn preferred_places_of(
+    alloc: Global,
+    row: &[usize],
+    state: &State,
+    downward: bool,
+) -> Result<Vec<u64>, AllocError> {
+    let mut preferred_places = Vec::new(alloc);
+    for number in row {
+        let own = state.lefts.get(*number).copied().unwrap_or(START);
+        let preferred = state.nodes.get(*number).map_or(own, |node| {
+            let links = if downward { &node.above } else { &node.below };
+            preferred(node, links.as_slice(), own, state)
+        });
+        preferred_places.push(preferred)?;
+    }
+    Ok(preferred_places)
+}
+
+/// Moves each to the right as far as its left neighbour in its block needs.
+fn give_way_right(row: &[usize], state: &State, preferred_places: &mut [u64]) {
+    let mut before: Option<(&Node, u64)> = None;
+    for (number, preferred) in row.iter().zip(preferred_places.iter_mut()) {
+        let Some(node) = state.nodes.get(*number) else {
+            continue;
+        };
+        if let Some((left, at)) = before
+            && left.name(state.level) == node.name(state.level)
+        {
+            let free = at.saturating_add(left.width).saturating_add(BESIDE);
+            *preferred = free.max(*preferred);
+        }
+        before = Some((node, *preferred));
+    }
+}
+
+/// Moves each to the left as far as its right neighbour in its block needs.
+fn give_way_left(row: &[usize], state: &State, preferred_places: &mut [u64]) {
+    let mut after: Option<(&Node, u64)> = None;
+    for (number, preferred) in row.iter().zip(preferred_places.iter_mut()).rev() {
+        let Some(node) = state.nodes.get(*number) else {
+            continue;
+        };
+        if let Some((right, at)) = after
+            && right.name(state.level) == node.name(state.level)
+        {
+            let free = at.saturating_sub(node.width).saturating_sub(BESIDE);
+            *preferred = free.min(*preferred);
+        }
+        after = Some((node, *preferred));
+    }
+}
+
+/// Moves the nodes of a row to where they would stand, as far as their neighbours leave room; two that hinder one another give way alike.
+fn place_row(
+    alloc: Global,
+    row: &[usize],
+    state: &mut State,
+    downward: bool,
+) -> Result<(), AllocError> {
+    let mut right = preferred_places_of(alloc, row, state, downward)?;
+    let mut left = right.clone()?;
+    give_way_right(row, state, right.as_mut_slice());
+    give_way_left(row, state, left.as_mut_slice());
+    for ((number, right), left) in row.iter().zip(right.iter()).zip(left.iter()) {
+        if let Some(place) = state.lefts.get_mut(*number) {
+            *place = midway(*right, *left);
+        }
+    }
+    Ok(())
+}
+
+/// How far from the left each node would stand, each block of the level laid out by itself.
+fn lefts_of_level(
+    alloc: Global,
+    nodes: &[Node],
+    rows: &[Vec<usize>],
+    level: Level,
+) -> Result<Vec<u64>, AllocError> {
+    let mut state = State {
+        nodes,
+        lefts: vec![in alloc; START; nodes.len()]?,
+        level,
+    };
+    for _ in 0..ROUNDS {
+        for row in rows {
+            place_row(alloc, row.as_slice(), &mut state, true)?;
+        }
+        for row in rows.iter().rev() {
+            place_row(alloc, row.as_slice(), &mut state, false)?;
+        }
+    }
+    let State {
+        nodes: _,
+        lefts,
+        level: _,
+    } = state;
+    Ok(lefts)
+}
+
+/// How far from the left each node would stand, by the order of the rows. The leftmost stands at 0.
+pub fn preferred_places_in(
+    alloc: Global,
+    nodes: &[Node],
+    rows: &[Vec<usize>],
+) -> Result<Vec<u64>, AllocError> {
+    let mut lefts = vec![in alloc; 0u64; nodes.len()]?;
+    for (unit, whole) in [
+        (Level::Chain, Level::Inner),
+        (Level::Inner, Level::Outer),
+        (Level::Outer, Level::All),
+    ] {
+        let mut wide = lefts_of_level(alloc, nodes, rows, whole)?;
+        align_blocks(alloc, nodes, lefts.as_slice(), wide.as_mut_slice(), unit)?;
+        separate_blocks(alloc, nodes, rows.len(), wide.as_mut_slice(), unit, whole)?;
+        lefts = wide;
+    }
+    let mut lefts = line_up_all(alloc, nodes, lefts, rows.len())?;
+    let least = lefts.iter().copied().min().unwrap_or(0);
+    for left in lefts.iter_mut() {
+        *left = left.saturating_sub(least);
+    }
+    Ok(lefts)
+}

@@ -1,0 +1,101 @@
+-- Rows that connections are noted in.
+use Rattle.std.proofs.Common.{◌≡◌, ◌≢◌, ◌⊎◌, inl, inr, ℕ, zero, suc, ◌<◌, refl, sym, ap, subst, ◌∙◌, arith, All, List, [], ◌∷◌, ◌++◌, set, get_or, length, map, replicate, Bool, true, false, Option, Some, None}
+use Rattle.std.specs.Prelude.{nat_eq, ◌&&◌, if◌then◌else◌}
+use Rattle.std.proofs.lemmas.Bool.Decides.{eqb_tells}
+use Rattle.std.specs.declared.vec.Vec.{Vec}
+use Rattle.std.specs.declared.alloc.Global.{Global}
+use Rattle.std.proofs.lemmas.List.{get_or-set_same, get_or-set_other, get_or-map, length-map, map-set}
+use Rattle.std.proofs.lemmas.List.Elements.{All-get_or}
+use Rattle.click_classes.specs.declared.ports.Side.{Side}
+use Rattle.click_classes.specs.declared.ports.Side.TheVariants.{Input, Output}
+use Rattle.click_expand.specs.declared.flat.Connection.{Connection}
+use Rattle.click_engine.specs.Adjacency.{end_of, is_port, first_joined}
+use Rattle.click_engine.specs.kept.Tables.{entry, far_of, first_far, first_of, nowhere, rows_of, AreFirst, IsNoted, IsTable}
+use Rattle.click_engine.specs.declared.run_state.ConnectionEnd.{ConnectionEnd}
+
+pub padded : (xs : List (Option ConnectionEnd)) (n : ℕ) → get_or (xs ++ None ∷ []) n None ≡ get_or xs n None
+padded [] zero = refl
+padded [] (suc n) = refl
+padded (x ∷ xs) zero = refl
+padded (x ∷ xs) (suc n) = padded xs n
+
+first_of-false : (o : Option ConnectionEnd) (far : ConnectionEnd) → first_of o false far ≡ o
+first_of-false None far = refl
+first_of-false (Some q) far = refl
+
+-- an empty slot is filled, and no other entry changes
+filled-by : (xs : List (Option ConnectionEnd)) (p n : ℕ) (far : ConnectionEnd) → p < length xs → get_or xs p None ≡ None
+    → ((nat_eq p n ≡ true) × (p ≡ n)) ⊎ ((nat_eq p n ≡ false) × (p ≢ n))
+    → get_or (set xs p (Some far)) n None ≡ first_of (get_or xs n None) (nat_eq p n) far
+filled-by xs p n far l e (inl t) = rw (t.0, ← t.1, e) (get_or-set_same xs p (Some far) None l)
+filled-by xs p n far l e (inr t) = rw t.0 (get_or-set_other xs p n (Some far) None (λ h. t.1 (sym h)) ∙ sym (first_of-false (get_or xs n None) far))
+
+pub filled : (xs : List (Option ConnectionEnd)) (p : ℕ) (far : ConnectionEnd) → p < length xs → get_or xs p None ≡ None
+    → (n : ℕ) → get_or (set xs p (Some far)) n None ≡ first_of (get_or xs n None) (nat_eq p n) far
+filled xs p far l e n = filled-by xs p n far l e (eqb_tells p n)
+
+-- a slot that has an entry keeps it
+kept-by : (xs : List (Option ConnectionEnd)) (p n : ℕ) (far q : ConnectionEnd) → get_or xs p None ≡ Some q
+    → ((nat_eq p n ≡ true) × (p ≡ n)) ⊎ ((nat_eq p n ≡ false) × (p ≢ n)) → get_or xs n None ≡ first_of (get_or xs n None) (nat_eq p n) far
+kept-by xs p n far q e (inl t) = rw (t.0, ← t.1, e) refl
+kept-by xs p n far q e (inr t) = rw t.0 (sym (first_of-false (get_or xs n None) far))
+
+pub kept : (xs : List (Option ConnectionEnd)) (p : ℕ) (far q : ConnectionEnd) → get_or xs p None ≡ Some q
+    → (n : ℕ) → get_or xs n None ≡ first_of (get_or xs n None) (nat_eq p n) far
+kept xs p far q e n = kept-by xs p n far q e (eqb_tells p n)
+
+-- one row changes
+noted_row-by : (xs : List (List (Option ConnectionEnd))) (i p : ℕ) (row : List (Option ConnectionEnd)) (far : ConnectionEnd) → i < length xs
+    → ((n : ℕ) → get_or row n None ≡ first_of (get_or (get_or xs i []) n None) (nat_eq p n) far)
+    → (at n : ℕ) → ((nat_eq i at ≡ true) × (i ≡ at)) ⊎ ((nat_eq i at ≡ false) × (i ≢ at))
+    → get_or (get_or (set xs i row) at []) n None ≡ first_of (get_or (get_or xs at []) n None) (nat_eq i at && nat_eq p n) far
+noted_row-by xs i p row far l h at n (inl t) = rw (t.0, ← t.1) (ap (λ r. get_or r n None) (get_or-set_same xs i row [] l) ∙ h n)
+noted_row-by xs i p row far l h at n (inr t) =
+    rw t.0 (ap (λ r. get_or r n None) (get_or-set_other xs i at row [] (λ e. t.1 (sym e))) ∙ sym (first_of-false (get_or (get_or xs at []) n None) far))
+
+pub noted_row : (xs : List (List (Option ConnectionEnd))) (i p : ℕ) (row : List (Option ConnectionEnd)) (far : ConnectionEnd) → i < length xs
+    → ((n : ℕ) → get_or row n None ≡ first_of (get_or (get_or xs i []) n None) (nat_eq p n) far)
+    → (at n : ℕ) → get_or (get_or (set xs i row) at []) n None ≡ first_of (get_or (get_or xs at []) n None) (nat_eq i at && nat_eq p n) far
+noted_row xs i p row far l h at n = noted_row-by xs i p row far l h at n (eqb_tells i at)
+
+-- a connection between elements that are there ends at them
+pub end_within : (n : ℕ) (cs xs : List Connection) (i : ℕ) (d : Connection) (s : Side) (p : ConnectionEnd) → All (λ (c : Connection). (c.from < n) × (c.to < n)) cs
+    → xs ≡ cs → i < length xs → p ≡ end_of s (get_or xs i d) → p.element < n
+end_within n cs xs i d Output p all h l is =
+    rw is (All-get_or (λ (c : Connection). (c.from < n) × (c.to < n)) xs i d l (subst (λ ys. All (λ (c : Connection). (c.from < n) × (c.to < n)) ys) (sym h) all)).0
+end_within n cs xs i d Input p all h l is =
+    rw is (All-get_or (λ (c : Connection). (c.from < n) × (c.to < n)) xs i d l (subst (λ ys. All (λ (c : Connection). (c.from < n) × (c.to < n)) ys) (sym h) all)).1
+
+-- one connection more
+joined-last : (near far : Side) (b : Bool) (c d : Connection) (o r : Option ConnectionEnd) (e : Bool) (q : ConnectionEnd) → o ≡ first_of r e q
+    → (if b then Some (end_of far d) else o) ≡ first_of (if b then Some (end_of far d) else r) e q
+joined-last near far true c d o r e q h = refl
+joined-last near far false c d o r e q h = h
+
+pub joined_more : (near far : Side) (cs : List Connection) (c : Connection) (at n : ℕ)
+    → first_joined near far (cs ++ c ∷ []) at n ≡ first_of (first_joined near far cs at n) (is_port (end_of near c) at n) (end_of far c)
+joined_more near far [] c at n = refl
+joined_more near far (d ∷ cs) c at n = joined-last near far (is_port (end_of near d) at n) c d _ _ _ _ (joined_more near far cs c at n)
+
+pub empty_entry : (count at n : ℕ) → entry (replicate count []) at n ≡ None
+empty_entry zero at n = refl
+empty_entry (suc count) zero n = refl
+empty_entry (suc count) (suc at) n = empty_entry count at n
+
+-- the same over the vectors that keep the rows
+pub noted_rows : (rows : List (Vec (Option ConnectionEnd) Global)) (near far : ConnectionEnd) (old new : Vec (Option ConnectionEnd) Global) → near.element < length rows
+    → old ≡ get_or rows near.element old → ((n : ℕ) → get_or new.items n None ≡ first_of (get_or old.items n None) (nat_eq near.port n) far)
+    → IsNoted (rows_of rows) (rows_of (set rows near.element new)) near far
+noted_rows rows near far old new l is h at n =
+    let row : get_or (rows_of rows) near.element [] ≡ old.items = get_or-map (λ (v : Vec (Option ConnectionEnd) Global). v.items) rows near.element old [] l ∙ ap (λ (v : Vec (Option ConnectionEnd) Global). v.items) (sym is) in
+    rw (map-set (λ (v : Vec (Option ConnectionEnd) Global). v.items) rows near.element new)
+    (noted_row (rows_of rows) near.element near.port new.items far (omega (arith, l, length-map rows (λ (v : Vec (Option ConnectionEnd) Global). v.items))) (λ m. h m ∙ rw row refl) at n)
+
+-- the first port of each row
+pub first_at : (rows : List (List (Option ConnectionEnd))) (at : ℕ) → get_or (map first_far rows) at nowhere ≡ far_of (entry rows at 0)
+first_at [] at = refl
+first_at (row ∷ rows) zero = refl
+first_at (row ∷ rows) (suc at) = first_at rows at
+
+pub firsts_are : (rows : List (List (Option ConnectionEnd))) (f : ℕ → ℕ → Option ConnectionEnd) (ports : List ConnectionEnd) → IsTable rows f → ports ≡ map first_far rows → AreFirst ports f
+firsts_are rows f ports table is at = rw is (first_at rows at ∙ ap far_of (table at 0))

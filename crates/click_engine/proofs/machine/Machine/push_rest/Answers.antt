@@ -1,5 +1,0 @@
-use Rattle.click_engine.proofs.Serving.{follows_on}
-use Rattle.click_engine.proofs.machine.Machine.push_rest.Goals as goal
-
-pub returns : goal.returns
-returns c = follows_on _ _ _ _ _ _ _ c.push_copies.ensures c.push_last.ensures

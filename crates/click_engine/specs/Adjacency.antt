@@ -1,0 +1,36 @@
+-- The connections of a net as what pushes and pulls follow, and the elements of a run.
+use Rattle.std.specs.Prelude.{ℕ, List, [], ◌∷◌, nat_eq, Bool, ◌&&◌, Option, Some, None, if◌then◌else◌}
+use Rattle.click_classes.specs.declared.ports.Side.{Side}
+use Rattle.click_classes.specs.declared.ports.Side.TheVariants as side
+use Rattle.click_expand.specs.declared.flat.Connection.{Connection}
+use Rattle.click_ports.specs.Net.{Net}
+use Rattle.click_engine.specs.RunState.{Wiring, RunState}
+use Rattle.click_engine.specs.declared.run_state.ConnectionEnd.{ConnectionEnd}
+use Rattle.click_engine.specs.declared.run_state.RunMemory.{RunMemory}
+
+abbrev pub run_state_of : RunMemory → RunState
+run_state_of w = record { elements = w.elements.items; left = w.left; overruns = w.overruns }
+
+-- the output that a connection leaves, and the input that it comes to
+abbrev pub end_of : Side → Connection → ConnectionEnd
+end_of side.Output c = record { element = c.from; port = c.out_port }
+end_of side.Input c = record { element = c.to; port = c.in_port }
+
+abbrev pub is_port : ConnectionEnd → ℕ → ℕ → Bool
+is_port p at number = nat_eq p.element at && nat_eq p.port number
+
+-- the other end of the first connection that a port has
+abbrev pub first_joined : Side → Side → List Connection → ℕ → ℕ → Option ConnectionEnd
+first_joined near far [] at number = None
+first_joined near far (c ∷ cs) at number =
+    if is_port (end_of near c) at number then Some (end_of far c) else first_joined near far cs at number
+
+-- where a push at an output goes, and which output a pull at an input asks; by the rules of ports just one connection is there
+abbrev pub target_in : List Connection → ℕ → ℕ → Option ConnectionEnd
+target_in cs = first_joined side.Output side.Input cs
+
+abbrev pub source_in : List Connection → ℕ → ℕ → Option ConnectionEnd
+source_in cs = first_joined side.Input side.Output cs
+
+abbrev pub wiring_of : Net → Wiring
+wiring_of net = record { target = target_in net.connections; source = source_in net.connections }

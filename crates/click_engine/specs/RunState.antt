@@ -1,0 +1,62 @@
+-- What a run changes, and the connections that it follows.
+use Rattle.std.specs.Prelude.{◌≡◌, ℕ, Bool, ◌+◌, ◌-◌, ◌^◌, min, List, Option, slice_index_or, slice_set}
+use Rattle.click_classes.specs.declared.state.State.{State}
+use Rattle.click_classes.specs.declared.state.State.TheVariants.{Idle}
+use Rattle.click_packet.specs.Packet.{Packet}
+use Rattle.click_classes.specs.Acts.{act, tries, gives, PushEffect, PullEffect}
+use Rattle.click_classes.specs.declared.packet_effects.PortRange.{PortRange}
+use Rattle.click_base.specs.declared.class.Class.TheVariants as class
+use Rattle.click_engine.specs.declared.run_state.Element.{Element}
+use Rattle.click_engine.specs.declared.run_state.ConnectionEnd.{ConnectionEnd}
+
+-- where a push at an output goes, and which output a pull at an input asks
+pub record Wiring : Type 0 where
+  pub target : ℕ → ℕ → Option ConnectionEnd
+  pub source : ℕ → ℕ → Option ConnectionEnd
+
+-- the elements, the crossings that the run has left, and the overruns so far
+pub record RunState : Type 0 where
+  pub elements : List Element
+  pub left : ℕ
+  pub overruns : ℕ
+
+-- an element that drops what it gets and has nothing to give
+abbrev pub blank : Element
+blank = record { class = class.Idle; inputs = 0; outputs = 0; state = Idle }
+
+abbrev pub element_at : RunState → ℕ → Element
+element_at w at = slice_index_or w.elements at blank
+
+-- the run state with another state at an element
+abbrev pub with_state : RunState → ℕ → State → RunState
+with_state w at s = record w { elements = slice_set w.elements at (record (element_at w at) { state = s }) }
+
+-- the run state with one crossing spent, and the run state after a crossing that was not to be had
+abbrev pub spent : RunState → RunState
+spent w = record w { left = w.left - 1 }
+
+abbrev pub overrun : RunState → RunState
+overrun w = record w { overruns = min (w.overruns + 1) (2 ^ 64 - 1) }
+
+-- what a push, or a pulled packet, does at an element, and the inputs that it asks
+abbrev pub acted_at : RunState → ℕ → ℕ → Packet → PushEffect
+acted_at w at input p = let e = element_at w at in act e.outputs e.state input p
+
+abbrev pub given_at : RunState → ℕ → ℕ → Packet → PullEffect
+given_at w at input p = let e = element_at w at in gives e.inputs e.outputs e.state input p
+
+abbrev pub tries_at : RunState → ℕ → ℕ → PortRange
+tries_at w at output = let e = element_at w at in tries e.inputs e.state output
+
+-- a push came into the element: the run state, the packet and the outputs after that
+pub record Acts (old new : RunState) (at input : ℕ) (p q : Packet) (to : PortRange) : Type 0 where
+  pub run_state : new ≡ with_state old at (acted_at old at input p).state
+  pub packet : q ≡ (acted_at old at input p).packet
+  pub outputs : to ≡ (acted_at old at input p).outputs
+
+-- a packet was pulled through an input: the run state, the packet, the outputs for copies, and whether it is the answer
+pub record GivesOut (old new : RunState) (at input : ℕ) (p q : Packet) (copies : PortRange) (answers : Bool) : Type 0 where
+  pub run_state : new ≡ with_state old at (given_at old at input p).state
+  pub packet : q ≡ (given_at old at input p).packet
+  pub copies_are : copies ≡ (given_at old at input p).copies
+  pub answers_is : answers ≡ (given_at old at input p).answers

@@ -1,0 +1,260 @@
+//! The connections of a net, in tables.
+ghost use Rattle.std.specs.Prelude.{◌≡◌, ◌<◌, ◌≤◌, ◌^◌, ℕ, [], length, vec_len, slice_index_or, IfOk, OnOk, None, nat_eq, replicate, map};
+ghost use Rattle.click_engine.specs.Adjacency.{end_of, first_joined};
+ghost use Rattle.click_engine.specs.kept.Tables.{entry, far_of, first_far, first_of, nowhere, rows_of, IsNoted, IsTable};
+
+use crate::run_state::ConnectionEnd;
+use click_classes::Side;
+use click_expand::Connection;
+use click_ports::Net;
+use std::alloc::{AllocError, Global};
+use std::marker::Model;
+
+/// A net, with tables of where a push at an output goes and which output a pull at an input asks.
+#[derive(Drop)]
+pub struct Adjacency {
+    net: Net,
+    targets: Vec<Vec<Option<ConnectionEnd>>>,
+    sources: Vec<Vec<Option<ConnectionEnd>>>,
+    /// Where a push at the first output of each element goes: mostly there is no other.
+    ahead: Vec<ConnectionEnd>,
+    /// Which output a pull at the first input of each element asks.
+    behind: Vec<ConnectionEnd>,
+}
+
+/// Past all elements, in the place of none.
+const NOWHERE: ConnectionEnd = ConnectionEnd {
+    element: usize::MAX,
+    port: 0,
+};
+
+impl Model for Adjacency {
+    ghost use Rattle.std.specs.Prelude.{◌≡◌, length};
+    ghost use Rattle.click_ports.specs.Net.{Net as Seen};
+    ghost use Rattle.click_engine.specs.Adjacency.{target_in, source_in};
+    ghost use Rattle.click_engine.specs.kept.Tables.{rows_of, AreFirst, IsTable};
+
+    ghost Value = { Seen };
+
+    ghost view = { λ w. w.net };
+
+    ghost invariant = { λ w. IsTable (rows_of w.targets.items) (target_in w.net.connections)
+        × IsTable (rows_of w.sources.items) (source_in w.net.connections) × AreFirst w.ahead.items (target_in w.net.connections)
+        × (length w.ahead.items ≡ length w.net.shapes) × AreFirst w.behind.items (source_in w.net.connections) };
+}
+
+/// The connection's port at a side: the output that it leaves, or the input that it comes to.
+fn end_of(side: Side, connection: Connection) -> ConnectionEnd
+    ensures { result ≡ end_of side connection }
+{
+    match side {
+        Side::Output => ConnectionEnd {
+            element: connection.from,
+            port: u16::from(connection.out_port),
+        },
+        Side::Input => ConnectionEnd {
+            element: connection.to,
+            port: u16::from(connection.in_port),
+        },
+    }
+}
+
+/// Makes a row at least so long.
+fn extend_row(row: &mut Vec<Option<ConnectionEnd>>, count: usize) -> Result<(), AllocError>
+    ensures same { (n : ℕ) → slice_index_or row.new.items n None ≡ slice_index_or row.old.items n None }
+    ensures long { OnOk result (count ≤ vec_len row.new) }
+{
+    while row.len() < count {
+        row.push(None)?;
+    }
+    Ok(())
+}
+
+/// Notes in a row what a port is joined to, unless something is noted there.
+fn note_port(
+    row: &mut Vec<Option<ConnectionEnd>>,
+    port: usize,
+    far: ConnectionEnd,
+) -> Result<(), AllocError>
+    requires { port < 2 ^ 32 }
+    ensures { OnOk result ((n : ℕ) → slice_index_or row.new.items n None ≡ first_of (slice_index_or row.old.items n None) (nat_eq port n) far) }
+{
+    extend_row(row, port + 1)?;
+    let slot = &mut row[port];
+    if slot.is_none() {
+        *slot = Some(far);
+    }
+    Ok(())
+}
+
+/// So many rows without an entry.
+fn empty_rows(alloc: Global, count: usize) -> Result<Vec<Vec<Option<ConnectionEnd>>>, AllocError>
+    ensures { IfOk result (λ rows. rows_of rows.items ≡ replicate count []) }
+{
+    let mut rows = Vec::with_capacity(alloc, count)?;
+    for _row in 0..count {
+        rows.push(Vec::new(alloc))?;
+    }
+    Ok(rows)
+}
+
+/// Notes what a connection joins.
+fn note_connection(
+    rows: &mut Vec<Vec<Option<ConnectionEnd>>>,
+    near: ConnectionEnd,
+    far: ConnectionEnd,
+) -> Result<(), AllocError>
+    requires { near.element < vec_len rows.old }
+    ensures noted { OnOk result (IsNoted (rows_of rows.old.items) (rows_of rows.new.items) near far) }
+    ensures all { OnOk result (vec_len rows.new ≡ vec_len rows.old) }
+{
+    note_port(&mut rows[near.element], usize::from(near.port), far)
+}
+
+/// For each port of a side the other end of the first connection there.
+fn joined(
+    alloc: Global,
+    net: &Net,
+    side: Side,
+    other: Side,
+) -> Result<Vec<Vec<Option<ConnectionEnd>>>, AllocError>
+    ensures table { IfOk result (λ rows. IsTable (rows_of rows.items) (first_joined side other net.now.connections)) }
+    ensures all { IfOk result (λ rows. vec_len rows ≡ length net.now.shapes) }
+{
+    let mut rows = empty_rows(alloc, net.shapes().len())?;
+    for connection in net.connections() {
+        note_connection(
+            &mut rows,
+            end_of(side, *connection),
+            end_of(other, *connection),
+        )?;
+    }
+    Ok(rows)
+}
+
+/// What the tables say of a port.
+fn look_up(rows: &[Vec<Option<ConnectionEnd>>], at: usize, port: usize) -> Option<ConnectionEnd>
+    ensures { result ≡ entry (rows_of rows.now) at port }
+{
+    let row = rows.get(at)?;
+    *row.get(port)?
+}
+
+/// What a port is joined to, if it is joined.
+fn far_of(noted: Option<ConnectionEnd>) -> ConnectionEnd
+    ensures { result ≡ far_of noted }
+{
+    match noted {
+        Some(far) => far,
+        None => NOWHERE,
+    }
+}
+
+/// What the first port of a row is joined to.
+fn first_far(row: &[Option<ConnectionEnd>]) -> ConnectionEnd
+    ensures { result ≡ first_far row.now }
+{
+    match row.get(0) {
+        Some(noted) => far_of(*noted),
+        None => NOWHERE,
+    }
+}
+
+/// What the first port of each row is joined to.
+fn first_ends(
+    alloc: Global,
+    rows: &[Vec<Option<ConnectionEnd>>],
+) -> Result<Vec<ConnectionEnd>, AllocError>
+    ensures { IfOk result (λ ports. ports.items ≡ map first_far (rows_of rows.now)) }
+{
+    let mut ports = Vec::with_capacity(alloc, rows.len())?;
+    for row in rows {
+        ports.push(first_far(row.as_slice()))?;
+    }
+    Ok(ports)
+}
+
+/// What the first port of an element is joined to.
+#[inline(always)]
+fn near(ports: &[ConnectionEnd], at: usize) -> ConnectionEnd
+    ensures { result ≡ slice_index_or ports.now at nowhere }
+{
+    match ports.get(at) {
+        Some(port) => *port,
+        None => NOWHERE,
+    }
+}
+
+impl Adjacency {
+    ghost use Rattle.std.specs.Prelude.{◌≡◌, IfOk, length};
+    ghost use Rattle.click_engine.specs.Adjacency.{wiring_of};
+    ghost use Rattle.click_engine.specs.kept.Tables.{far_of, AreFirst};
+
+    /// The tables of a net.
+    pub fn new(alloc: Global, net: Net) -> Result<Adjacency, AllocError>
+        ensures { IfOk result (λ w. w ≡ net) }
+    {
+        let targets = joined(alloc, &net, Side::Output, Side::Input)?;
+        let sources = joined(alloc, &net, Side::Input, Side::Output)?;
+        let ahead = first_ends(alloc, targets.as_slice())?;
+        let behind = first_ends(alloc, sources.as_slice())?;
+        Ok(Adjacency {
+            net,
+            targets,
+            sources,
+            ahead,
+            behind,
+        })
+    }
+
+    /// The net.
+    pub(crate) fn net(&self) -> &Net
+        ensures { result.now ≡ self.now }
+    {
+        &self.net
+    }
+
+    /// The input that a push at the first output of each element goes to.
+    #[inline(always)]
+    pub(crate) fn ahead(&self) -> &[ConnectionEnd]
+        ensures first { AreFirst result.now (wiring_of self.now).target }
+        ensures all { length result.now ≡ length self.now.shapes }
+    {
+        self.ahead.as_slice()
+    }
+
+    /// How many elements there are.
+    #[inline(always)]
+    pub(crate) fn len(&self) -> usize
+        ensures { result ≡ length self.now.shapes }
+    {
+        self.ahead.len()
+    }
+
+    /// The input that a push at an output goes to.
+    #[inline(always)]
+    pub(crate) fn target(&self, at: usize, output: usize) -> ConnectionEnd
+        ensures { result ≡ far_of ((wiring_of self.now).target at output) }
+    {
+        if output == 0 {
+            return near(self.ahead.as_slice(), at);
+        }
+        far_of(look_up(self.targets.as_slice(), at, output))
+    }
+
+    /// The output that a pull at the first input asks.
+    #[inline(always)]
+    pub(crate) fn first_source(&self, at: usize) -> ConnectionEnd
+        ensures { result ≡ far_of ((wiring_of self.now).source at 0) }
+    {
+        near(self.behind.as_slice(), at)
+    }
+
+    /// The output that a pull at an input asks.
+    #[inline(always)]
+    pub(crate) fn source(&self, at: usize, input: usize) -> Option<ConnectionEnd>
+        ensures { result ≡ (wiring_of self.now).source at input }
+    {
+        look_up(self.sources.as_slice(), at, input)
+    }
+}

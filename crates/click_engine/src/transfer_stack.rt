@@ -1,0 +1,493 @@
+//! The pushes and pulls of a run that are under way: frames whose slots are written in place.
+ghost use Rattle.std.specs.Prelude.{◌≡◌, ℕ, ◌+◌, ◌-◌, ◌<◌, ◌≤◌, ◌^◌, List, [], ◌∷◌, ◌++◌, length};
+
+use crate::adjacency::Adjacency;
+use crate::copies::serve_above;
+use crate::input_scan::{InputScan, ask_until_answer, waiting_frame};
+use crate::run_state::RunMemory;
+use crate::slots::{copy_up, make_above, tries};
+use crate::transfers::{PullResult, pull_first, pull_over, push_along, push_over, push_slot};
+use click_classes::after;
+use click_packet::Packet;
+use std::alloc::{AllocError, Global};
+use std::marker::Model;
+
+/// The outputs of an element that are still to get a packet.
+#[derive(Drop)]
+pub struct PushFrame {
+    pub first: usize,
+    pub at: usize,
+    pub count: usize,
+    pub packet: Packet,
+    ghost small: { first + count < 2 ^ 32 },
+}
+
+/// A pull that waits for its answer.
+#[derive(Clone, Copy)]
+pub enum PullFrame {
+    /// An input is still to be asked, and what it gives is the answer.
+    Pull {
+        at: usize,
+        input: usize,
+    },
+    /// An element asked its input `back` last, and `count` more wait, from `input` on.
+    Tries {
+        at: usize,
+        inputs: u16,
+        count: u16,
+        input: u16,
+        back: u16,
+    },
+}
+
+/// Frames with their room. The pushes stand above the pulls, and an answer lies in the first push's slot.
+#[derive(Drop)]
+pub struct TransferStack {
+    push_frames: Vec<PushFrame>,
+    sending: usize,
+    asks: Vec<PullFrame>,
+    answered: bool,
+    room: usize,
+}
+
+impl Model for TransferStack {
+    ghost use Rattle.std.specs.Prelude.{◌≤◌, ◌<◌, vec_len, vec_capacity, take};
+    ghost use Rattle.click_engine.specs.Frames.{TransferStack as Seen};
+
+    ghost Value = { Seen };
+
+    ghost use Rattle.click_engine.specs.kept.Slots.{frames_of, last_of};
+
+    ghost view = { λ m. record {
+      frames = frames_of (take m.sending m.push_frames.items) m.asks.items;
+      last = last_of m.answered m.push_frames.items;
+      room = m.room;
+    } };
+
+    ghost invariant = { λ m. (m.sending ≤ vec_len m.push_frames) × (0 < vec_len m.push_frames) × (m.room < vec_capacity m.push_frames)
+        × (m.room ≤ vec_capacity m.asks) };
+}
+
+impl TransferStack {
+    ghost use Rattle.std.specs.Prelude.{◌≡◌, ℕ, ◌+◌, ◌-◌, ◌<◌, ◌≤◌, ◌^◌, List, [], ◌∷◌, ◌++◌, length, IfOk, IfSome, IsSome, IsTrue, ◌↔◌, None, Some, true, false, nat_lt, option_map, if◌then◌else◌};
+    ghost use Rattle.click_engine.specs.Frames.{Frame, Sends, Pulls, Asks, IsTurn, Follows, sends_first};
+    ghost use Rattle.click_engine.specs.Adjacency.{run_state_of, wiring_of};
+    ghost use Rattle.click_engine.specs.RunState.{element_at, with_state};
+    ghost use Rattle.click_classes.specs.Acts.{burst_of, emission};
+    ghost use Rattle.std.specs.Prelude.{MatchOption};
+
+    /// No frames, with room for so many.
+    pub fn with_room(alloc: Global, room: usize) -> Result<TransferStack, AllocError>
+        requires { room < 2 ^ 62 }
+        ensures { IfOk result (λ m. m ≡ record { frames = []; last = None; room = room }) }
+    {
+        let mut push_frames = Vec::with_capacity(alloc, room + 1)?;
+        push_frames.push(PushFrame {
+            at: 0,
+            first: 0,
+            count: 0,
+            packet: Packet::empty(),
+        })?;
+        Ok(TransferStack {
+            push_frames,
+            sending: 0,
+            asks: Vec::with_capacity(alloc, room)?,
+            answered: false,
+            room,
+        })
+    }
+
+    /// Whether a push is on top.
+    pub(crate) fn is_sending(&self) -> bool
+        ensures { result ≡ sends_first self.now.frames }
+    {
+        self.sending > 0
+    }
+
+    /// Whether there is no frame.
+    pub(crate) fn is_done(&self) -> bool
+        ensures { IsTrue result ↔ (self.now.frames ≡ []) }
+    {
+        if self.sending > 0 {
+            return false;
+        }
+        self.asks.is_empty()
+    }
+
+    /// The last pull's answer.
+    pub(crate) fn answer(&self) -> Option<Packet>
+        ensures { result ≡ self.now.last }
+    {
+        if self.answered {
+            Some(self.push_frames[0].packet.copy())
+        } else {
+            None
+        }
+    }
+
+    /// The last pull's answer, where it lies.
+    pub(crate) fn lent_answer(&self) -> Option<&Packet>
+        ensures { option_map (λ p. p.now) result ≡ self.now.last }
+    {
+        if self.answered {
+            Some(&self.push_frames[0].packet)
+        } else {
+            None
+        }
+    }
+
+    /// Whether the last pull was answered.
+    pub(crate) fn is_answered(&self) -> bool
+        ensures { IsTrue result ↔ IsSome self.now.last }
+    {
+        self.answered
+    }
+
+    /// Makes `packet` the last pull's answer.
+    #[inline(always)]
+    pub(crate) fn set_answer(&mut self, packet: &Packet)
+        requires { self.old.frames ≡ [] }
+        ensures { self.new ≡ record { frames = []; last = Some packet.now; room = self.old.room } }
+    {
+        self.push_frames[0].packet.copy_from(packet);
+        self.answered = true;
+    }
+
+    /// Begins with a push of the last pull's answer at output 0 of an element, and pushes it on as far as no copy has several ways to go. Whether frames may be left.
+    #[inline(always)]
+    pub(crate) fn push_answer(
+        &mut self,
+        adjacency: &Adjacency,
+        run_memory: &mut RunMemory,
+        at: usize,
+    ) -> bool
+        requires done { self.old.frames ≡ [] }
+        requires room { run_memory.old.left < self.old.room }
+        ensures follows { IfSome self.old.last (λ p. Follows (wiring_of adjacency.now) (run_state_of run_memory.old) (record { frames = Sends at 0 1 p ∷ []; last = None; room = self.old.room })
+            (run_state_of run_memory.new) self.new) }
+        ensures over { result ≡ false → self.new.frames ≡ [] }
+    {
+        self.answered = false;
+        let push_frame = &mut self.push_frames[0];
+        let several = push_slot(adjacency, run_memory, push_frame, adjacency.target(at, 0));
+        if several {
+            self.sending = 1;
+        }
+        several
+    }
+
+    /// Begins with a pull at input 0 of an element, and asks at once what that leads to: mostly a queue is there, and nothing is left to do. Whether it was answered,
+    /// if that is all. `apart`: inputs of an element that it leads to are asked in a call of its own, which is for callers that find a queue there.
+    #[inline(always)]
+    pub(crate) fn start_pull(
+        &mut self,
+        adjacency: &Adjacency,
+        run_memory: &mut RunMemory,
+        at: usize,
+        apart: bool,
+    ) -> Option<bool>
+        requires done { self.old.frames ≡ [] }
+        requires room { run_memory.old.left < self.old.room }
+        ensures follows { Follows (wiring_of adjacency.now) (run_state_of run_memory.old) (record { frames = Pulls at 0 ∷ []; last = None; room = self.old.room })
+            (run_state_of run_memory.new) self.new }
+        ensures over { IfSome result (λ answered. (self.new.frames ≡ []) × (IsTrue answered ↔ IsSome self.new.last)) }
+    {
+        let push_frame = &mut self.push_frames[0];
+        let pull_result = pull_first(adjacency, run_memory, at, &mut push_frame.packet);
+        if pull_result.count == 0 {
+            self.answered = pull_result.held;
+            return Some(pull_result.held);
+        }
+        let PullResult {
+            at,
+            inputs,
+            count,
+            first,
+            ..
+        } = pull_result;
+        if apart {
+            self.ask_inputs_apart(adjacency, run_memory, at, inputs, count, first);
+            return None;
+        }
+        if self.ask_inputs(adjacency, run_memory, at, inputs, count, first) {
+            return None;
+        }
+        Some(self.is_answered())
+    }
+
+    /// Asks inputs of an element that a pull led to, of which there are some. Only an element further on that asks inputs of its own takes frames. Whether frames may
+    /// be left.
+    #[inline(always)]
+    fn ask_inputs(
+        &mut self,
+        adjacency: &Adjacency,
+        run_memory: &mut RunMemory,
+        at: usize,
+        inputs: u16,
+        count: u16,
+        first: u16,
+    ) -> bool
+        requires done { self.old.frames ≡ [] }
+        requires room { run_memory.old.left < self.old.room }
+        requires some { 0 < count }
+        ensures follows { Follows (wiring_of adjacency.now) (run_state_of run_memory.old)
+            (record { frames = Asks at inputs count first 0 ∷ []; last = None; room = self.old.room }) (run_state_of run_memory.new) self.new }
+        ensures over { result ≡ false → self.new.frames ≡ [] }
+    {
+        let mut input_scan = InputScan {
+            at,
+            inputs: inputs as usize,
+            count: count as usize,
+            input: first as usize,
+            back: 0,
+        };
+        let push_frame = &mut self.push_frames[0];
+        let further = ask_until_answer(
+            adjacency,
+            run_memory,
+            &mut input_scan,
+            &mut push_frame.packet,
+        );
+        if further.held {
+            let given = run_memory.gives(
+                input_scan.at,
+                input_scan.back as u16,
+                &mut push_frame.packet,
+            );
+            self.answered = given.answers;
+            if given.copies.count > 0 {
+                push_frame.at = input_scan.at;
+                push_frame.first = given.copies.first as usize;
+                push_frame.count = given.copies.count as usize;
+                self.sending = 1;
+                return true;
+            }
+            return false;
+        }
+        self.answered = false;
+        if further.count > 0 {
+            let _waiting = self.asks.push(waiting_frame(input_scan));
+            let _made = self.asks.push(tries(further));
+            return true;
+        }
+        false
+    }
+
+    /// The same as a call of its own.
+    #[inline(never)]
+    fn ask_inputs_apart(
+        &mut self,
+        adjacency: &Adjacency,
+        run_memory: &mut RunMemory,
+        at: usize,
+        inputs: u16,
+        count: u16,
+        first: u16,
+    )
+        requires done { self.old.frames ≡ [] }
+        requires room { run_memory.old.left < self.old.room }
+        requires some { 0 < count }
+        ensures { Follows (wiring_of adjacency.now) (run_state_of run_memory.old)
+            (record { frames = Asks at inputs count first 0 ∷ []; last = None; room = self.old.room }) (run_state_of run_memory.new) self.new }
+    {
+        let _waits = self.ask_inputs(adjacency, run_memory, at, inputs, count, first);
+    }
+
+    /// The answer becomes the first packet that a source gives in a run of its task, and how many packets one run gives at most is told; 0, and there is no answer,
+    /// where it gives none.
+    #[inline(always)]
+    pub(crate) fn take_first_emission(&mut self, run_memory: &mut RunMemory, at: usize) -> u8
+        requires done { self.old.frames ≡ [] }
+        ensures left { run_memory.new.left ≡ run_memory.old.left }
+        ensures emitted { (let s = (element_at (run_state_of run_memory.old) at).state in MatchOption (if nat_lt 0 (burst_of s) then emission s else None)
+            ((result ≡ 0) × (run_state_of run_memory.new ≡ run_state_of run_memory.old) × (self.new ≡ record { frames = []; last = None; room = self.old.room }))
+            (λ e. (result ≡ burst_of s) × (run_state_of run_memory.new ≡ with_state (run_state_of run_memory.old) at e.state)
+            × (self.new ≡ record { frames = []; last = Some e.packet; room = self.old.room }))) }
+    {
+        let push_frame = &mut self.push_frames[0];
+        let most = run_memory.emit_first(at, &mut push_frame.packet);
+        self.answered = most > 0;
+        most
+    }
+
+    /// The answer becomes the packet that a source gives next; false, and there is none, where it gives none.
+    pub(crate) fn take_emission(&mut self, run_memory: &mut RunMemory, at: usize) -> bool
+        requires done { self.old.frames ≡ [] }
+        ensures left { run_memory.new.left ≡ run_memory.old.left }
+        ensures emitted { MatchOption (emission (element_at (run_state_of run_memory.old) at).state)
+            ((result ≡ false) × (run_state_of run_memory.new ≡ run_state_of run_memory.old) × (self.new ≡ record { frames = []; last = None; room = self.old.room }))
+            (λ s. (result ≡ true) × (run_state_of run_memory.new ≡ with_state (run_state_of run_memory.old) at s.state)
+            × (self.new ≡ record { frames = []; last = Some s.packet; room = self.old.room })) }
+    {
+        let push_frame = &mut self.push_frames[0];
+        self.answered = run_memory.emit(at, &mut push_frame.packet);
+        self.answered
+    }
+
+    /// Pushes on where a push is on top, as far as no copy has several ways to go. It goes into its callers, which know mostly what is on top.
+    #[inline(always)]
+    pub(crate) fn run_pushes(&mut self, adjacency: &Adjacency, run_memory: &mut RunMemory)
+        requires room { length self.old.frames + run_memory.old.left ≤ self.old.room }
+        ensures { Follows (wiring_of adjacency.now) (run_state_of run_memory.old) self.old (run_state_of run_memory.new) self.new }
+    {
+        self.push_last(adjacency, run_memory);
+        if self.sending > 0 {
+            self.push_rest(adjacency, run_memory);
+        }
+    }
+
+    #[inline(never)]
+    fn push_rest(&mut self, adjacency: &Adjacency, run_memory: &mut RunMemory)
+        requires room { length self.old.frames + run_memory.old.left ≤ self.old.room }
+        ensures { Follows (wiring_of adjacency.now) (run_state_of run_memory.old) self.old (run_state_of run_memory.new) self.new }
+    {
+        self.push_copies(adjacency, run_memory);
+        self.push_last(adjacency, run_memory);
+    }
+
+    /// Pushes copies where a push is on top that has several outputs left, up to a copy that several are to get, or to the last output.
+    #[inline(always)]
+    fn push_copies(&mut self, adjacency: &Adjacency, run_memory: &mut RunMemory)
+        requires room { length self.old.frames + run_memory.old.left ≤ self.old.room }
+        ensures { Follows (wiring_of adjacency.now) (run_state_of run_memory.old) self.old (run_state_of run_memory.new) self.new }
+    {
+        if self.sending == 0 {
+            return;
+        }
+        let top = self.sending - 1;
+        if self.push_frames[top].count < 2 {
+            return;
+        }
+        make_above(&mut self.push_frames, top);
+        serve_above(adjacency, run_memory, &mut self.push_frames, top);
+        if self.push_frames[top + 1].count > 0 {
+            self.sending = top + 2;
+        }
+    }
+
+    /// Pushes on where a push is on top that has one output left, up to an element with several or none.
+    #[inline(always)]
+    fn push_last(&mut self, adjacency: &Adjacency, run_memory: &mut RunMemory)
+        requires room { length self.old.frames + run_memory.old.left ≤ self.old.room }
+        ensures { Follows (wiring_of adjacency.now) (run_state_of run_memory.old) self.old (run_state_of run_memory.new) self.new }
+    {
+        if self.sending == 0 {
+            return;
+        }
+        let top = self.sending - 1;
+        // The first slot is not free where an answer lies in it.
+        if top == 0 && self.answered {
+            return;
+        }
+        if self.push_frames[top].count > 1 {
+            return;
+        }
+        let push_frame = &mut self.push_frames[top];
+        push_along(adjacency, run_memory, push_frame);
+        if push_frame.count == 0 {
+            self.sending = top;
+        }
+    }
+
+    /// One turn where a push is on top.
+    pub(crate) fn turn_push(&mut self, adjacency: &Adjacency, run_memory: &mut RunMemory)
+        requires some { sends_first self.old.frames ≡ true }
+        requires room { length self.old.frames + run_memory.old.left ≤ self.old.room }
+        ensures { IsTurn (wiring_of adjacency.now) (run_state_of run_memory.old) self.old (run_state_of run_memory.new) self.new }
+    {
+        let top = self.sending - 1;
+        let push_frame = &mut self.push_frames[top];
+        let at = push_frame.at;
+        let output = push_frame.first;
+        if push_frame.count == 1 && (!self.answered || top > 0) {
+            // The last output takes the slot itself.
+            push_over(adjacency, run_memory, at, output, push_frame);
+            if push_frame.count > 0 {
+                return;
+            }
+            self.sending = top;
+            return;
+        }
+        if push_frame.count == 0 {
+            self.sending = top;
+            return;
+        }
+        push_frame.first += 1;
+        push_frame.count -= 1;
+        copy_up(&mut self.push_frames, top);
+        let above = &mut self.push_frames[top + 1];
+        push_over(adjacency, run_memory, at, output, above);
+        if above.count > 0 {
+            self.sending = top + 2;
+        }
+    }
+    /// One turn where no push is on top.
+    pub(crate) fn turn_pull(&mut self, adjacency: &Adjacency, run_memory: &mut RunMemory)
+        requires none { sends_first self.old.frames ≡ false }
+        requires some { 0 < length self.old.frames }
+        requires room { length self.old.frames + run_memory.old.left ≤ self.old.room }
+        ensures { IsTurn (wiring_of adjacency.now) (run_state_of run_memory.old) self.old (run_state_of run_memory.new) self.new }
+    {
+        let top = self.asks.len() - 1;
+        match self.asks[top] {
+            PullFrame::Pull { at, input } => {
+                let push_frame = &mut self.push_frames[0];
+                let pull_result = pull_over(
+                    adjacency,
+                    run_memory,
+                    at,
+                    input,
+                    &mut push_frame.packet,
+                );
+                self.answered = pull_result.held;
+                if pull_result.count > 0 {
+                    self.asks[top] = tries(pull_result);
+                } else {
+                    self.asks.truncate(top);
+                }
+            }
+            PullFrame::Tries {
+                at,
+                inputs,
+                count,
+                input,
+                back,
+            } => {
+                if self.answered {
+                    let push_frame = &mut self.push_frames[0];
+                    let given = run_memory.gives(at, back, &mut push_frame.packet);
+                    self.answered = given.answers;
+                    self.asks.truncate(top);
+                    if given.copies.count > 0 {
+                        push_frame.at = at;
+                        push_frame.first = given.copies.first as usize;
+                        push_frame.count = given.copies.count as usize;
+                        self.sending = 1;
+                    }
+                } else if count == 0 {
+                    self.asks.truncate(top);
+                } else {
+                    let push_frame = &mut self.push_frames[0];
+                    let pull_result = pull_over(
+                        adjacency,
+                        run_memory,
+                        at,
+                        input as usize,
+                        &mut push_frame.packet,
+                    );
+                    self.answered = pull_result.held;
+                    self.asks[top] = PullFrame::Tries {
+                        at,
+                        inputs,
+                        count: count - 1,
+                        input: after(inputs, input),
+                        back: input,
+                    };
+                    if pull_result.count > 0 {
+                        let _made = self.asks.push(tries(pull_result));
+                    }
+                }
+            }
+        }
+    }
+}

@@ -1,0 +1,91 @@
+-- A configuration of such lines alone: one scope, whose elements are all declared and of the router's classes.
+use Rattle.std.proofs.Common.{◌≡◌, ℕ, zero, suc, ◌+◌, ◌<◌, List, [], ◌∷◌, length, map, true, false, Some, None, refl, ◌∙◌, ap, arith}
+use Rattle.std.specs.List.{AllByRecursion, list_any}
+use Rattle.std.specs.Str.{bytes_eq}
+use Rattle.std.proofs.lemmas.Bool.{or_left, or_right}
+use Rattle.std.proofs.lemmas.Slice.Eq.{bytes_eq-Decides}
+use Rattle.click_base.specs.Classes.{name}
+use Rattle.click_base.proofs.ClassNames.{by_name}
+use Rattle.click_text.specs.declared.syntax.Span.{Span}
+use Rattle.click_text.specs.declared.syntax.ClassReference.TheVariants as class
+use Rattle.click_text.specs.declared.syntax.Head.TheVariants as head
+use Rattle.click_text.specs.declared.syntax.Chain.{Chain}
+use Rattle.click_text.specs.declared.syntax.Statement.{Statement}
+use Rattle.click_text.specs.declared.syntax.Statement.TheVariants as statement
+use Rattle.click_text.specs.Grammar.{element}
+use Rattle.click_text.specs.Spans.{bytes_at}
+use Rattle.click_expand.specs.declared.flat.FlatElement.{FlatElement}
+use Rattle.click_expand.specs.declared.flat.Connection.{Connection}
+use Rattle.click_scopes.specs.Classes.{primitive, primitive_of, meaning}
+use Rattle.click_scopes.specs.Elements.{Placed, place, placed, declared_names, has_name, refers, role, ScopeElement, scope_element, scope_elements_from}
+use Rattle.click_expand.specs.FlatText.{name_at_place}
+use Rattle.click_expand.proofs.OfFlatText.Lines.{element_statement, connection_statement, AreLines, no_lines, first_connection, first_element}
+
+-- the names of elements
+abbrev pub names : List FlatElement → List (List ℕ)
+names es = map (λ (e : FlatElement). e.name) es
+
+-- no class is defined after these statements
+abbrev pub IsPlain : List ℕ → List Statement → Type 0
+IsPlain text visible = (w : List ℕ) → meaning text visible w ≡ primitive_of w
+
+pub plain_none : (text : List ℕ) → IsPlain text []
+unfolding meaning
+plain_none text w = refl
+
+pub plain_more : (text : List ℕ) (visible : List Statement) (k : Chain) → IsPlain text visible → IsPlain text (statement.Chain k ∷ visible)
+unfolding meaning
+plain_more text visible k h w = h w
+
+pub bytes_same : (xs : List ℕ) → bytes_eq xs xs ≡ true
+bytes_same xs = (bytes_eq-Decides xs xs).1 refl
+
+pub declared_are : {text : List ℕ} {all es : List FlatElement} {ks : List Connection} {ss : List Statement} (visible : List Statement) → AreLines text all es ks ss →
+    declared_names text (placed visible ss) ≡ names es
+declared_are visible no_lines = refl
+declared_are visible (first_connection k ks s t p q ss j l) = declared_are (connection_statement s t p q ∷ visible) l
+declared_are visible (first_element e es ks s w o ss d l) = rw d.name (ap (λ (ns : List (List ℕ)). e.name ∷ ns) (declared_are (element_statement s w o ∷ visible) l))
+
+has_at : (es : List FlatElement) (i : ℕ) → i < length es → has_name (name_at_place es i) (names es) ≡ true
+has_at [] i h = absurd (omega arith)
+has_at (e ∷ es) zero h = or_left _ _ (bytes_same e.name)
+has_at (e ∷ es) (suc i) h = or_right _ _ (has_at es i (omega arith))
+
+-- a word of a connection's line means the element that is declared
+pub word_refers : (text : List ℕ) (all : List FlatElement) (s : Span) (i : ℕ) → i < length all → bytes_at text s ≡ name_at_place all i →
+    role text false (names all) (element (head.Word s) None) ≡ refers
+word_refers text all s i h e = rw (e, has_at all i h) refl
+
+pub record IsScopeElement (e : FlatElement) (l : ScopeElement) : Type 0 where
+  pub name : l.name ≡ e.name
+  pub meaning : l.meaning ≡ Some (primitive e.class)
+  pub text : l.text ≡ e.text
+
+pub data AreScopeElements : List FlatElement → List ScopeElement → Type 0 where
+  no_scope_elements : AreScopeElements [] []
+  first_scope_element : (e : FlatElement) (es : List FlatElement) (l : ScopeElement) (ls : List ScopeElement) → IsScopeElement e l → AreScopeElements es ls → AreScopeElements (e ∷ es) (l ∷ ls)
+
+pub class_known : (text : List ℕ) (visible : List Statement) (e : FlatElement) (w : Span) → IsPlain text visible → bytes_at text w ≡ name e.class →
+    meaning text visible (bytes_at text w) ≡ Some (primitive e.class)
+class_known text visible e w v h = v (bytes_at text w) ∙ rw (h, by_name e.class) refl
+
+scope_elements_word : (text : List ℕ) (declared : List (List ℕ)) (n : ℕ) (p : Placed) (ps : List Placed) → role text false declared p.element ≡ refers →
+    scope_elements_from text false declared n (p ∷ ps) ≡ scope_elements_from text false declared n ps
+unfolding scope_elements_from
+scope_elements_word text declared n p ps r = rw r refl
+
+pub scope_elements_are : {text : List ℕ} {all es : List FlatElement} {ks : List Connection} {ss : List Statement} (visible : List Statement) (n : ℕ) → IsPlain text visible →
+    AreLines text all es ks ss → AreScopeElements es (scope_elements_from text false (names all) n (placed visible ss))
+unfolding scope_elements_from
+scope_elements_are visible n v no_lines = no_scope_elements
+scope_elements_are {text} {all} visible n v (first_connection k ks s t p q ss j l) =
+    let st = connection_statement s t p q in
+    rw (
+      scope_elements_word text (names all) n (place visible (element (head.Word s) None)) _ (word_refers text all s k.from j.from_there j.from),
+      scope_elements_word text (names all) n (place visible (element (head.Word t) None)) _ (word_refers text all t k.to j.to_there j.to),
+    )
+    (scope_elements_are (st ∷ visible) n (plain_more text visible _ v) l)
+scope_elements_are {text} {all} visible n v (first_element e es ks s w o ss d l) =
+    first_scope_element e es (scope_element text n (place visible (element (head.Declared s (class.Named w)) o))) _
+    (record { name = d.name; meaning = class_known text visible e w v d.class; text = d.string })
+    (scope_elements_are (element_statement s w o ∷ visible) (n + 1) (plain_more text visible _ v) l)

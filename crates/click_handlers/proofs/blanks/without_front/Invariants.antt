@@ -1,6 +1,0 @@
-use Rattle.std.proofs.Common.{◌≡◌, drop}
-use Rattle.click_handlers.specs.Blanks.{without_front}
-use Rattle.click_handlers.proofs.blanks.without_front.Given as goal
-
-abbrev pub invariant-loop-i : goal.invariant-loop-i
-invariant-loop-i l = without_front (drop l.i l.bytes) ≡ without_front l.bytes

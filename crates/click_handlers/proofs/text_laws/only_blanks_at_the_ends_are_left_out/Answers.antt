@@ -1,5 +1,0 @@
-use Rattle.click_handlers.proofs.Trimming.{left_out, first, last}
-use Rattle.click_handlers.proofs.text_laws.only_blanks_at_the_ends_are_left_out.Goals as goal
-
-pub returns : goal.returns
-returns c = record { left_out = left_out; first = first; last = last }

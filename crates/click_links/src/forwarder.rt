@@ -1,0 +1,86 @@
+//! What the sweeps of a run are made with.
+
+ghost use Rattle.std.specs.Prelude.{◌≡◌, Some};
+ghost use Rattle.click_links.specs.Forwarding.{Forwards};
+ghost use Rattle.click_links.specs.kept.Forwarded.{HasForwarded};
+
+use crate::link::Outbound;
+use click_desk::Seat;
+use std::marker::{Brand, PhantomData};
+
+/// What a run began with: its seat, the names of its devices, and what was sent before. Each run picks it.
+pub(crate) trait RunStart {
+    ghost use Rattle.std.specs.Prelude.{ℕ, List, Option};
+    ghost use Rattle.click_rings.specs.Feeds.{FeedName};
+    ghost use Rattle.click_router.specs.declared.call.Call.{Call as ACall};
+    ghost use Rattle.click_router.specs.declared.call.Reply.{Reply as AReply};
+    ghost use Rattle.click_desk.specs.SeatStates.{DeskName};
+    ghost use Rattle.click_links.specs.Ends.{Attempt};
+
+    ghost desk: { Option DeskName };
+
+    ghost number: { ℕ };
+
+    ghost feeds: { List FeedName };
+
+    ghost calls: { List (ACall × AReply) };
+
+    ghost names: { List (List ℕ) };
+
+    ghost tried: { List Attempt };
+}
+
+impl RunStart for Brand {
+    ghost use Rattle.std.specs.Prelude.{[], None};
+
+    ghost desk = { None };
+
+    ghost number = { 0 };
+
+    ghost feeds = { [] };
+
+    ghost calls = { [] };
+
+    ghost names = { [] };
+
+    ghost tried = { [] };
+}
+
+/// The seat of a run and the end at which packets go out, which one thread at a time has. All that was done with them since the run began is what a forwarder does.
+#[derive(Drop)]
+pub(crate) struct Forwarder<T, S: Outbound, B: RunStart> {
+    pub(crate) seat: Seat<T>,
+    pub(crate) sender: S,
+    of: PhantomData<B>,
+    pub(crate) ghost same: { (Some seat.desk ≡ B.desk) × (seat.number ≡ B.number) × (seat.feeds ≡ B.feeds) },
+    pub(crate) ghost forwards: { HasForwarded B.names B.calls seat.calls B.tried (S.tried sender) },
+}
+
+impl<T, S: Outbound, B: RunStart> Forwarder<T, S, B> {
+    /// With which nothing was done since.
+    #[tactic(auto, using(crate::proofs::ForwarderEquations::known_none))]
+    pub(crate) fn new(seat: Seat<T>, sender: S) -> Forwarder<T, S, B>
+        requires same { (Some seat.desk ≡ B.desk) × (seat.number ≡ B.number) × (seat.feeds ≡ B.feeds) }
+        requires new { (seat.calls ≡ B.calls) × (S.tried sender ≡ B.tried) }
+    {
+        Forwarder {
+            seat,
+            sender,
+            of: PhantomData,
+        }
+    }
+
+    /// What is left of it.
+    #[tactic(auto, using(crate::proofs::ForwarderEquations::forwards_of))]
+    pub(crate) fn into_parts(self) -> (Seat<T>, S)
+        ensures same { (Some result.0.desk ≡ B.desk) × (result.0.number ≡ B.number) × (result.0.feeds ≡ B.feeds) }
+        ensures forwards { Forwards B.names B.calls result.0.calls B.tried (S.tried result.1) }
+    {
+        let Forwarder {
+            seat,
+            sender,
+            of: _,
+        } = self;
+        (seat, sender)
+    }
+}

@@ -1,0 +1,26 @@
+-- How a page answers a request.
+use Rattle.std.proofs.Common.{◌≡◌, ◌⊎◌, ℕ, List, Result, refl, subst}
+use Rattle.http.specs.declared.request.Request.{Request}
+use Rattle.http.specs.Request.{head_of, body_of}
+use Rattle.http_server.specs.declared.response.Response.{Response}
+use Rattle.click_router.specs.declared.call.Call.{Call}
+use Rattle.click_router.specs.declared.call.Reply.{Reply}
+use Rattle.click_control.specs.Serving.{Asked}
+use Rattle.click_control.specs.declared.command.Answer.{Answer}
+use Rattle.click_control.specs.declared.port.AskFault.{AskFault}
+use Rattle.click_page.specs.Answering.{AnswersSo, Paged}
+use Rattle.click_page.specs.Asking.{commands_of, parse_request}
+use Rattle.click_page.specs.Saying.{SaysFor, SaysNoMemory}
+use Rattle.click_page.specs.declared.page_request.PageRequest.{PageRequest}
+
+-- the wish was read, its commands were asked, and the answers were told, or memory ran out
+pub page_answers : {P : Type 0} (asks : P → Call → Result Reply AskFault → P → Type 0) (page : Paged P) (port : P) (page_request : PageRequest) (answers : List Answer)
+    (request : Request (List ℕ)) (response : Response) → page_request ≡ parse_request page.at (head_of request) (body_of request)
+    → Asked asks page.readonly page.port (commands_of page_request) answers port → SaysFor page_request answers response ⊎ SaysNoMemory response
+    → AnswersSo asks page request response (record page { port = port })
+page_answers asks page port page_request answers request response e asked says = record {
+  same = (refl, refl);
+  answers = answers;
+  asked = subst (λ (w : PageRequest). Asked asks page.readonly page.port (commands_of w) answers port) e asked;
+  says = subst (λ (w : PageRequest). SaysFor w answers response ⊎ SaysNoMemory response) e says;
+}

@@ -1,0 +1,78 @@
+//! Whether a request is this page's own.
+
+ghost use Rattle.std.specs.Prelude.{◌≡◌, map, codes, bytes_eq};
+ghost use Rattle.std.specs.List.{list_any};
+ghost use Rattle.http_header.specs.HeaderMap.{get_all};
+ghost use Rattle.http.specs.Request.{head_of};
+ghost use Rattle.click_page.specs.Asking.{at_port, has_page_header, is_one_of, is_for_own_host, own_hosts, own_names};
+
+use bytes::Bytes;
+use http::{HeaderMap, Request};
+use itoa::Buffer;
+
+/// The port that browsers leave out of a Host.
+const PLAIN_PORT: u16 = 80;
+
+/// Whether the request is for the page at this port: its one Host names it, and its target names no other place.
+pub(crate) fn is_for_own_host(port: u16, request: &Request<Bytes>) -> bool
+    ensures { result ≡ is_for_own_host port (head_of request.now) }
+{
+    request.uri().authority().is_none() && has_own_host(port, request.headers())
+}
+
+/// Whether the request has the header that no page of another place may send.
+pub(crate) fn has_page_header(request: &Request<Bytes>) -> bool
+    ensures { result ≡ has_page_header (head_of request.now) }
+{
+    request
+        .headers()
+        .get_all("x-click-page")
+        .iter()
+        .next()
+        .is_some()
+}
+
+fn has_own_host(port: u16, headers: &HeaderMap) -> bool
+    ensures { result ≡ is_one_of (own_hosts port) (get_all headers.now (codes "host")) }
+{
+    let mut hosts = headers.get_all("host").iter();
+    match (hosts.next(), hosts.next()) {
+        (Some(host), None) => is_own_host(port, host.as_bytes()),
+        _ => false,
+    }
+}
+
+fn is_own_host(port: u16, host: &[u8]) -> bool
+    ensures { result ≡ list_any (bytes_eq host.now) (own_hosts port) }
+{
+    let mut buffer = Buffer::new();
+    is_own_name_at(buffer.format(port).as_bytes(), host)
+        || (port == PLAIN_PORT && is_own_name(host))
+}
+
+fn is_own_name_at(port: &[u8], host: &[u8]) -> bool
+    ensures { result ≡ list_any (bytes_eq host.now) (map (at_port port.now) own_names) }
+{
+    is_at_port(b"127.0.0.1", port, host)
+        || is_at_port(b"localhost", port, host)
+        || is_at_port(b"[::1]", port, host)
+}
+
+fn is_own_name(host: &[u8]) -> bool
+    ensures { result ≡ list_any (bytes_eq host.now) own_names }
+{
+    host == b"127.0.0.1".as_slice()
+        || host == b"localhost".as_slice()
+        || host == b"[::1]".as_slice()
+}
+
+/// Whether the host is the name with this port.
+fn is_at_port(name: &[u8], port: &[u8], host: &[u8]) -> bool
+    ensures { result ≡ bytes_eq host.now (at_port port.now name.now) }
+{
+    if !host.starts_with(name) {
+        return false;
+    }
+    let after_name = &host[name.len()..];
+    after_name.starts_with(b":") && &after_name[1..] == port
+}

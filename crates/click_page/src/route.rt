@@ -1,0 +1,40 @@
+//! The places of the page.
+
+ghost use Rattle.std.specs.Prelude.{◌≡◌};
+ghost use Rattle.click_page.specs.Asking.{is_write, route_of};
+
+/// What stands at a path of the page.
+#[derive(Clone, Copy, Debug, PartialEq, Eq)]
+pub(crate) enum Route {
+    Page,
+    Picture,
+    Flat,
+    Read,
+    Write,
+    Swap,
+}
+
+/// The place that a path names.
+#[tactic(auto, unfolding(crate::specs::Asking::route_of))]
+pub(crate) fn route_of(path: &str) -> Option<Route>
+    ensures { result ≡ route_of path.now }
+{
+    match path {
+        "/" => Some(Route::Page),
+        "/picture.svg" => Some(Route::Picture),
+        "/flat" => Some(Route::Flat),
+        "/read" => Some(Route::Read),
+        "/write" => Some(Route::Write),
+        "/swap" => Some(Route::Swap),
+        _ => None,
+    }
+}
+
+impl Route {
+    /// Whether a request there is to write.
+    pub(crate) fn is_write(self) -> bool
+        ensures { result ≡ is_write self }
+    {
+        matches!(self, Route::Write | Route::Swap)
+    }
+}

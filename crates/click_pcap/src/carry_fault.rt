@@ -1,0 +1,50 @@
+//! Why a run breaks off.
+
+use click_capture::{HeaderFault, TooLong};
+use thiserror::Error;
+
+/// Why a run breaks off. Packets are counted from 1, and bytes of the capture from 0; `at` is where a record begins.
+#[derive(Clone, Copy, Debug, PartialEq, Eq, Error)]
+pub enum CarryFault {
+    #[error("byte {at}: the capture ends inside its header of 24 bytes")]
+    ShortHeader {
+        at: u64,
+    },
+    #[error("{0}")]
+    Header(HeaderFault),
+    #[error("packet {number}, byte {at}: the capture ends inside this record")]
+    Cut {
+        number: u64,
+        at: u64,
+    },
+    #[error("packet {number}, byte {at}: {fault}")]
+    TooLong {
+        number: u64,
+        at: u64,
+        fault: TooLong,
+    },
+    /// The router gave packet after packet.
+    #[error("packet {number}, byte {at}: the sink was asked 1048576 times after it, and gave a packet each time")]
+    GivesOn {
+        number: u64,
+        at: u64,
+    },
+    /// As many records were read as are counted. No run comes to it.
+    #[error("18446744073709551615 packets were read, and no more are counted")]
+    Uncounted,
+    #[error("out of memory")]
+    NoMemory,
+    #[error("a read failed")]
+    ReadFailed,
+    #[error("a write failed")]
+    WriteFailed,
+}
+
+/// Why what came of a packet was not written to its end.
+#[derive(Clone, Copy, Debug, PartialEq, Eq)]
+pub enum SendFault {
+    /// The sink gave a packet each time that it was asked.
+    GivesOn,
+    NoMemory,
+    WriteFailed,
+}

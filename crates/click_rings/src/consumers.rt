@@ -1,0 +1,158 @@
+//! Inlets of several devices, and what is drawn from them.
+
+ghost use Rattle.std.specs.Prelude.{◌≡◌, ◌≤◌, ◌++◌, List, [], length, map, true, false, vec_capacity, IfOk, IfSome, IfNone, OnErr};
+ghost use Rattle.click_packet.specs.Packet.{Packet};
+ghost use Rattle.click_rings.specs.Feeds.{name_of, has_feed, have_distinct_devices as apart, drew, IsPlace};
+
+use crate::ends::{FeedEnd, Inlet};
+use click_base::sequence::Sequence;
+use click_packet::StoredPacket;
+use rtrb::Consumer;
+use std::alloc::{AllocError, Global};
+use std::marker::Model;
+
+/// An inlet in use.
+#[derive(Drop)]
+pub struct PacketConsumer {
+    device: Sequence<u8>,
+    consumer: Consumer<StoredPacket>,
+}
+
+impl Model for PacketConsumer {
+    ghost use Rattle.click_rings.specs.Feeds.{ConsumerState};
+    ghost use Rattle.rtrb.specs.Ring.{received};
+
+    ghost Value = { ConsumerState };
+
+    ghost view = { λ t. record { device = t.device; ring = record { words = t.consumer.end.words; slots = t.consumer.end.slots; names = t.consumer.end.names }; drawn = received t.consumer } };
+}
+
+impl PacketConsumer {
+    /// Opens an inlet.
+    pub fn of(inlet: Inlet) -> PacketConsumer
+        ensures name { name_of result ≡ inlet }
+        ensures drawn { result.drawn ≡ [] }
+    {
+        let Inlet { device, consumer } = inlet;
+        PacketConsumer { device, consumer }
+    }
+
+    /// The device that it is for.
+    pub fn device(&self) -> &[u8]
+        ensures { result.now ≡ self.now.device }
+    {
+        self.device.as_slice()
+    }
+
+    /// How many packets are seen to be there. The driver may put more meanwhile.
+    pub fn seen(&mut self) -> usize
+        ensures { self.new ≡ self.old }
+    {
+        self.consumer.slots()
+    }
+
+    /// Draws up to `most` packets, as far as they are seen to be there. It waits for nobody.
+    pub fn draw(&mut self, most: usize, taken: &mut Vec<StoredPacket>)
+        requires { (taken.old.items ≡ []) × (most ≤ vec_capacity taken.old) }
+        ensures inlet { self.new ≡ record self.old { drawn = self.old.drawn ++ taken.new.items } }
+        ensures most { length taken.new.items ≤ most }
+        ensures room { most ≤ vec_capacity taken.new }
+    {
+        for _ in 0..most {
+            let Ok(packet) = self.consumer.pop() else {
+                return;
+            };
+            taken.push_reserved(packet);
+        }
+    }
+
+    /// What is left in the ring of a feed that has ended. Where memory runs out, nothing is drawn. What was drawn before is a beginning of what was put, however this ends.
+    pub fn drain(
+        &mut self,
+        alloc: Global,
+        end: &mut FeedEnd,
+    ) -> Result<Vec<StoredPacket>, AllocError>
+        requires { end.old.ring ≡ self.old.ring }
+        ensures name { name_of self.new ≡ name_of self.old }
+        ensures end { end.new ≡ end.old }
+        ensures begins { (rest : List Packet) × (end.old.put ≡ self.old.drawn ++ rest) }
+        ensures ok { IfOk result (λ left. (end.old.put ≡ self.old.drawn ++ left.items) × (self.new.drawn ≡ end.old.put)) }
+        ensures err { OnErr result (self.new.drawn ≡ self.old.drawn) }
+    {
+        let count = self.consumer.slots_beside(&mut end.producer);
+        let mut left = Vec::with_capacity(alloc, count)?;
+        for _ in 0..count {
+            left.push_reserved(self.consumer.pop_known());
+        }
+        Ok(left)
+    }
+}
+
+/// Whether one of these inlets is of the device.
+fn has_inlet(inlets: &[Inlet], device: &[u8]) -> bool
+    ensures { result ≡ has_feed device.now inlets.now }
+{
+    match inlets {
+        [] => false,
+        [first, rest @ ..] => first.device() == device || has_inlet(rest, device),
+    }
+}
+
+/// Whether no two of these inlets are of one device.
+pub fn have_distinct_devices(inlets: &[Inlet]) -> bool
+    ensures { result ≡ apart inlets.now }
+{
+    match inlets {
+        [] => true,
+        [first, rest @ ..] => !has_inlet(rest, first.device()) && have_distinct_devices(rest),
+    }
+}
+
+/// Where the device's stands.
+pub fn place_of(consumers: &[PacketConsumer], device: &[u8]) -> Option<usize>
+    ensures some { IfSome result (λ place. IsPlace device.now consumers.now place) }
+    ensures none { IfNone result (has_feed device.now (map name_of consumers.now) ≡ false) }
+{
+    match consumers {
+        [] => None,
+        [first, rest @ ..] => {
+            if first.device() == device {
+                return Some(0);
+            }
+            match place_of(rest, device) {
+                Some(place) => Some(place + 1),
+                None => None,
+            }
+        }
+    }
+}
+
+/// How many packets are seen to be in the device's, up to `most`; none where there is no such inlet.
+pub fn available_in(consumers: &mut [PacketConsumer], device: &[u8], most: usize) -> usize
+    ensures consumers { consumers.new ≡ consumers.old }
+    ensures most { result ≤ most }
+{
+    match place_of(consumers, device) {
+        Some(place) => consumers[place].seen().min(most),
+        None => 0,
+    }
+}
+
+/// Draws up to `most` packets from the device's, if there is one.
+pub fn draw_from(
+    consumers: &mut [PacketConsumer],
+    device: &[u8],
+    most: usize,
+    taken: &mut Vec<StoredPacket>,
+)
+    requires apart { apart (map name_of consumers.old) ≡ true }
+    requires room { (taken.old.items ≡ []) × (most ≤ vec_capacity taken.old) }
+    ensures consumers { consumers.new ≡ drew device.now taken.new.items consumers.old }
+    ensures most { length taken.new.items ≤ most }
+    ensures unknown { has_feed device.now (map name_of consumers.old) ≡ false → taken.new.items ≡ [] }
+{
+    match place_of(consumers, device) {
+        Some(place) => consumers[place].draw(most, taken),
+        None => {}
+    }
+}

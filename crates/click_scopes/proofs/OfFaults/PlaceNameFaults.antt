@@ -1,0 +1,105 @@
+-- The first wrong names, classes and declarations of the places of the table.
+use Rattle.std.proofs.Common.{◌≡◌, ◌⊎◌, inl, inr, ℕ, ◌+◌, ◌<◌, List, length, get_or, Bool, nat_lt, Vec, Global, Option, Some, None, refl, sym, ap, ◌∙◌, subst, arith}
+use Rattle.std.specs.List.{slice_get}
+use Rattle.std.proofs.lemmas.Bool.{cases_order}
+use Rattle.std.proofs.lemmas.Option.{slice_get-get_or}
+use Rattle.click_text.specs.declared.syntax.Body.{Body}
+use Rattle.click_text.specs.declared.syntax.Config.{Config}
+use Rattle.click_scopes.specs.kept.FirstFault.{first_of, AtMost, IsLeast, IsWrongScopeElement}
+use Rattle.click_scopes.specs.kept.NameFaults.{IsWrongAt, IsWrongWithin, IsNameFaultWithin, IsWrongEntry, original_at}
+use Rattle.click_scopes.specs.declared.scope_elements.ScopeElement.{ScopeElement as ScopeElementKept}
+use Rattle.click_scopes.specs.declared.classes.ClassEntry.{ClassEntry}
+use Rattle.click_scopes.specs.declared.first_fault.TokenFault.{TokenFault}
+use Rattle.click_scopes.proofs.OfFaults.LeastWrongUse.{least-first_of, least-alone, least-same, at_most-through}
+
+some_same : {X : Type 0} {x y : X} → Some x ≡ Some y → x ≡ y
+some_same h = cc h
+
+-- the first of those for which one thing holds is that of others, before each of which stands one of them
+pub least-before : (P Q : TokenFault → Type 0) (o : Option TokenFault) → ((w : TokenFault) → P w → Q w) → ((w : TokenFault) → Q w → (v : TokenFault) × P v × AtMost v w) → IsLeast P o → IsLeast Q o
+least-before P Q None f g h = λ w q. let r = g w q in h r.0 r.1
+least-before P Q (Some x) f g h = (f x h.0, λ w q. let r = g w q in at_most-through x r.0 w (h.1 r.0 r.1) r.2)
+
+-- the first of those is no later than one of them
+pub least-found : (P : TokenFault → Type 0) (o : Option TokenFault) (w : TokenFault) → IsLeast P o → P w → (v : TokenFault) × (o ≡ Some v) × AtMost v w
+least-found P None w h p = absurd (h w p)
+least-found P (Some x) w h p = (x, refl, h.1 w p)
+
+pub least-is : (P : TokenFault → Type 0) (o : Option TokenFault) (w : TokenFault) → IsLeast P o → o ≡ Some w → P w
+least-is P None w h e = absurd (cc e)
+least-is P (Some x) w h e = subst P (some_same e) h.0
+
+at_most-self : (w : TokenFault) → AtMost w w
+at_most-self w = inr (refl, omega arith)
+
+pub at_most-same : (P : TokenFault → Type 0) (w : TokenFault) → P w → (v : TokenFault) × P v × AtMost v w
+at_most-same P w p = (w, p, at_most-self w)
+
+module _ (entries : List ClassEntry) where
+  pub entries-none : IsLeast (IsWrongEntry entries 0) None
+  entries-none = λ w h. let l = h.within in omega (arith, l)
+
+  pub entries-next : (i : ℕ) (d e : ClassEntry) (o r : Option TokenFault) → i < length entries → e ≡ get_or entries i d → r ≡ first_of o (original_at e.original e.class) →
+      IsLeast (IsWrongEntry entries i) o → IsLeast (IsWrongEntry entries (i + 1)) r
+  entries-next i d e o r l is q h =
+      let here = original_at e.original e.class in
+      let there : slice_get entries i ≡ Some e = slice_get-get_or entries i d l ∙ ap Some (sym is) in
+      subst (IsLeast (IsWrongEntry entries (i + 1))) (sym q)
+      (least-same (λ w. IsWrongEntry entries i w ⊎ (here ≡ Some w)) (IsWrongEntry entries (i + 1)) (first_of o here)
+      (λ w c. elim c [
+        | inl p ↦ record { place = p.place; entry = p.entry; within = (let m = p.within in omega (arith, m)); there = p.there; is = p.is }
+        | inr p ↦ record { place = i; entry = e; within = omega arith; there = there; is = p }
+      ])
+      (λ w p. elim (cases_order p.place i) [
+        | inl s ↦ inr (let f : e ≡ p.entry = some_same (sym there ∙ ap (slice_get entries) (sym s) ∙ p.there) in
+            ap (λ (x : ClassEntry). original_at x.original x.class) f ∙ p.is)
+        | inr (inl s) ↦ inl (record { place = p.place; entry = p.entry; within = s; there = p.there; is = p.is })
+        | inr (inr s) ↦ absurd (let m = p.within in omega (arith, m, s))
+      ])
+      (least-first_of (IsWrongEntry entries i) (λ w. here ≡ Some w) o here h (least-alone here)))
+
+module _ (c : Config) (all : List (Vec ScopeElementKept Global)) where
+  -- nothing is wrong where no scope is
+  pub place-none : (place : ℕ) → slice_get all place ≡ None → IsLeast (IsWrongAt c all place) None
+  place-none place e = λ w h. let q : None ≡ Some h.elements = sym e ∙ h.there in absurd (cc q)
+
+  place-some : (place : ℕ) (ls : Vec ScopeElementKept Global) (o : Option TokenFault) → slice_get all place ≡ Some ls →
+      IsLeast (IsWrongScopeElement c.text c.bodies (nat_lt place (length c.bodies)) ls.items (length ls.items)) o → IsLeast (IsWrongAt c all place) o
+  place-some place ls o e h =
+      least-same (IsWrongScopeElement c.text c.bodies (nat_lt place (length c.bodies)) ls.items (length ls.items)) (IsWrongAt c all place) o
+      (λ w p. record { elements = ls; there = e; is = p })
+      (λ w p. let same : p.elements ≡ ls = some_same (sym p.there ∙ e) in
+      subst (λ (x : Vec ScopeElementKept Global). IsWrongScopeElement c.text c.bodies (nat_lt place (length c.bodies)) x.items (length x.items) w) same p.is)
+      h
+
+  -- the same for what the code reads
+  pub place-read : (text : List ℕ) (bodies : List Body) (b : Bool) (items : List ScopeElementKept) (place : ℕ) (ls : Vec ScopeElementKept Global) (o : Option TokenFault) →
+      text ≡ c.text → bodies ≡ c.bodies → b ≡ nat_lt place (length c.bodies) → items ≡ ls.items → slice_get all place ≡ Some ls →
+      IsLeast (IsWrongScopeElement text bodies b items (length items)) o → IsLeast (IsWrongAt c all place) o
+  place-read text bodies b items place ls o te be ne le e h =
+      place-some place ls o e
+      (subst (λ x. IsLeast (IsWrongScopeElement x c.bodies (nat_lt place (length c.bodies)) ls.items (length ls.items)) o) te
+      (subst (λ x. IsLeast (IsWrongScopeElement text x (nat_lt place (length c.bodies)) ls.items (length ls.items)) o) be
+      (subst (λ x. IsLeast (IsWrongScopeElement text bodies x ls.items (length ls.items)) o) ne
+      (subst (λ x. IsLeast (IsWrongScopeElement text bodies b x (length x)) o) le h))))
+
+  pub bodies-none : IsLeast (IsNameFaultWithin c all 0) None
+  bodies-none = λ w h. let l = h.within in omega (arith, l)
+
+  pub bodies-next : (i : ℕ) (o here r : Option TokenFault) → r ≡ first_of o here → IsLeast (IsWrongWithin c all i) here → IsLeast (IsNameFaultWithin c all i) o → IsLeast (IsNameFaultWithin c all (i + 1)) r
+  bodies-next i o here r q k h =
+      subst (IsLeast (IsNameFaultWithin c all (i + 1))) (sym q)
+      (least-same (λ w. IsNameFaultWithin c all i w ⊎ IsWrongWithin c all i w) (IsNameFaultWithin c all (i + 1)) (first_of o here)
+      (λ w d. elim d [
+        | inl p ↦ record { place = p.place; within = (let m = p.within in omega (arith, m)); is = p.is }
+        | inr p ↦ record { place = i; within = omega arith; is = p }
+      ])
+      (λ w p. elim (cases_order p.place i) [
+        | inl s ↦ inr (subst (λ n. IsWrongWithin c all n w) s p.is)
+        | inr (inl s) ↦ inl (record { place = p.place; within = s; is = p.is })
+        | inr (inr s) ↦ absurd (let m = p.within in omega (arith, m, s))
+      ])
+      (least-first_of (IsNameFaultWithin c all i) (IsWrongWithin c all i) o here h k))
+
+  pub bodies-all : (i n : ℕ) (o : Option TokenFault) → i ≡ n → IsLeast (IsNameFaultWithin c all i) o → IsLeast (IsNameFaultWithin c all n) o
+  bodies-all i n o e h = subst (λ x. IsLeast (IsNameFaultWithin c all x) o) e h

@@ -1,0 +1,222 @@
+-- What the code keeps of statements, one after another.
+use Rattle.std.proofs.Common.{◌≡◌, ℕ, suc, zero, ◌+◌, ◌<◌, ◌≤◌, List, [], ◌∷◌, ◌++◌, map, length, get_or, take, drop, reverse, Contains, Option, Some, refl, sym, ap, ◌∙◌, append_assoc, subst, arith}
+use Rattle.std.specs.List.{slice_get}
+use Rattle.std.proofs.lemmas.List.{append-nil, at_drop_all, at_drop_more, take_more, drop_more, reverse-append, take-append-drop, map-append}
+use Rattle.std.proofs.lemmas.List.Elements.{Contains-append_right}
+use Rattle.click_text.specs.declared.syntax.Span.{Span}
+use Rattle.click_text.specs.declared.syntax.Link.{Link}
+use Rattle.click_text.specs.declared.syntax.Statement.{Statement}
+use Rattle.click_text.specs.declared.syntax.Statement.TheVariants as statement
+use Rattle.click_text.specs.declared.syntax.Declaration.{Declaration}
+use Rattle.click_scopes.specs.Scopes.{head_bodies, link_bodies, bodies_in, statement_elements}
+use Rattle.click_scopes.specs.kept.Nesting.{direct}
+use Rattle.click_scopes.specs.Classes.{Meaning}
+use Rattle.click_scopes.specs.Elements.{Placed, place, placed}
+use Rattle.click_scopes.specs.kept.Tables.{meaning_by, IsBelow, IsShown, Shows, AreWritten, IsEntry, IsMore}
+use Rattle.click_scopes.specs.kept.Standing.{kept_link, kept_name, kept_elements, nested_body, Each, IsNestedBody, AreNestedBodies}
+use Rattle.click_scopes.specs.declared.classes.ClassEntry.{ClassEntry}
+use Rattle.click_scopes.specs.declared.scopes.WrittenElement.{WrittenElement}
+use Rattle.click_scopes.specs.declared.scopes.NestedBody.{NestedBody}
+use Rattle.click_scopes.proofs.OfNames.WordMeanings.{shown-below}
+
+pub slice_get-more : {X : Type 0} (xs ys : List X) (i : ℕ) (x : X) → slice_get xs i ≡ Some x → slice_get (xs ++ ys) i ≡ Some x
+slice_get-more [] ys i x h = absurd (cc h)
+slice_get-more (y ∷ xs) ys zero x h = h
+slice_get-more (y ∷ xs) ys (suc i) x h = slice_get-more xs ys i x h
+
+pub slice_get-front : {X : Type 0} (xs ys : List X) (i : ℕ) → i < length xs → slice_get (xs ++ ys) i ≡ slice_get xs i
+slice_get-front [] ys i l = absurd (omega (arith, l))
+slice_get-front (x ∷ xs) ys zero l = refl
+slice_get-front (x ∷ xs) ys (suc i) l = slice_get-front xs ys i (omega (arith, l))
+
+pub slice_get-last : {X : Type 0} (xs : List X) (x : X) → slice_get (xs ++ x ∷ []) (length xs) ≡ Some x
+slice_get-last [] x = refl
+slice_get-last (y ∷ xs) x = slice_get-last xs x
+
+pub each-append : {X : Type 0} (P : X → Type 0) (xs ys : List X) → Each P xs → Each P ys → Each P (xs ++ ys)
+each-append P [] ys h k = k
+each-append P (x ∷ xs) ys h k = (h.0, each-append P xs ys h.1 k)
+
+nested_bodies-bodies : (scope : ℕ) (top : Option ℕ) (bs : List ℕ) → map (λ (r : NestedBody). r.body) (map (nested_body scope top) bs) ≡ bs
+nested_bodies-bodies scope top [] = refl
+nested_bodies-bodies scope top (b ∷ bs) = ap (λ x. b ∷ x) (nested_bodies-bodies scope top bs)
+
+pub nested_body-links : (outer : ℕ) (top : Option ℕ) (ls : List Link) (i : ℕ) (d : Link) → i < length ls →
+    map (nested_body outer top) (link_bodies (drop i ls)) ≡ map (nested_body outer top) (head_bodies (get_or ls i d).element.head) ++ map (nested_body outer top) (link_bodies (drop (i + 1) ls))
+nested_body-links outer top ls i d l =
+    at_drop_more (λ xs. map (nested_body outer top) (link_bodies xs)) ls i d l ∙ map-append (nested_body outer top) (head_bodies (get_or ls i d).element.head) (link_bodies (drop (i + 1) ls))
+
+pub more-more : (a b c : List ClassEntry) → IsMore a b → IsMore b c → IsMore a c
+more-more a b c h k = (h.0 ++ k.0, k.1 ∙ ap (λ x. x ++ k.0) h.1 ∙ append_assoc a h.0 k.0)
+
+module _ (text : List ℕ) where
+  -- what is visible stays so when there are more definitions
+  pub shows-more : (old more : List ClassEntry) (top : Option ℕ) (vs : List Statement) → Shows text old top vs → Shows text (old ++ more) top vs
+  shows-more old more top [] h = h
+  shows-more old more top (statement.Chain k ∷ vs) h = shows-more old more top vs h
+  shows-more old more top (statement.Declaration d ∷ vs) h = shows-more old more top vs h
+  shows-more old more top (statement.Definition n b ∷ vs) h = record {
+    place = h.place;
+    entry = h.entry;
+    is = h.is;
+    there = slice_get-more old more h.place h.entry h.there;
+    same_name = h.same_name;
+    class = h.class;
+    below = h.below;
+    older = shows-more old more h.entry.older vs h.older;
+  }
+  shows-more old more top (statement.Synonym n d ∷ vs) h = record {
+    place = h.place;
+    entry = h.entry;
+    is = h.is;
+    there = slice_get-more old more h.place h.entry h.there;
+    same_name = h.same_name;
+    class = h.class;
+    below = h.below;
+    older = shows-more old more h.entry.older vs h.older;
+  }
+  shows-more old more top (statement.Requirement t ∷ vs) h = shows-more old more top vs h
+
+  pub shows-grown : (old new : List ClassEntry) (top : Option ℕ) (vs : List Statement) → IsMore old new → Shows text old top vs → Shows text new top vs
+  shows-grown old new top vs m h = subst (λ es. Shows text es top vs) (sym m.1) (shows-more old m.0 top vs h)
+
+  -- a definition at the end
+  defined-there : (es : List ClassEntry) (top : Option ℕ) (vs : List Statement) (e : ClassEntry) (n : Span) (m : Option Meaning) → e.name ≡ n → meaning_by e.class ≡ m → e.older ≡ top → Shows text es top vs →
+      IsShown text (es ++ e ∷ []) (Some (length es)) n m (λ t. Shows text (es ++ e ∷ []) t vs)
+  defined-there es top vs e n m p q r h = record {
+    place = length es;
+    entry = e;
+    is = refl;
+    there = slice_get-last es e;
+    same_name = p;
+    class = q;
+    below = subst (λ t. IsBelow t (length es)) (sym r) (shown-below text es top vs h);
+    older = subst (λ t. Shows text (es ++ e ∷ []) t vs) (sym r) (shows-more es (e ∷ []) top vs h);
+  }
+
+  pub defined : (es : List ClassEntry) (top : Option ℕ) (vs : List Statement) (st : Statement) (e : ClassEntry) → IsEntry text vs top st (Some e) → Shows text es top vs →
+      Shows text (es ++ e ∷ []) (Some (length es)) (st ∷ vs)
+  defined es top vs (statement.Chain k) e d h = absurd d
+  defined es top vs (statement.Declaration k) e d h = absurd d
+  defined es top vs (statement.Definition n b) e d h = defined-there es top vs e n _ d.0 d.1 d.2 h
+  defined es top vs (statement.Synonym n w) e d h = defined-there es top vs e n _ d.0 d.1 d.2 h
+  defined es top vs (statement.Requirement t) e d h = absurd d
+
+  pub written-grown : (old new : List ClassEntry) (ws : List WrittenElement) (ps : List Placed) → IsMore old new → AreWritten text old ws ps → AreWritten text new ws ps
+  written-grown old new [] [] m h = tt
+  written-grown old new [] (p ∷ ps) m h = absurd h
+  written-grown old new (w ∷ ws) [] m h = absurd h
+  written-grown old new (w ∷ ws) (p ∷ ps) m h =
+      (record { element = h.0.element; visible = shows-grown old new w.top p.visible m h.0.visible }, written-grown old new ws ps m h.1)
+
+  pub written-append : (es : List ClassEntry) (ws : List WrittenElement) (ps : List Placed) (vs : List WrittenElement) (qs : List Placed) → AreWritten text es ws ps → AreWritten text es vs qs →
+      AreWritten text es (ws ++ vs) (ps ++ qs)
+  written-append es [] [] vs qs h k = k
+  written-append es [] (p ∷ ps) vs qs h k = absurd h
+  written-append es (w ∷ ws) [] vs qs h k = absurd h
+  written-append es (w ∷ ws) (p ∷ ps) vs qs h k = (h.0, written-append es ws ps vs qs h.1 k)
+
+  module _ (es : List ClassEntry) (top : Option ℕ) (vs : List Statement) (h : Shows text es top vs) where
+    written-links : (ls : List Link) → AreWritten text es (map (λ l. kept_link top l) ls) (map (place vs) (map (λ (l : Link). l.element) ls))
+    written-links [] = tt
+    written-links (l ∷ ls) = (record { element = refl; visible = h }, written-links ls)
+
+    written-names : (d : Declaration) (ns : List Span) →
+        AreWritten text es (map (λ n. kept_name d top n) ns) (map (place vs) (map (λ n. (kept_name d top n).element) ns))
+    written-names d [] = tt
+    written-names d (n ∷ ns) = (record { element = refl; visible = h }, written-names d ns)
+
+    pub written-statement : (st : Statement) → AreWritten text es (kept_elements top st) (map (place vs) (statement_elements st))
+    written-statement (statement.Chain k) = (record { element = refl; visible = h }, written-links k.links)
+    written-statement (statement.Declaration d) = written-names d d.names
+    written-statement (statement.Definition n b) = tt
+    written-statement (statement.Synonym n w) = tt
+    written-statement (statement.Requirement t) = tt
+
+  nested_body-grown : (es new : List ClassEntry) (scope : ℕ) (visible all : List Statement) (r : NestedBody) → IsMore es new → IsNestedBody text es scope visible all r → IsNestedBody text new scope visible all r
+  nested_body-grown es new scope visible all r m h = record {
+    before = h.before;
+    after = h.after;
+    statement = h.statement;
+    splits = h.splits;
+    there = h.there;
+    shows = shows-grown es new r.top (reverse h.before ++ visible) m h.shows;
+    outer = h.outer;
+  }
+
+  nested_bodies-grown : (es new : List ClassEntry) (scope : ℕ) (visible all : List Statement) (rs : List NestedBody) → IsMore es new → Each (IsNestedBody text es scope visible all) rs → Each (IsNestedBody text new scope visible all) rs
+  nested_bodies-grown es new scope visible all [] m h = tt
+  nested_bodies-grown es new scope visible all (r ∷ rs) m h = (nested_body-grown es new scope visible all r m h.0, nested_bodies-grown es new scope visible all rs m h.1)
+
+  nested_bodies-at : (es : List ClassEntry) (scope : ℕ) (top : Option ℕ) (visible all before after : List Statement) (st : Statement) (bs : List ℕ) →
+      all ≡ before ++ st ∷ after → ((b : ℕ) → Contains bs b → Contains (bodies_in st) b) → Shows text es top (reverse before ++ visible) →
+      Each (IsNestedBody text es scope visible all) (map (nested_body scope top) bs)
+  nested_bodies-at es scope top visible all before after st [] e i h = tt
+  nested_bodies-at es scope top visible all before after st (b ∷ bs) e i h = (
+    record { before = before; after = after; statement = st; splits = e; there = i b (0, omega arith, refl); shows = h; outer = refl },
+    nested_bodies-at es scope top visible all before after st bs e (λ c k. i c (Contains-append_right (b ∷ []) bs c k)) h,
+  )
+
+  -- The elements and the bodies so far: those of the statements before these, and what is visible after them.
+  pub record Kept (es : List ClassEntry) (scope : ℕ) (top : Option ℕ) (ws : List WrittenElement) (first nested_bodies : List NestedBody) (visible : List Statement) (i : ℕ) (all : List Statement) : Type 0 where
+    pub seen : List Placed
+    pub shows : Shows text es top (reverse (take i all) ++ visible)
+    pub written : AreWritten text es ws seen
+    pub rest : placed visible all ≡ seen ++ placed (reverse (take i all) ++ visible) (drop i all)
+    pub more : List NestedBody
+    pub is : nested_bodies ≡ first ++ more
+    pub bodies : map (λ (r : NestedBody). r.body) more ++ direct (drop i all) ≡ direct all
+    pub each : Each (IsNestedBody text es scope visible all) more
+
+  pub kept-first : (es : List ClassEntry) (scope : ℕ) (top : Option ℕ) (nested_bodies : List NestedBody) (visible all : List Statement) → Shows text es top visible → Kept es scope top [] nested_bodies nested_bodies visible 0 all
+  kept-first es scope top nested_bodies visible all h = record { seen = []; shows = h; written = tt; rest = refl; more = []; is = sym (append-nil nested_bodies); bodies = refl; each = tt }
+
+  pub kept-next : (es new : List ClassEntry) (scope : ℕ) (top behind : Option ℕ) (ws vs : List WrittenElement) (first nested_bodies more : List NestedBody) (visible all : List Statement) (i : ℕ) (d st : Statement) →
+      i < length all → st ≡ get_or all i d → IsMore es new →
+      vs ≡ ws ++ kept_elements top st → more ≡ nested_bodies ++ map (nested_body scope top) (bodies_in st) →
+      ((ss : List Statement) → Shows text es top ss → Shows text new behind (st ∷ ss)) →
+      Kept es scope top ws first nested_bodies visible i all → Kept new scope behind vs first more visible (i + 1) all
+  kept-next es new scope top behind ws vs first nested_bodies more visible all i d st l is m w q f k =
+      let s = reverse (take i all) ++ visible in
+      let bs = bodies_in st in
+      let next : reverse (take (i + 1) all) ++ visible ≡ st ∷ s =
+      ap (λ x. reverse x ++ visible) (take_more all i d l) ∙ ap (λ x. x ++ visible) (reverse-append (take i all) (get_or all i d ∷ []))
+      ∙ ap (λ (x : Statement). x ∷ s) (sym is) in
+      let split : all ≡ take i all ++ st ∷ drop (i + 1) all =
+      sym (take-append-drop i all) ∙ ap (λ x. take i all ++ x) (drop_more all i d l) ∙ ap (λ (x : Statement). take i all ++ x ∷ drop (i + 1) all) (sym is) in
+      record {
+        seen = k.seen ++ map (place s) (statement_elements st);
+        shows = subst (Shows text new behind) (sym next) (f s k.shows);
+        written = subst (λ x. AreWritten text new x (k.seen ++ map (place s) (statement_elements st))) (sym w)
+            (written-append new ws k.seen (kept_elements top st) (map (place s) (statement_elements st))
+            (written-grown es new ws k.seen m k.written) (written-statement new top s (shows-grown es new top s m k.shows) st));
+        rest = k.rest
+            ∙ ap (λ xs. k.seen ++ xs) (at_drop_more (placed s) all i d l)
+            ∙ ap (λ (x : Statement). k.seen ++ placed s (x ∷ drop (i + 1) all)) (sym is)
+            ∙ sym (append_assoc k.seen (map (place s) (statement_elements st)) (placed (st ∷ s) (drop (i + 1) all)))
+            ∙ ap (λ x. (k.seen ++ map (place s) (statement_elements st)) ++ placed x (drop (i + 1) all)) (sym next);
+        more = k.more ++ map (nested_body scope top) bs;
+        is = q ∙ ap (λ x. x ++ map (nested_body scope top) bs) k.is ∙ append_assoc first k.more (map (nested_body scope top) bs);
+        bodies =
+            ap (λ x. x ++ direct (drop (i + 1) all)) (map-append (λ (r : NestedBody). r.body) k.more (map (nested_body scope top) bs) ∙ ap (λ x. map (λ (r : NestedBody). r.body) k.more ++ x) (nested_bodies-bodies scope top bs))
+            ∙ append_assoc (map (λ (r : NestedBody). r.body) k.more) bs (direct (drop (i + 1) all))
+            ∙ ap (λ (x : Statement). map (λ (r : NestedBody). r.body) k.more ++ direct (x ∷ drop (i + 1) all)) is
+            ∙ ap (λ x. map (λ (r : NestedBody). r.body) k.more ++ x) (sym (at_drop_more direct all i d l)) ∙ k.bodies;
+        each = each-append (IsNestedBody text new scope visible all) k.more (map (nested_body scope top) bs) (nested_bodies-grown es new scope visible all k.more m k.each)
+            (nested_bodies-at new scope top visible all (take i all) (drop (i + 1) all) st bs split (λ b j. j) (shows-grown es new top s m k.shows));
+      }
+
+  pub kept-all : (es : List ClassEntry) (scope : ℕ) (top : Option ℕ) (ws : List WrittenElement) (first nested_bodies : List NestedBody) (visible all : List Statement) (i : ℕ) → length all ≤ i →
+      Kept es scope top ws first nested_bodies visible i all → AreWritten text es ws (placed visible all)
+  kept-all es scope top ws first nested_bodies visible all i l k =
+      subst (AreWritten text es ws)
+      (sym (k.rest ∙ ap (λ xs. k.seen ++ xs) (at_drop_all (placed (reverse (take i all) ++ visible)) all i l) ∙ append-nil k.seen)) k.written
+
+  pub kept-nested_bodies : (es : List ClassEntry) (scope : ℕ) (top : Option ℕ) (ws : List WrittenElement) (first nested_bodies : List NestedBody) (visible all : List Statement) (i : ℕ) → length all ≤ i →
+      Kept es scope top ws first nested_bodies visible i all → AreNestedBodies text es scope visible all first nested_bodies
+  kept-nested_bodies es scope top ws first nested_bodies visible all i l k = record {
+    more = k.more;
+    is = k.is;
+    bodies = sym (append-nil (map (λ (r : NestedBody). r.body) k.more)) ∙ ap (λ x. map (λ (r : NestedBody). r.body) k.more ++ x) (sym (at_drop_all direct all i l)) ∙ k.bodies;
+    each = k.each;
+  }

@@ -1,0 +1,3 @@
+-- Names of classes: what they mean (`WordMeanings`), and those that mean another (`Synonyms`).
+pub mod Synonyms
+pub mod WordMeanings
