@@ -4,7 +4,6 @@ pub mod KnownInstances
 pub mod Answered
 pub mod Texts
 pub mod ParameterValues
-pub mod Classed
 pub mod Spread
 pub mod Buffered
 pub mod InstanceWalk

@@ -6,12 +6,10 @@ ghost use Rattle.click_expand.specs.declared.flat.Flat.{Flat as FlatForm};
 ghost use Rattle.click_scopes.specs.Faults.{IsFaultless};
 ghost use Rattle.click_expand.specs.Flat.{IsFlat, IsFlatFault, IsMemoryOr, IsGiven, flat_element};
 ghost use Rattle.click_expand.specs.Instances.{PrimitiveElement as Flattened};
-ghost use Rattle.click_scopes.specs.kept.ScopeElements.{AreAllScopeElements};
 ghost use Rattle.click_scopes.specs.kept.Nesting.{IsNested};
-ghost use Rattle.click_scopes.specs.Analysis.{AreTables};
+ghost use Rattle.click_scopes.specs.Analysis.{AreScopes};
 ghost use Rattle.click_expand.specs.kept.Answered.{IsExpandedOr, IsRefused, IsRefusedOf, refusal_for, fault_for, head_in};
 ghost use Rattle.click_expand.specs.kept.KnownInstances.{KnownInstance, AreInstances};
-ghost use Rattle.click_scopes.specs.kept.FirstFault.{AreShort};
 
 use crate::connections::wiring::connections_of;
 use crate::fault::{ExpandFault, FaultKind, kind_of};
@@ -22,7 +20,7 @@ use crate::instances::sizes::{MOST_ELEMENTS, MOST_PATHS, size_of};
 use crate::instances::tree::{Instances, instances_of};
 use crate::texts::elements::elements_of;
 use click_base::sequence::Sequence;
-use click_scopes::{ScopeElement, ScopeFault, Tables, analyze, first_token};
+use click_scopes::{ScopeFault, Scopes, analyze, first_token};
 use click_text::syntax::{Config, Head, Span};
 use std::alloc::{AllocError, Global};
 
@@ -53,30 +51,20 @@ impl From<AllocError> for Refusal {
 fn expanded(
     alloc: Global,
     config: &Config,
-    tables: &Tables,
+    scopes: &Scopes,
     instances: &Instances,
 ) -> Result<Option<Flat>, AllocError>
     requires nested { IsNested config.now }
     requires sound { IsFaultless config.now }
-    requires tables { AreTables config.now tables.now }
+    requires scopes { AreScopes config.now scopes.now }
     requires used { (primitive_elements : List Flattened) × (known : List KnownInstance) × AreInstances config.now instances.now.instances.items instances.now.primitive_elements.items known primitive_elements }
     ensures { IfOk result (λ r. (primitive_elements : List Flattened) (known : List KnownInstance) (paths : ℕ) → AreInstances config.now instances.now.instances.items instances.now.primitive_elements.items known primitive_elements →
         length primitive_elements ≤ 4096 → paths ≤ 16384 → IsExpandedOr config.now primitive_elements paths r) }
 {
-    let scope_elements = tables.scope_elements.as_slice();
-    let arguments = tables.arguments.as_slice();
-    let Some(elements) = elements_of(alloc, config, scope_elements, arguments, instances)? else {
+    let Some(elements) = elements_of(alloc, config, scopes, instances)? else {
         return Ok(None);
     };
-    let written_connections = tables.written_connections.as_slice();
-    let Some(connections) = connections_of(
-        alloc,
-        config,
-        scope_elements,
-        written_connections,
-        instances,
-    )?
-    else {
+    let Some(connections) = connections_of(alloc, config, scopes, instances)? else {
         return Ok(None);
     };
     Ok(Some(Flat {
@@ -86,33 +74,21 @@ fn expanded(
 }
 
 /// What the flat element at a place begins with.
-fn head_at(
-    scope_elements: &[Vec<ScopeElement>],
-    instances: &Instances,
-    place: usize,
-) -> Option<Head>
-    ensures { result ≡ head_in scope_elements.now instances.now.instances.items instances.now.primitive_elements.items place }
+fn head_at(scopes: &Scopes, instances: &Instances, place: usize) -> Option<Head>
+    ensures { result ≡ head_in scopes.now.scopes.items instances.now.instances.items instances.now.primitive_elements.items place }
 {
     let primitive_element = instances.primitive_elements.get(place)?;
     let one = instances.instances.get(primitive_element.within)?;
-    let scope = scope_elements.get(one.scope)?;
-    let scope_element = scope.get(primitive_element.element)?;
-    Some(scope_element.head)
+    scopes.head_at(one.scope, primitive_element.element)
 }
 
 /// The first token of the flat element at a place.
-fn token_of(
-    config: &Config,
-    scope_elements: &[Vec<ScopeElement>],
-    instances: &Instances,
-    place: usize,
-) -> Span
-    requires short { AreShort config.now.bodies }
-    requires scope_elements { AreAllScopeElements config.now scope_elements.now }
+fn token_of(config: &Config, scopes: &Scopes, instances: &Instances, place: usize) -> Span
+    requires scopes { AreScopes config.now scopes.now }
     ensures { (primitive_elements : List Flattened) (known : List KnownInstance) (primitive_element : Flattened) → AreInstances config.now instances.now.instances.items instances.now.primitive_elements.items known primitive_elements →
         slice_get primitive_elements place ≡ Some primitive_element → result ≡ primitive_element.first }
 {
-    match head_at(scope_elements, instances, place) {
+    match head_at(scopes, instances, place) {
         Some(head) => first_token(config.bodies.as_slice(), head),
         None => Span { start: 0, end: 0 },
     }
@@ -122,17 +98,16 @@ fn token_of(
 fn refused_of(
     alloc: Global,
     config: &Config,
-    scope_elements: &[Vec<ScopeElement>],
+    scopes: &Scopes,
     instances: &Instances,
     elements: &[FlatElement],
 ) -> Result<Option<Refusal>, AllocError>
-    requires short { AreShort config.now.bodies }
-    requires scope_elements { AreAllScopeElements config.now scope_elements.now }
+    requires scopes { AreScopes config.now scopes.now }
     ensures { IfOk result (λ r. (primitive_elements : List Flattened) (known : List KnownInstance) → AreInstances config.now instances.now.instances.items instances.now.primitive_elements.items known primitive_elements →
         elements.now ≡ map flat_element primitive_elements → IsRefusedOf primitive_elements r) }
 {
     if let Some(place) = first_repeated(alloc, elements)? {
-        let token = token_of(config, scope_elements, instances, place);
+        let token = token_of(config, scopes, instances, place);
         return Ok(Some(Refusal::At(FaultKind::DeclaredTwice, token)));
     }
     if let Some(place) = first_broken(alloc, elements)? {
@@ -144,29 +119,22 @@ fn refused_of(
 }
 
 /// The flat form of a configuration without a wrong use, or why it has none.
-fn sound_flat(alloc: Global, config: &Config, tables: &Tables) -> Result<Flat, Refusal>
+fn sound_flat(alloc: Global, config: &Config, scopes: &Scopes) -> Result<Flat, Refusal>
     requires nested { IsNested config.now }
     requires sound { IsFaultless config.now }
-    requires tables { AreTables config.now tables.now }
+    requires scopes { AreScopes config.now scopes.now }
     ensures flat { IfOk result (λ flat. IsFlat config.now flat) }
     ensures err { IfErr result (λ why. IsRefused config.now why) }
 {
-    let scope_elements = tables.scope_elements.as_slice();
-    let size = size_of(alloc, config, scope_elements)?;
+    let size = size_of(alloc, config, scopes)?;
     if size.elements > MOST_ELEMENTS || size.paths > MOST_PATHS {
         return Err(Refusal::TooMany);
     }
-    let instances = instances_of(alloc, config, &tables.scopes, scope_elements, size.paths)?;
-    let Some(flat) = expanded(alloc, config, tables, &instances)? else {
+    let instances = instances_of(alloc, config, scopes, size.paths)?;
+    let Some(flat) = expanded(alloc, config, scopes, &instances)? else {
         return Err(Refusal::TooMany);
     };
-    match refused_of(
-        alloc,
-        config,
-        scope_elements,
-        &instances,
-        flat.elements.as_slice(),
-    )? {
+    match refused_of(alloc, config, scopes, &instances, flat.elements.as_slice())? {
         Some(why) => Err(why),
         None => Ok(flat),
     }
@@ -190,7 +158,7 @@ fn flat_of(alloc: Global, config: &Config) -> Result<Flat, Refusal>
     ensures err { IfErr result (λ why. IsRefused config.now why) }
 {
     match analyze(alloc, config) {
-        Ok(tables) => sound_flat(alloc, config, &tables),
+        Ok(scopes) => sound_flat(alloc, config, &scopes),
         Err(fault) => Err(refusal_of(fault)),
     }
 }

@@ -1,7 +1,7 @@
--- The connections of a scope (`ConnectionPairs`, `ScopeConnections`), whose ports their ends are (`EndOwners`), and the ports of bodies (`UsedPorts`,
+-- The connections of a scope (`ConnectionPairs`, `AllScopes`), whose ports their ends are (`EndOwners`), and the ports of bodies (`UsedPorts`,
 -- `BodyPortCounts`).
+pub mod AllScopes
 pub mod BodyPortCounts
 pub mod ConnectionPairs
 pub mod EndOwners
-pub mod ScopeConnections
 pub mod UsedPorts

@@ -1,7 +1,7 @@
--- The elements of a scope: those of its statements (`StatementElements`, `WrittenElements`), their names (`DeclaredNames`), their arguments
--- (`ElementArguments`), and the tables of all scopes (`ElementTables`).
+-- The elements of a scope: those of its statements (`StatementElements`, `WrittenElements`), their names (`DeclaredNames`), the names and strings of those that are kept
+-- (`ElementTables`), and the bodies that they stand for (`ElementBodies`).
 pub mod DeclaredNames
-pub mod ElementArguments
+pub mod ElementBodies
 pub mod ElementTables
 pub mod StatementElements
 pub mod WrittenElements

@@ -1,4 +1,6 @@
 pub mod Tables
+pub mod Lookups
+pub mod AllScopes
 pub mod Standing
 pub mod Nesting
 pub mod Scoped

@@ -1,34 +1,21 @@
-//! From a configuration to what is found once for each of its scopes.
+//! From a configuration to its scopes.
 
 ghost use Rattle.std.specs.Prelude.{IfOk, IfErr};
 ghost use Rattle.click_text.specs.Spelling.{Spells};
 ghost use Rattle.click_scopes.specs.Faults.{IsFaultless};
 ghost use Rattle.click_scopes.specs.kept.Nesting.{IsNested};
+ghost use Rattle.click_scopes.specs.kept.Scoped.{AreSynonyms};
 ghost use Rattle.click_scopes.specs.kept.FirstFault.{AreShort};
-ghost use Rattle.click_scopes.specs.Analysis.{AreTables, IsFirst, IsScopeFault};
+ghost use Rattle.click_scopes.specs.Analysis.{AreScopes, IsFirst, IsScopeFault};
 
-use crate::compound_arguments::all_arguments;
+use crate::classes::ClassEntry;
 use crate::compound_faults::first_compound_fault;
 use crate::first_fault::{TokenFault, first_of};
 use crate::name_faults::first_name_fault;
-use crate::scope_elements::{ScopeElement, all_scope_elements};
-use crate::scopes::{Scopes, scopes_of};
-use crate::written_connections::{WrittenConnection, all_written_connections};
-use click_base::sequence::Sequence;
-use click_text::syntax::{Config, Span};
+use crate::scopes::{Scopes, all_scopes};
+use crate::written_scopes::scopes_of;
+use click_text::syntax::Config;
 use std::alloc::{AllocError, Global};
-
-/// What is found once for each scope: for the body at each place, and last for the whole text.
-#[derive(Drop)]
-pub struct Tables {
-    pub scopes: Scopes,
-    /// The elements of each scope.
-    pub scope_elements: Vec<Vec<ScopeElement>>,
-    /// For each element that is a compound, where its arguments stand in its configuration string; for others nothing.
-    pub arguments: Vec<Sequence<Sequence<Span>>>,
-    /// The connections of each scope as written.
-    pub written_connections: Vec<Sequence<WrittenConnection>>,
-}
 
 /// Why there is nothing to be found.
 #[derive(Clone, Copy, Debug, PartialEq, Eq)]
@@ -49,45 +36,20 @@ impl From<AllocError> for ScopeFault {
     }
 }
 
-/// What is found once for each scope of a configuration.
-fn tables_of(alloc: Global, config: &Config) -> Result<Tables, AllocError>
-    requires nested { IsNested config.now }
-    requires short { AreShort config.now.bodies }
-    ensures { IfOk result (AreTables config.now) }
-{
-    let scopes = scopes_of(alloc, config)?;
-    let scope_elements = all_scope_elements(alloc, config, &scopes)?;
-    let arguments = all_arguments(alloc, config, scope_elements.as_slice())?;
-    let written_connections = all_written_connections(alloc, config, &scopes)?;
-    Ok(Tables {
-        scopes,
-        scope_elements,
-        arguments,
-        written_connections,
-    })
-}
-
 /// The first wrong use of a name, class, parameter or port.
 fn first_wrong(
     alloc: Global,
     config: &Config,
-    tables: &Tables,
+    entries: &[ClassEntry],
+    scopes: &Scopes,
 ) -> Result<Option<TokenFault>, AllocError>
     requires nested { IsNested config.now }
-    requires tables { AreTables config.now tables.now }
+    requires synonyms { AreSynonyms config.now entries.now }
+    requires scopes { AreScopes config.now scopes.now }
     ensures { IfOk result (IsFirst config.now) }
 {
-    let scope_elements = tables.scope_elements.as_slice();
-    let arguments = tables.arguments.as_slice();
-    let written_connections = tables.written_connections.as_slice();
-    let name_fault = first_name_fault(alloc, config, &tables.scopes, scope_elements)?;
-    let compound_fault = first_compound_fault(
-        alloc,
-        config,
-        scope_elements,
-        arguments,
-        written_connections,
-    )?;
+    let name_fault = first_name_fault(alloc, config, entries, scopes)?;
+    let compound_fault = first_compound_fault(alloc, config, scopes)?;
     Ok(first_of(name_fault, compound_fault))
 }
 
@@ -99,18 +61,19 @@ fn text_len(config: &Config) -> usize
     config.text.len()
 }
 
-/// What is found once for each scope of a configuration that a text spells: its elements with their classes and arguments, and its connections as
-/// written (Click manual, "Compound elements"). Or, of wrong names, classes, parameters and ports, the one that stands first in the text.
-pub fn analyze(alloc: Global, config: &Config) -> Result<Tables, ScopeFault>
+/// The scopes of a configuration that a text spells: the elements of each with their classes and arguments, and its connections as written (Click manual,
+/// "Compound elements"). Or, of wrong names, classes, parameters and ports, the one that stands first in the text.
+pub fn analyze(alloc: Global, config: &Config) -> Result<Scopes, ScopeFault>
     requires { Spells config.now.text config.now }
-    ensures tables { IfOk result (AreTables config.now) }
+    ensures scopes { IfOk result (AreScopes config.now) }
     ensures sound { IfOk result (λ _. IsFaultless config.now) }
     ensures err { IfErr result (IsScopeFault config.now) }
 {
     let _length = text_len(config);
-    let tables = tables_of(alloc, config)?;
-    match first_wrong(alloc, config, &tables)? {
+    let written = scopes_of(alloc, config)?;
+    let scopes = all_scopes(alloc, config, &written)?;
+    match first_wrong(alloc, config, written.entries.as_slice(), &scopes)? {
         Some(wrong) => Err(ScopeFault::Wrong(wrong)),
-        None => Ok(tables),
+        None => Ok(scopes),
     }
 }

@@ -1,63 +1,28 @@
 //! Wrong numbers of arguments and ports that a compound lacks: the first in the text.
 
 ghost use Rattle.std.specs.Prelude.{◌≡◌, length, slice_get, IfOk};
-ghost use Rattle.click_scopes.specs.kept.ScopeElements.{AreAllScopeElements};
-ghost use Rattle.click_scopes.specs.kept.CompoundArguments.{AreAllArguments};
-ghost use Rattle.click_scopes.specs.kept.WrittenConnections.{AreAllWrittenConnections};
+ghost use Rattle.click_scopes.specs.Analysis.{AreScopes};
 ghost use Rattle.click_scopes.specs.kept.Nesting.{IsNested};
 ghost use Rattle.click_scopes.specs.Scopes.{body_formals};
 ghost use Rattle.click_scopes.specs.kept.FirstFault.{AreShort, IsLeast, IsCompoundFault};
+ghost use Rattle.click_scopes.specs.kept.Lookups.{scope_element_body};
 ghost use Rattle.click_scopes.specs.kept.CompoundFaults as spec;
-ghost use Rattle.click_scopes.specs.kept.CompoundFaults.{compound_by, call_fault_at, lacking, source_by, target_by, list_or_empty, items_of, Among, IsWrongCall, IsWrongWrittenConnection, IsWrongIn, IsCompoundFaultOfBody};
+ghost use Rattle.click_scopes.specs.kept.CompoundFaults.{call_fault_at, lacking, source_by, target_by, Among, IsWrongCall, IsWrongWrittenConnection, IsWrongIn, IsCompoundFaultOfBody};
 
-use crate::classes::ResolvedClass;
 use crate::fault::WrongUse;
 use crate::first_fault::{TokenFault, first_of, first_token, wrong_if};
-use crate::ports::{Ports, all_ports, ports_at, written_connections_at};
+use crate::ports::{Ports, all_ports, ports_at};
 use crate::scope_elements::ScopeElement;
+use crate::scopes::Scopes;
 use crate::written_connections::{Owner, WrittenConnection};
-use click_base::sequence::Sequence;
 use click_text::syntax::{Body, Config, Head, Span};
 use std::alloc::{AllocError, Global};
 
-/// The elements of the scope at a place.
-fn scope_elements_at(scope_elements: &[Vec<ScopeElement>], place: usize) -> &[ScopeElement]
-    ensures { result.now ≡ items_of (slice_get scope_elements.now place) }
-{
-    match scope_elements.get(place) {
-        Some(row) => row.as_slice(),
-        None => &[],
-    }
-}
-
-/// The arguments of the scope at a place.
-fn arguments_at(arguments: &[Sequence<Sequence<Span>>], place: usize) -> &[Sequence<Span>]
-    ensures { result.now ≡ list_or_empty (slice_get arguments.now place) }
-{
-    match arguments.get(place) {
-        Some(row) => row.as_slice(),
-        None => &[],
-    }
-}
-
-/// The compound that a class is.
-fn compound_of(class: Option<ResolvedClass>) -> Option<usize>
-    ensures { result ≡ compound_by class }
-{
-    match class {
-        Some(ResolvedClass::Compound(body)) => Some(body),
-        _ => None,
-    }
-}
-
 /// The compound that the element at a place is.
 fn compound_in(scope_elements: &[ScopeElement], place: usize) -> Option<usize>
-    ensures { result ≡ spec.compound_in (slice_get scope_elements.now place) }
+    ensures { result ≡ scope_element_body (slice_get scope_elements.now place) }
 {
-    match scope_elements.get(place) {
-        Some(scope_element) => compound_of(scope_element.class),
-        None => None,
-    }
+    scope_elements.get(place)?.body()
 }
 
 /// How many parameters a body has.
@@ -71,37 +36,28 @@ fn formals_count(bodies: &[Body], body: usize) -> usize
 }
 
 /// An element with more or fewer arguments than its compound has parameters.
-fn wrong_call(
-    bodies: &[Body],
-    scope_element: &ScopeElement,
-    arguments: &[Sequence<Span>],
-    place: usize,
-) -> Option<TokenFault>
+fn wrong_call(bodies: &[Body], scope_element: &ScopeElement) -> Option<TokenFault>
     requires { AreShort bodies.now }
-    ensures { result ≡ call_fault_at bodies.now scope_element.now (slice_get arguments.now place) }
+    ensures { result ≡ call_fault_at bodies.now scope_element.now }
 {
-    match (compound_of(scope_element.class), arguments.get(place)) {
-        (Some(body), Some(spans)) => wrong_if(
-            spans.len() != formals_count(bodies, body),
+    match scope_element.body() {
+        Some(body) => wrong_if(
+            scope_element.arguments.len() != formals_count(bodies, body),
             WrongUse::WrongParameters,
             first_token(bodies, scope_element.head),
         ),
-        _ => None,
+        None => None,
     }
 }
 
 /// The first element of a scope with a wrong number of arguments.
-fn in_calls(
-    bodies: &[Body],
-    scope_elements: &[ScopeElement],
-    arguments: &[Sequence<Span>],
-) -> Option<TokenFault>
+fn in_calls(bodies: &[Body], scope_elements: &[ScopeElement]) -> Option<TokenFault>
     requires { AreShort bodies.now }
-    ensures { IsLeast (Among (IsWrongCall bodies.now scope_elements.now arguments.now) (length scope_elements.now)) result }
+    ensures { IsLeast (Among (IsWrongCall bodies.now scope_elements.now) (length scope_elements.now)) result }
 {
     let mut first = None;
-    for (place, scope_element) in scope_elements.iter().enumerate() {
-        first = first_of(first, wrong_call(bodies, scope_element, arguments, place));
+    for scope_element in scope_elements {
+        first = first_of(first, wrong_call(bodies, scope_element));
     }
     first
 }
@@ -180,24 +136,13 @@ fn in_written_connections(
 }
 
 /// The first wrong use in the scope at a place.
-fn in_scope(
-    bodies: &[Body],
-    scope_elements: &[Vec<ScopeElement>],
-    arguments: &[Sequence<Sequence<Span>>],
-    written_connections: &[Sequence<WrittenConnection>],
-    ports: &[Ports],
-    place: usize,
-) -> Option<TokenFault>
+fn in_scope(bodies: &[Body], scopes: &Scopes, ports: &[Ports], place: usize) -> Option<TokenFault>
     requires { AreShort bodies.now }
-    ensures { IsLeast (IsWrongIn bodies.now scope_elements.now arguments.now written_connections.now ports.now place) result }
+    ensures { IsLeast (IsWrongIn bodies.now scopes.now.scopes.items ports.now place) result }
 {
-    let elements = scope_elements_at(scope_elements, place);
-    let call = in_calls(bodies, elements, arguments_at(arguments, place));
-    let written_connection = in_written_connections(
-        elements,
-        ports,
-        written_connections_at(written_connections, place),
-    );
+    let elements = scopes.elements_at(place);
+    let call = in_calls(bodies, elements);
+    let written_connection = in_written_connections(elements, ports, scopes.connections_at(place));
     first_of(call, written_connection)
 }
 
@@ -214,26 +159,13 @@ fn wrong_ports(bodies: &[Body], ports: &[Ports], place: usize) -> Option<TokenFa
 }
 
 /// The first wrong use in any body.
-fn in_bodies(
-    bodies: &[Body],
-    scope_elements: &[Vec<ScopeElement>],
-    arguments: &[Sequence<Sequence<Span>>],
-    written_connections: &[Sequence<WrittenConnection>],
-    ports: &[Ports],
-) -> Option<TokenFault>
+fn in_bodies(bodies: &[Body], scopes: &Scopes, ports: &[Ports]) -> Option<TokenFault>
     requires { AreShort bodies.now }
-    ensures { IsLeast (Among (IsCompoundFaultOfBody bodies.now scope_elements.now arguments.now written_connections.now ports.now) (length bodies.now)) result }
+    ensures { IsLeast (Among (IsCompoundFaultOfBody bodies.now scopes.now.scopes.items ports.now) (length bodies.now)) result }
 {
     let mut first = None;
     for place in 0..bodies.len() {
-        let inside = in_scope(
-            bodies,
-            scope_elements,
-            arguments,
-            written_connections,
-            ports,
-            place,
-        );
+        let inside = in_scope(bodies, scopes, ports, place);
         let gap = wrong_ports(bodies, ports, place);
         first = first_of(first, first_of(inside, gap));
     }
@@ -244,33 +176,15 @@ fn in_bodies(
 pub fn first_compound_fault(
     alloc: Global,
     config: &Config,
-    scope_elements: &[Vec<ScopeElement>],
-    arguments: &[Sequence<Sequence<Span>>],
-    written_connections: &[Sequence<WrittenConnection>],
+    scopes: &Scopes,
 ) -> Result<Option<TokenFault>, AllocError>
     requires nested { IsNested config.now }
-    requires short { AreShort config.now.bodies }
-    requires scope_elements { AreAllScopeElements config.now scope_elements.now }
-    requires arguments { AreAllArguments config.now arguments.now }
-    requires joined { AreAllWrittenConnections config.now written_connections.now }
+    requires scopes { AreScopes config.now scopes.now }
     ensures { IfOk result (IsLeast (IsCompoundFault config.now)) }
 {
     let bodies = config.bodies.as_slice();
-    let ports = all_ports(alloc, config, written_connections)?;
-    let inside = in_bodies(
-        bodies,
-        scope_elements,
-        arguments,
-        written_connections,
-        ports.as_slice(),
-    );
-    let enclosing = in_scope(
-        bodies,
-        scope_elements,
-        arguments,
-        written_connections,
-        ports.as_slice(),
-        bodies.len(),
-    );
+    let ports = all_ports(alloc, config, scopes)?;
+    let inside = in_bodies(bodies, scopes, ports.as_slice());
+    let enclosing = in_scope(bodies, scopes, ports.as_slice(), bodies.len());
     Ok(first_of(inside, enclosing))
 }

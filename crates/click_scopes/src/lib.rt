@@ -13,13 +13,13 @@ mod ports;
 mod scope_elements;
 mod scopes;
 mod written_connections;
+mod written_scopes;
 
-pub use analysis::{ScopeFault, Tables, analyze};
-pub use classes::{ClassEntry, ResolvedClass};
-pub use compound_arguments::string_inside;
+pub use analysis::{ScopeFault, analyze};
+pub use classes::ResolvedClass;
 pub use fault::WrongUse;
 pub use first_fault::{TokenFault, first_token};
 pub use names::Names;
 pub use scope_elements::ScopeElement;
-pub use scopes::{Scope, Scopes, WrittenElement};
+pub use scopes::{Scope, Scopes};
 pub use written_connections::{End, Owner, WrittenConnection};

@@ -1,17 +1,16 @@
 //! Names, classes and parameters that are unknown or declared twice: the first in the text.
 
 ghost use Rattle.std.specs.Prelude.{◌≡◌, length, slice_get, IfOk};
-ghost use Rattle.click_scopes.specs.kept.ScopeElements.{AreAllScopeElements, AreAllStrings};
+ghost use Rattle.click_scopes.specs.Analysis.{AreScopes};
 ghost use Rattle.click_scopes.specs.kept.NameFaults.{IsWrongAt, IsWrongWithin, IsNameFaultWithin, IsWrongEntry, original_at};
 ghost use Rattle.click_scopes.specs.kept.Nesting.{IsNested};
-ghost use Rattle.click_scopes.specs.kept.Scoped.{AreScopes, AreSynonyms};
+ghost use Rattle.click_scopes.specs.kept.Scoped.{AreSynonyms};
 ghost use Rattle.click_scopes.specs.Scopes.{body_formals};
 ghost use Rattle.click_scopes.specs.kept.FirstFault.{AreShort, IsLeast, IsNameFault};
 
 use crate::classes::ClassEntry;
 use crate::fault::WrongUse;
 use crate::first_fault::{TokenFault, first_of, in_formals, in_scope_elements};
-use crate::scope_elements::ScopeElement;
 use crate::scopes::Scopes;
 use click_text::syntax::{Body, Config, Span};
 use std::alloc::{AllocError, Global};
@@ -44,24 +43,16 @@ fn in_entries(entries: &[ClassEntry]) -> Option<TokenFault>
 fn in_scope(
     alloc: Global,
     config: &Config,
-    scope_elements: &[Vec<ScopeElement>],
+    scopes: &Scopes,
     place: usize,
 ) -> Result<Option<TokenFault>, AllocError>
     requires { AreShort config.now.bodies }
-    ensures { IfOk result (IsLeast (IsWrongAt config.now scope_elements.now place)) }
+    ensures { IfOk result (IsLeast (IsWrongAt config.now scopes.now.scopes.items place)) }
 {
     let text = config.text.as_slice();
     let bodies = config.bodies.as_slice();
-    match scope_elements.get(place) {
-        Some(elements) => in_scope_elements(
-            alloc,
-            text,
-            bodies,
-            place < bodies.len(),
-            elements.as_slice(),
-        ),
-        None => Ok(None),
-    }
+    let elements = scopes.elements_at(place);
+    in_scope_elements(alloc, text, bodies, place < bodies.len(), elements)
 }
 
 /// The parameters of the body at a place.
@@ -78,15 +69,15 @@ fn formals_at(bodies: &[Body], place: usize) -> &[Span]
 fn in_body(
     alloc: Global,
     config: &Config,
-    scope_elements: &[Vec<ScopeElement>],
+    scopes: &Scopes,
     place: usize,
 ) -> Result<Option<TokenFault>, AllocError>
     requires { AreShort config.now.bodies }
-    ensures { IfOk result (IsLeast (IsWrongWithin config.now scope_elements.now place)) }
+    ensures { IfOk result (IsLeast (IsWrongWithin config.now scopes.now.scopes.items place)) }
 {
     let text = config.text.as_slice();
     let formals = formals_at(config.bodies.as_slice(), place);
-    let elements = in_scope(alloc, config, scope_elements, place)?;
+    let elements = in_scope(alloc, config, scopes, place)?;
     let parameters = in_formals(alloc, text, formals)?;
     Ok(first_of(elements, parameters))
 }
@@ -95,14 +86,14 @@ fn in_body(
 fn in_bodies(
     alloc: Global,
     config: &Config,
-    scope_elements: &[Vec<ScopeElement>],
+    scopes: &Scopes,
 ) -> Result<Option<TokenFault>, AllocError>
     requires { AreShort config.now.bodies }
-    ensures { IfOk result (IsLeast (IsNameFaultWithin config.now scope_elements.now (length config.now.bodies))) }
+    ensures { IfOk result (IsLeast (IsNameFaultWithin config.now scopes.now.scopes.items (length config.now.bodies))) }
 {
     let mut first = None;
     for place in 0..config.bodies.len() {
-        let found = in_body(alloc, config, scope_elements, place)?;
+        let found = in_body(alloc, config, scopes, place)?;
         first = first_of(first, found);
     }
     Ok(first)
@@ -112,19 +103,16 @@ fn in_bodies(
 pub fn first_name_fault(
     alloc: Global,
     config: &Config,
+    entries: &[ClassEntry],
     scopes: &Scopes,
-    scope_elements: &[Vec<ScopeElement>],
 ) -> Result<Option<TokenFault>, AllocError>
     requires nested { IsNested config.now }
-    requires short { AreShort config.now.bodies }
-    requires scoped { AreScopes config.now scopes.now.entries.items scopes.now.scopes.items }
-    requires synonyms { AreSynonyms config.now scopes.now.entries.items }
-    requires scope_elements { AreAllScopeElements config.now scope_elements.now }
-    requires strings { AreAllStrings config.now scope_elements.now }
+    requires synonyms { AreSynonyms config.now entries.now }
+    requires scopes { AreScopes config.now scopes.now }
     ensures { IfOk result (IsLeast (IsNameFault config.now)) }
 {
-    let whole = in_scope(alloc, config, scope_elements, config.bodies.len())?;
-    let bodies = in_bodies(alloc, config, scope_elements)?;
-    let originals = in_entries(scopes.entries.as_slice());
+    let whole = in_scope(alloc, config, scopes, config.bodies.len())?;
+    let bodies = in_bodies(alloc, config, scopes)?;
+    let originals = in_entries(entries);
     Ok(first_of(first_of(whole, bodies), originals))
 }

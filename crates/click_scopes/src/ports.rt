@@ -1,12 +1,12 @@
 //! The ports of bodies.
 
 ghost use Rattle.std.specs.Prelude.{◌≡◌, ◌≤◌, ◌↔◌, ℕ, List, [], ◌∷◌, ◌++◌, length, slice_get, IsTrue, IfOk, OnOk};
-ghost use Rattle.click_scopes.specs.kept.WrittenConnections.{AreAllWrittenConnections};
+ghost use Rattle.click_scopes.specs.Analysis.{AreScopes};
 ghost use Rattle.click_scopes.specs.kept.Nesting.{IsNested};
-ghost use Rattle.click_scopes.specs.kept.CompoundFaults.{inputs_kept, outputs_kept, ports_or, list_or_empty, HasGap, IsUsed, IsPorts, ArePorts};
+ghost use Rattle.click_scopes.specs.kept.CompoundFaults.{inputs_kept, outputs_kept, ports_or, HasGap, IsUsed, IsPorts, ArePorts};
 
+use crate::scopes::Scopes;
 use crate::written_connections::{Owner, WrittenConnection};
-use click_base::sequence::Sequence;
 use click_text::syntax::Config;
 use std::alloc::{AllocError, Global};
 
@@ -98,32 +98,19 @@ fn ports_by(written_connections: &[WrittenConnection]) -> Ports
     }
 }
 
-/// The connections of the scope at a place.
-pub(crate) fn written_connections_at(
-    written_connections: &[Sequence<WrittenConnection>],
-    place: usize,
-) -> &[WrittenConnection]
-    ensures { result.now ≡ list_or_empty (slice_get written_connections.now place) }
-{
-    match written_connections.get(place) {
-        Some(row) => row.as_slice(),
-        None => &[],
-    }
-}
-
 /// The ports of each body.
 pub(crate) fn all_ports(
     alloc: Global,
     config: &Config,
-    written_connections: &[Sequence<WrittenConnection>],
+    scopes: &Scopes,
 ) -> Result<Vec<Ports>, AllocError>
     requires nested { IsNested config.now }
-    requires joined { AreAllWrittenConnections config.now written_connections.now }
+    requires scopes { AreScopes config.now scopes.now }
     ensures { IfOk result (λ ports. ArePorts config.now ports.items) }
 {
     let mut ports = Vec::new(alloc);
     for place in 0..config.bodies.len() {
-        ports.push(ports_by(written_connections_at(written_connections, place)))?;
+        ports.push(ports_by(scopes.connections_at(place)))?;
     }
     Ok(ports)
 }

@@ -1,17 +1,19 @@
 //! The elements of a scope and their names.
 
-ghost use Rattle.std.specs.Prelude.{◌≡◌, ◌<◌, ℕ, List, [], ◌∷◌, ◌++◌, map, IfOk, OnOk};
+ghost use Rattle.std.specs.Prelude.{◌≡◌, ◌<◌, ℕ, List, [], ◌∷◌, ◌++◌, map, All, IfOk, OnOk};
 ghost use Rattle.click_scopes.specs.Elements as spec;
 ghost use Rattle.click_scopes.specs.Elements.{Placed, has_name, scope_elements_from};
-ghost use Rattle.click_scopes.specs.kept.Nesting.{IsNested};
-ghost use Rattle.click_scopes.specs.kept.Scoped.{AreScopes};
-ghost use Rattle.click_scopes.specs.kept.ScopeElements.{AreScopeElementsOf, AreStringsOf, AreAllScopeElements, AreAllStrings, strings_of, strings_made};
+ghost use Rattle.click_scopes.specs.kept.CompoundArguments.{HasArguments};
+ghost use Rattle.click_scopes.specs.kept.Lookups.{class_body};
+ghost use Rattle.click_scopes.specs.kept.ScopeElements.{AreScopeElementsOf, AreStringsOf, strings_of, strings_made};
 ghost use Rattle.click_scopes.specs.kept.Tables.{IsWrittenElement, AreWritten, elements_of, names_declared, numbers_from, role_kept, scope_element_of};
 
 use crate::classes::{ClassEntry, ResolvedClass, class_at};
+use crate::compound_arguments::arguments_of;
 use crate::names::Names;
-use crate::scopes::{Scopes, WrittenElement};
-use click_text::syntax::{ClassReference, Config, Element, Head, Span};
+use crate::written_scopes::WrittenElement;
+use click_base::sequence::Sequence;
+use click_text::syntax::{ClassReference, Element, Head, Span};
 use itoa::Buffer;
 use std::alloc::{AllocError, Global};
 
@@ -32,7 +34,21 @@ pub struct ScopeElement {
     pub name: Vec<u8>,
     pub class: Option<ResolvedClass>,
     pub text: Option<Span>,
+    /// Where the arguments of a compound stand in its configuration string. Others have none.
+    pub arguments: Sequence<Span>,
     pub head: Head,
+}
+
+impl ScopeElement {
+    /// The body that it stands for.
+    pub fn body(&self) -> Option<usize>
+        ensures { result ≡ class_body self.now.class }
+    {
+        match self.class {
+            Some(ResolvedClass::Compound(body)) => Some(body),
+            _ => None,
+        }
+    }
 }
 
 /// The word is the name of a body's own ports.
@@ -125,11 +141,14 @@ fn made(
     requires { before < usize.MAX }
     ensures scope_element { IfOk result (λ l. (p : Placed) → IsWrittenElement text.now entries.now one p → scope_element_of text.now l ≡ spec.scope_element text.now before p) }
     ensures string { IfOk result (λ l. l.text ≡ one.element.text) }
+    ensures arguments { IfOk result (HasArguments text.now) }
 {
+    let class = class_at(text, entries, one.top, head_class(one.element.head));
     Ok(ScopeElement {
         name: made_name(alloc, text, before, one.element.head)?,
-        class: class_at(text, entries, one.top, head_class(one.element.head)),
+        class,
         text: one.element.text,
+        arguments: arguments_of(alloc, text, class, one.element.text)?,
         head: one.element.head,
     })
 }
@@ -156,6 +175,7 @@ fn scope_elements_of(
 ) -> Result<Vec<ScopeElement>, AllocError>
     ensures scope_elements { IfOk result (λ ls. (ps : List Placed) → AreWritten text.now entries.now written.now ps → map (scope_element_of text.now) ls.items ≡ scope_elements_from text.now in_body declared.now 0 ps) }
     ensures strings { IfOk result (λ ls. strings_of ls.items ≡ strings_made text.now in_body declared.now (elements_of written.now)) }
+    ensures arguments { IfOk result (λ ls. All (HasArguments text.now) ls.items) }
 {
     let mut scope_elements = Vec::new(alloc);
     for one in written {
@@ -189,7 +209,7 @@ pub(crate) fn numbers_of(
 }
 
 /// The elements of a scope, whichever names it declares.
-fn scope_elements_in(
+pub(crate) fn scope_elements_in(
     alloc: Global,
     text: &[u8],
     entries: &[ClassEntry],
@@ -198,47 +218,9 @@ fn scope_elements_in(
 ) -> Result<Vec<ScopeElement>, AllocError>
     ensures scope_elements { IfOk result (λ ls. AreScopeElementsOf text.now entries.now in_body written.now ls.items) }
     ensures strings { IfOk result (λ ls. AreStringsOf text.now in_body written.now ls.items) }
+    ensures arguments { IfOk result (λ ls. All (HasArguments text.now) ls.items) }
 {
     let declared = declared_of(alloc, text, written)?;
     let scope_elements = scope_elements_of(alloc, text, entries, in_body, &declared, written)?;
     Ok(scope_elements)
-}
-
-/// Adds the elements of a scope at the end.
-fn push_scope_elements(
-    all: &mut Vec<Vec<ScopeElement>>,
-    scope_elements: Vec<ScopeElement>,
-) -> Result<(), AllocError>
-    ensures { OnOk result (all.new.items ≡ all.old.items ++ scope_elements ∷ []) }
-{
-    all.push(scope_elements)?;
-    Ok(())
-}
-
-/// The elements of each scope of a configuration.
-pub fn all_scope_elements(
-    alloc: Global,
-    config: &Config,
-    scopes: &Scopes,
-) -> Result<Vec<Vec<ScopeElement>>, AllocError>
-    requires nested { IsNested config.now }
-    requires scoped { AreScopes config.now scopes.now.entries.items scopes.now.scopes.items }
-    ensures scope_elements { IfOk result (λ all. AreAllScopeElements config.now all.items) }
-    ensures strings { IfOk result (λ all. AreAllStrings config.now all.items) }
-{
-    let text = config.text.as_slice();
-    let count = config.bodies.len();
-    let entries = scopes.entries.as_slice();
-    let mut all = Vec::new(alloc);
-    for (place, scope) in scopes.scopes.as_slice().iter().enumerate() {
-        let scope_elements = scope_elements_in(
-            alloc,
-            text,
-            entries,
-            place < count,
-            scope.written.as_slice(),
-        )?;
-        push_scope_elements(&mut all, scope_elements)?;
-    }
-    Ok(all)
 }

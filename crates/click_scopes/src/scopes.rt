@@ -1,304 +1,152 @@
-//! The scopes of a configuration: each body by its place, and after them the whole text.
+//! The scopes of a configuration: what each declares and joins.
 
-ghost use Rattle.std.specs.Prelude.{◌≡◌, List, [], ◌∷◌, ◌++◌, map, slice_get, IfOk, OnOk};
-ghost use Rattle.click_text.specs.declared.syntax.Statement.{Statement as Stated};
-ghost use Rattle.click_scopes.specs.Scopes.{bodies_in, class_bodies, head_bodies, link_bodies, body_statements};
-ghost use Rattle.click_scopes.specs.Elements.{placed};
-ghost use Rattle.click_scopes.specs.Faults as faults;
-ghost use Rattle.click_scopes.specs.kept.Tables.{Shows, AreWritten, IsMore, IsEntry};
+ghost use Rattle.std.specs.Prelude.{◌≡◌, ◌∷◌, ◌++◌, [], slice_get, IfOk, OnOk};
 ghost use Rattle.click_scopes.specs.kept.Nesting.{IsNested};
-ghost use Rattle.click_scopes.specs.kept.Scoped.{AreScopes, AreSynonyms, ports_in};
-ghost use Rattle.click_scopes.specs.kept.Standing.{kept_link, kept_name, kept_elements, nested_body, AreNestedBodies, written_ports, IsDefined, AddsSynonyms};
+ghost use Rattle.click_scopes.specs.kept.Scoped.{AreWrittenScopes};
+ghost use Rattle.click_scopes.specs.kept.FirstFault.{AreShort};
+ghost use Rattle.click_scopes.specs.kept.AllScopes.{IsScopeOf, AreAllScopes};
+ghost use Rattle.click_scopes.specs.kept.Lookups as spec;
 
-use crate::classes::{ClassEntry, ResolvedClass, find};
-use click_text::syntax::{
-    Body, Chain, ClassReference, Config, Declaration, Element, Head, Link, Statement, WrittenPort,
-};
+use crate::classes::{ClassEntry, ResolvedClass};
+use crate::compound_arguments::string_inside;
+use crate::scope_elements::{ScopeElement, scope_elements_in};
+use crate::written_connections::{WrittenConnection, written_connections_in};
+use crate::written_scopes::{WrittenScope, WrittenScopes};
+use click_base::Class;
+use click_base::sequence::Sequence;
+use click_text::syntax::{Config, Head, Span};
 use std::alloc::{AllocError, Global};
 
-/// An element as it is written: the last definition that is visible there, and the ports that join it to the element before it.
-#[derive(Clone, Copy)]
-pub struct WrittenElement {
-    pub element: Element,
-    pub top: Option<usize>,
-    pub ports: Option<(u8, u8)>,
-}
-
-/// A body, the place of the scope that it stands in, and the last definition that is visible there.
-#[derive(Clone, Copy)]
-pub struct NestedBody {
-    pub body: usize,
-    pub outer: usize,
-    pub top: Option<usize>,
-}
-
-/// A scope: its elements as they are written, and the place of the scope that it stands in. The whole text names itself.
+/// A scope: its elements, its connections as written, and the place of the scope that it stands in. The whole text names itself.
 #[derive(Drop)]
 pub struct Scope {
-    pub written: Vec<WrittenElement>,
-    pub outer: usize,
+    pub elements: Vec<ScopeElement>,
+    pub connections: Sequence<WrittenConnection>,
+    pub parent: usize,
 }
 
-/// The scopes of a configuration, each body at its own place and the whole text after them, and the definitions of classes in them.
+/// The scopes of a configuration: each body at its own place, and the whole text after them.
 #[derive(Drop)]
 pub struct Scopes {
     pub scopes: Vec<Scope>,
-    pub entries: Vec<ClassEntry>,
 }
 
-/// The number of a port. One that is not written is 0.
-fn port_number(port: Option<WrittenPort>) -> u8
-    ensures { result ≡ faults.port_number port }
-{
-    match port {
-        None => 0,
-        Some(port) => port.number,
-    }
-}
-
-/// Adds the further elements of a chain.
-fn push_links(
-    written: &mut Vec<WrittenElement>,
-    links: &[Link],
-    top: Option<usize>,
-) -> Result<(), AllocError>
-    ensures { OnOk result (written.new.items ≡ written.old.items ++ map (λ l. kept_link top l) links.now) }
-{
-    for link in links {
-        written.push(WrittenElement {
-            element: link.element,
-            top,
-            ports: Some((port_number(link.from), port_number(link.to))),
-        })?;
-    }
-    Ok(())
-}
-
-/// Adds the elements of a declaration of several names.
-fn push_names(
-    written: &mut Vec<WrittenElement>,
-    declaration: &Declaration,
-    top: Option<usize>,
-) -> Result<(), AllocError>
-    ensures { OnOk result (written.new.items ≡ written.old.items ++ map (λ n. kept_name declaration.now top n) declaration.now.names) }
-{
-    for name in declaration.names.as_slice() {
-        written.push(WrittenElement {
-            element: Element {
-                head: Head::Declared(*name, declaration.class),
-                text: declaration.text,
-            },
-            top,
-            ports: None,
-        })?;
-    }
-    Ok(())
-}
-
-/// Adds the first element of a chain and the further ones.
-fn push_chain(
-    written: &mut Vec<WrittenElement>,
-    chain: &Chain,
-    top: Option<usize>,
-) -> Result<(), AllocError>
-    ensures { OnOk result (written.new.items ≡ written.old.items ++ kept_elements top (Statement.Chain chain.now)) }
-{
-    written.push(WrittenElement {
-        element: chain.first,
-        top,
-        ports: None,
-    })?;
-    push_links(written, chain.links.as_slice(), top)
-}
-
-/// Adds the elements of a statement.
-fn push_elements(
-    written: &mut Vec<WrittenElement>,
-    statement: &Statement,
-    top: Option<usize>,
-) -> Result<(), AllocError>
-    ensures { OnOk result (written.new.items ≡ written.old.items ++ kept_elements top statement.now) }
-{
-    match statement {
-        Statement::Chain(chain) => push_chain(written, chain, top),
-        Statement::Declaration(declaration) => push_names(written, declaration, top),
-        _ => Ok(()),
-    }
-}
-
-/// Adds a body that stands in a scope.
-fn push_nested_body(
-    nested_bodies: &mut Vec<NestedBody>,
-    body: usize,
-    outer: usize,
-    top: Option<usize>,
-) -> Result<(), AllocError>
-    ensures { OnOk result (nested_bodies.new.items ≡ nested_bodies.old.items ++ map (nested_body outer top) (body ∷ [])) }
-{
-    nested_bodies.push(NestedBody { body, outer, top })?;
-    Ok(())
-}
-
-fn push_class_nested_body(
-    nested_bodies: &mut Vec<NestedBody>,
-    class: ClassReference,
-    outer: usize,
-    top: Option<usize>,
-) -> Result<(), AllocError>
-    ensures { OnOk result (nested_bodies.new.items ≡ nested_bodies.old.items ++ map (nested_body outer top) (class_bodies class)) }
-{
-    match class {
-        ClassReference::Named(_) => Ok(()),
-        ClassReference::Body(body) => push_nested_body(nested_bodies, body, outer, top),
-    }
-}
-
-fn push_head_nested_body(
-    nested_bodies: &mut Vec<NestedBody>,
-    head: Head,
-    outer: usize,
-    top: Option<usize>,
-) -> Result<(), AllocError>
-    ensures { OnOk result (nested_bodies.new.items ≡ nested_bodies.old.items ++ map (nested_body outer top) (head_bodies head)) }
-{
-    match head {
-        Head::Word(_) => Ok(()),
-        Head::Declared(_, class) => push_class_nested_body(nested_bodies, class, outer, top),
-        Head::Compound(body) => push_nested_body(nested_bodies, body, outer, top),
-    }
-}
-
-fn push_link_nested_bodies(
-    nested_bodies: &mut Vec<NestedBody>,
-    links: &[Link],
-    outer: usize,
-    top: Option<usize>,
-) -> Result<(), AllocError>
-    ensures { OnOk result (nested_bodies.new.items ≡ nested_bodies.old.items ++ map (nested_body outer top) (link_bodies links.now)) }
-{
-    for link in links {
-        push_head_nested_body(nested_bodies, link.element.head, outer, top)?;
-    }
-    Ok(())
-}
-
-fn push_chain_nested_bodies(
-    nested_bodies: &mut Vec<NestedBody>,
-    chain: &Chain,
-    outer: usize,
-    top: Option<usize>,
-) -> Result<(), AllocError>
-    ensures { OnOk result (nested_bodies.new.items ≡ nested_bodies.old.items ++ map (nested_body outer top) (bodies_in (Statement.Chain chain.now))) }
-{
-    push_head_nested_body(nested_bodies, chain.first.head, outer, top)?;
-    push_link_nested_bodies(nested_bodies, chain.links.as_slice(), outer, top)
-}
-
-/// Adds the bodies that stand in a statement.
-fn push_nested_bodies(
-    nested_bodies: &mut Vec<NestedBody>,
-    statement: &Statement,
-    outer: usize,
-    top: Option<usize>,
-) -> Result<(), AllocError>
-    ensures { OnOk result (nested_bodies.new.items ≡ nested_bodies.old.items ++ map (nested_body outer top) (bodies_in statement.now)) }
-{
-    match statement {
-        Statement::Chain(chain) => push_chain_nested_bodies(nested_bodies, chain, outer, top),
-        Statement::Declaration(declaration) => {
-            push_class_nested_body(nested_bodies, declaration.class, outer, top)
+impl Scopes {
+    /// The elements of the scope at a place.
+    pub fn elements_at(&self, scope: usize) -> &[ScopeElement]
+        ensures { result.now ≡ spec.elements_by (slice_get self.now.scopes.items scope) }
+    {
+        match self.scopes.get(scope) {
+            Some(one) => one.elements.as_slice(),
+            None => &[],
         }
-        Statement::Definition { name: _, body } => push_nested_body(
-            nested_bodies,
-            *body,
-            outer,
-            top,
-        ),
-        _ => Ok(()),
     }
-}
 
-/// The definition that a statement makes, after those up to `top`.
-fn entry_of(
-    text: &[u8],
-    entries: &[ClassEntry],
-    statement: &Statement,
-    top: Option<usize>,
-) -> Option<ClassEntry>
-    ensures { (visible : List Stated) → Shows text.now entries.now top visible → IsEntry text.now visible top statement.now result }
-{
-    match statement {
-        Statement::Definition { name, body } => Some(ClassEntry {
-            name: *name,
-            class: Some(ResolvedClass::Compound(*body)),
-            older: top,
-            original: None,
-        }),
-        Statement::Synonym { name, class } => Some(ClassEntry {
-            name: *name,
-            class: find(text, entries, top, *class),
-            older: top,
-            original: Some(*class),
-        }),
-        _ => None,
+    /// The connections of the scope at a place.
+    pub fn connections_at(&self, scope: usize) -> &[WrittenConnection]
+        ensures { result.now ≡ spec.connections_by (slice_get self.now.scopes.items scope) }
+    {
+        match self.scopes.get(scope) {
+            Some(one) => one.connections.as_slice(),
+            None => &[],
+        }
     }
-}
 
-/// Adds the definition that a statement makes, and says what is visible after it.
-fn define(
-    text: &[u8],
-    entries: &mut Vec<ClassEntry>,
-    statement: &Statement,
-    top: Option<usize>,
-) -> Result<Option<usize>, AllocError>
-    ensures grows { IsMore entries.old.items entries.new.items }
-    ensures shows { IfOk result (λ behind. (visible : List Stated) → Shows text.now entries.old.items top visible → Shows text.now entries.new.items behind (statement.now ∷ visible)) }
-    ensures adds { OnOk result ((visible : List Stated) → Shows text.now entries.old.items top visible → IsDefined text.now visible top statement.now entries.old.items entries.new.items) }
-{
-    match entry_of(text, entries.as_slice(), statement, top) {
-        None => Ok(top),
-        Some(entry) => {
-            let place = entries.len();
-            entries.push(entry)?;
-            Ok(Some(place))
+    /// The place of the scope that a scope stands in.
+    pub fn parent_of(&self, scope: usize) -> usize
+        ensures { result ≡ spec.parent_by (slice_get self.now.scopes.items scope) }
+    {
+        match self.scopes.get(scope) {
+            Some(one) => one.parent,
+            None => 0,
+        }
+    }
+
+    /// The body that an element of a scope stands for.
+    pub fn body_at(&self, scope: usize, element: usize) -> Option<usize>
+        ensures { result ≡ spec.body_at self.now.scopes.items scope element }
+    {
+        self.scopes.get(scope)?.elements.get(element)?.body()
+    }
+
+    /// The class of an element that is one of the router's: none for another.
+    pub fn class_at(&self, scope: usize, element: usize) -> Option<Class>
+        ensures { result ≡ spec.class_found (slice_get self.now.scopes.items scope) element }
+    {
+        match self.scopes.get(scope)?.elements.get(element)?.class {
+            Some(ResolvedClass::Primitive(class)) => Some(class),
+            _ => None,
+        }
+    }
+
+    /// The name of an element in its scope.
+    pub fn name_at(&self, scope: usize, element: usize) -> &[u8]
+        ensures { result.now ≡ spec.scope_name element (slice_get self.now.scopes.items scope) }
+    {
+        let Some(one) = self.scopes.get(scope) else {
+            return &[];
+        };
+        match one.elements.get(element) {
+            Some(scope_element) => scope_element.name.as_slice(),
+            None => &[],
+        }
+    }
+
+    /// What an element begins with.
+    pub fn head_at(&self, scope: usize, element: usize) -> Option<Head>
+        ensures { result ≡ spec.scope_head element (slice_get self.now.scopes.items scope) }
+    {
+        let scope_element = self.scopes.get(scope)?.elements.get(element)?;
+        Some(scope_element.head)
+    }
+
+    /// What stands in the configuration string of an element.
+    pub fn string_at<'a>(&self, text: &'a [u8], scope: usize, element: usize) -> &'a [u8]
+        ensures { result.now ≡ spec.string_found text.now (slice_get self.now.scopes.items scope) element }
+    {
+        let Some(one) = self.scopes.get(scope) else {
+            return &[];
+        };
+        match one.elements.get(element) {
+            Some(scope_element) => string_inside(text, scope_element.text),
+            None => &[],
+        }
+    }
+
+    /// Where the arguments of an element stand in its string.
+    pub fn arguments_at(&self, scope: usize, element: usize) -> &[Span]
+        ensures { result.now ≡ spec.spans_found (slice_get self.now.scopes.items scope) element }
+    {
+        let Some(one) = self.scopes.get(scope) else {
+            return &[];
+        };
+        match one.elements.get(element) {
+            Some(scope_element) => scope_element.arguments.as_slice(),
+            None => &[],
         }
     }
 }
 
-/// The elements of a scope, whose definitions and bodies are added.
-fn written_of(
+/// The scope that is written so.
+fn scope_of(
     alloc: Global,
-    text: &[u8],
-    statements: &[Statement],
-    entries: &mut Vec<ClassEntry>,
-    nested_bodies: &mut Vec<NestedBody>,
-    scope: usize,
-    outside: Option<usize>,
-) -> Result<Vec<WrittenElement>, AllocError>
-    ensures grows { IsMore entries.old.items entries.new.items }
-    ensures written { IfOk result (λ ws. (visible : List Stated) → Shows text.now entries.old.items outside visible → AreWritten text.now entries.new.items ws.items (placed visible statements.now)) }
-    ensures nested_bodies { OnOk result ((visible : List Stated) → Shows text.now entries.old.items outside visible → AreNestedBodies text.now entries.new.items scope visible statements.now nested_bodies.old.items nested_bodies.new.items) }
-    ensures ports { IfOk result (λ ws. written_ports ws.items ≡ ports_in statements.now) }
-    ensures synonyms { OnOk result ((visible : List Stated) → Shows text.now entries.old.items outside visible → AddsSynonyms text.now visible statements.now entries.old.items entries.new.items) }
+    config: &Config,
+    entries: &[ClassEntry],
+    in_body: bool,
+    written: &WrittenScope,
+) -> Result<Scope, AllocError>
+    requires { AreShort config.now.bodies }
+    ensures { IfOk result (λ scope. IsScopeOf config.now entries.now in_body written.now scope) }
 {
-    let mut written = Vec::new(alloc);
-    let mut top = outside;
-    for statement in statements {
-        push_elements(&mut written, statement, top)?;
-        push_nested_bodies(nested_bodies, statement, scope, top)?;
-        top = define(text, entries, statement, top)?;
-    }
-    Ok(written)
-}
-
-/// The statements of the body at a place.
-fn statements_at(bodies: &[Body], place: usize) -> &[Statement]
-    ensures { result.now ≡ body_statements (slice_get bodies.now place) }
-{
-    match bodies.get(place) {
-        Some(body) => body.statements.as_slice(),
-        None => &[],
-    }
+    let text = config.text.as_slice();
+    let all = written.written.as_slice();
+    let elements = scope_elements_in(alloc, text, entries, in_body, all)?;
+    let connections = written_connections_in(alloc, config, in_body, all)?;
+    Ok(Scope {
+        elements,
+        connections,
+        parent: written.outer,
+    })
 }
 
 /// Adds a scope at the end.
@@ -309,54 +157,23 @@ fn push_scope(scopes: &mut Vec<Scope>, scope: Scope) -> Result<(), AllocError>
     Ok(())
 }
 
-/// The scopes of a configuration, and the definitions of classes in them.
-pub fn scopes_of(alloc: Global, config: &Config) -> Result<Scopes, AllocError>
-    requires { IsNested config.now }
-    ensures scopes { IfOk result (λ r. AreScopes config.now r.entries.items r.scopes.items) }
-    ensures synonyms { IfOk result (λ r. AreSynonyms config.now r.entries.items) }
+/// The scopes of a configuration that are written so.
+pub(crate) fn all_scopes(
+    alloc: Global,
+    config: &Config,
+    written: &WrittenScopes,
+) -> Result<Scopes, AllocError>
+    requires nested { IsNested config.now }
+    requires short { AreShort config.now.bodies }
+    requires scoped { AreWrittenScopes config.now written.now.entries.items written.now.scopes.items }
+    ensures { IfOk result (λ all. AreAllScopes config.now all.scopes.items) }
 {
-    let text = config.text.as_slice();
-    let bodies = config.bodies.as_slice();
-    let statements = config.statements.as_slice();
-    let count = bodies.len();
-    let mut entries = Vec::new(alloc);
-    let mut nested_bodies = Vec::new(alloc);
+    let count = config.bodies.len();
+    let entries = written.entries.as_slice();
     let mut scopes = Vec::new(alloc);
-    let written = written_of(
-        alloc,
-        text,
-        statements,
-        &mut entries,
-        &mut nested_bodies,
-        count,
-        None,
-    )?;
-    push_scope(
-        &mut scopes,
-        Scope {
-            written,
-            outer: count,
-        },
-    )?;
-    while let Some(nested_body) = nested_bodies.pop() {
-        let inner = statements_at(bodies, nested_body.body);
-        let written = written_of(
-            alloc,
-            text,
-            inner,
-            &mut entries,
-            &mut nested_bodies,
-            nested_body.body,
-            nested_body.top,
-        )?;
-        push_scope(
-            &mut scopes,
-            Scope {
-                written,
-                outer: nested_body.outer,
-            },
-        )?;
+    for (place, one) in written.scopes.as_slice().iter().enumerate() {
+        let scope = scope_of(alloc, config, entries, place < count, one)?;
+        push_scope(&mut scopes, scope)?;
     }
-    scopes.reverse();
-    Ok(Scopes { scopes, entries })
+    Ok(Scopes { scopes })
 }

@@ -7,9 +7,8 @@ ghost use Rattle.click_text.specs.declared.syntax.Config.{Config as Configured};
 ghost use Rattle.click_scopes.specs.Elements as spec;
 ghost use Rattle.click_scopes.specs.Elements.{Placed, ScopeElement, placed, has_name};
 ghost use Rattle.click_scopes.specs.Faults.{ScopeNames as NamesSaid, written_end, written_connections_from};
-ghost use Rattle.click_scopes.specs.kept.Nesting.{IsNested};
-ghost use Rattle.click_scopes.specs.kept.Scoped.{AreScopes, ports_in};
-ghost use Rattle.click_scopes.specs.kept.WrittenConnections.{IsOwner, IsEndKept, AreWrittenConnections, AreAllWrittenConnections};
+ghost use Rattle.click_scopes.specs.kept.Scoped.{ports_in};
+ghost use Rattle.click_scopes.specs.kept.WrittenConnections.{IsOwner, IsEndKept, AreWrittenConnections};
 ghost use Rattle.click_scopes.specs.kept.ConnectionEnds.{at, names_among, scope_elements_in, placed_elements, AreDeclared, AreNamesKnown, IsHere, AreEndsKept, AreWrittenConnectionsOf, written_connection_by};
 ghost use Rattle.click_scopes.specs.kept.Tables.{elements_of, names_declared};
 ghost use Rattle.click_scopes.specs.kept.FirstFault.{AreShort};
@@ -17,7 +16,7 @@ ghost use Rattle.click_scopes.specs.kept.FirstFault.{AreShort};
 use crate::first_fault::first_token;
 use crate::names::Names;
 use crate::scope_elements::{Role, numbers_of, role_of};
-use crate::scopes::{Scopes, WrittenElement};
+use crate::written_scopes::WrittenElement;
 use click_base::sequence::Sequence;
 use click_text::syntax::{Config, Element, Head, Span};
 use std::alloc::{AllocError, Global};
@@ -267,7 +266,7 @@ fn written_connections_between(
 }
 
 /// The connections of a scope.
-fn written_connections_in(
+pub(crate) fn written_connections_in(
     alloc: Global,
     config: &Config,
     in_body: bool,
@@ -279,40 +278,4 @@ fn written_connections_in(
     let ends = ends_of(alloc, config, in_body, written)?;
     let written_connections = written_connections_between(alloc, ends.as_slice(), written)?;
     Ok(written_connections)
-}
-
-/// Adds the connections of a scope at the end.
-fn push_written_connections(
-    all: &mut Vec<Sequence<WrittenConnection>>,
-    written_connections: Sequence<WrittenConnection>,
-) -> Result<(), AllocError>
-    ensures { OnOk result (all.new.items ≡ all.old.items ++ written_connections ∷ []) }
-{
-    all.push(written_connections)?;
-    Ok(())
-}
-
-/// The connections of each scope of a configuration, in the order of the text.
-pub fn all_written_connections(
-    alloc: Global,
-    config: &Config,
-    scopes: &Scopes,
-) -> Result<Vec<Sequence<WrittenConnection>>, AllocError>
-    requires nested { IsNested config.now }
-    requires short { AreShort config.now.bodies }
-    requires scoped { AreScopes config.now scopes.now.entries.items scopes.now.scopes.items }
-    ensures { IfOk result (λ all. AreAllWrittenConnections config.now all.items) }
-{
-    let count = config.bodies.len();
-    let mut all = Vec::new(alloc);
-    for (place, scope) in scopes.scopes.as_slice().iter().enumerate() {
-        let written_connections = written_connections_in(
-            alloc,
-            config,
-            place < count,
-            scope.written.as_slice(),
-        )?;
-        push_written_connections(&mut all, written_connections)?;
-    }
-    Ok(all)
 }

@@ -1,8 +1,7 @@
 -- The flat elements by the tables: what they begin with, and which of them are refused.
-use Rattle.std.proofs.Common.{◌≡◌, ℕ, suc, zero, ◌<◌, List, [], ◌∷◌, ◌++◌, map, take, length, true, All, Contains, Some, None, Vec, refl, sym, ap, ◌∙◌, subst, arith}
-use Rattle.std.specs.Global.{Global}
+use Rattle.std.proofs.Common.{◌≡◌, ℕ, suc, zero, ◌<◌, List, [], ◌∷◌, ◌++◌, map, take, length, true, All, Contains, Some, None, refl, sym, ap, ◌∙◌, subst, arith}
 use Rattle.std.specs.List.{slice_get, slice_index_or}
-use Rattle.std.proofs.lemmas.Option.{same_Some, slice_get_within, none-some}
+use Rattle.std.proofs.lemmas.Option.{same_Some, slice_get_within}
 use Rattle.click_text.specs.declared.syntax.Span.{Span}
 use Rattle.click_text.specs.declared.syntax.Head.{Head}
 use Rattle.click_text.specs.declared.syntax.Head.TheVariants as head
@@ -14,42 +13,39 @@ use Rattle.click_expand.specs.Flat.{AreDistinct, is_whole, flat_name, flat_names
 use Rattle.click_expand.specs.kept.FinalChecks.{flat_names_in, IsRepeated, IsBroken}
 use Rattle.click_scopes.specs.kept.Tables.{scope_element_of}
 use Rattle.click_scopes.specs.kept.FirstFault.{first_in}
-use Rattle.click_scopes.specs.kept.ScopeElements.{AreAllScopeElements}
+use Rattle.click_scopes.specs.kept.AllScopes.{AreAllScopes}
 use Rattle.click_expand.specs.kept.KnownInstances.{KnownInstance, scope_elements_at, AreInstances}
-use Rattle.click_expand.specs.kept.Answered.{scope_element_head, scope_head, instance_head, place_head, head_in, IsRefusedOf}
+use Rattle.click_expand.specs.kept.Answered.{instance_head, place_head, head_in, IsRefusedOf}
 use Rattle.click_expand.specs.declared.fault.FaultKind.TheVariants as kind
 use Rattle.click_expand.specs.declared.flat.FlatElement.{FlatElement}
 use Rattle.click_expand.specs.declared.flattening.Refusal.TheVariants as refused
 use Rattle.click_scopes.specs.declared.scope_elements.ScopeElement.{ScopeElement as ScopeElementKept}
+use Rattle.click_scopes.specs.kept.Lookups.{scope_element_head, scope_head}
+use Rattle.click_scopes.specs.declared.scopes.Scope.{Scope as ScopeKept}
 use Rattle.click_expand.specs.declared.instances.tree.Place.{Place}
 use Rattle.click_expand.specs.declared.instances.tree.Instance.{Instance as InstanceKept}
-use Rattle.click_scopes.proofs.OfLists.ListParts.{at-place}
+use Rattle.click_scopes.proofs.OfLists.ListParts.{at-place, map-there}
 
 pub some-at : {X : Type 0} (xs : List X) (n : ℕ) → n < length xs → (x : X) × (slice_get xs n ≡ Some x)
 some-at [] n l = absurd (omega (arith, l))
 some-at (x ∷ xs) zero l = (x, refl)
 some-at (x ∷ xs) (suc n) l = some-at xs n (omega (arith, l))
 
-pub map-at : {X Y : Type 0} (f : X → Y) (xs : List X) (i : ℕ) (y : Y) → slice_get (map f xs) i ≡ Some y → (x : X) × (slice_get xs i ≡ Some x) × (f x ≡ y)
-map-at f [] i y e = absurd (none-some y e)
-map-at f (x ∷ xs) zero y e = (x, refl, same_Some (f x) y e)
-map-at f (x ∷ xs) (suc i) y e = map-at f xs i y e
-
-head-found : (scope_elements : List (Vec ScopeElementKept Global)) (instances : List InstanceKept) (places : List Place) (n : ℕ) (p : Place) (k : InstanceKept) (ls : Vec ScopeElementKept Global) (l : ScopeElementKept) →
-    slice_get places n ≡ Some p → slice_get instances p.within ≡ Some k → slice_get scope_elements k.scope ≡ Some ls → slice_get ls.items p.element ≡ Some l →
-    head_in scope_elements instances places n ≡ Some l.head
-head-found scope_elements instances places n p k ls l a b d e =
-    ap (place_head scope_elements instances) a ∙ ap (instance_head scope_elements p.element) b ∙ ap (scope_head p.element) d ∙ ap scope_element_head e
+head-found : (scopes : List ScopeKept) (instances : List InstanceKept) (places : List Place) (n : ℕ) (p : Place) (k : InstanceKept) (s : ScopeKept) (l : ScopeElementKept) →
+    slice_get places n ≡ Some p → slice_get instances p.within ≡ Some k → slice_get scopes k.scope ≡ Some s → slice_get s.elements.items p.element ≡ Some l →
+    head_in scopes instances places n ≡ Some l.head
+head-found scopes instances places n p k s l a b d e =
+    ap (place_head scopes instances) a ∙ ap (instance_head scopes p.element) b ∙ ap (scope_head p.element) d ∙ ap scope_element_head e
 
 -- what a flat element begins with, by the tables
-pub record IsHeaded (c : Config) (scope_elements : List (Vec ScopeElementKept Global)) (instances : List InstanceKept) (places : List Place) (n : ℕ) (f : PrimitiveElement) : Type 0 where
+pub record IsHeaded (c : Config) (scopes : List ScopeKept) (instances : List InstanceKept) (places : List Place) (n : ℕ) (f : PrimitiveElement) : Type 0 where
   pub head : Head
-  pub there : head_in scope_elements instances places n ≡ Some head
+  pub there : head_in scopes instances places n ≡ Some head
   pub first : first_token c head ≡ f.first
 
-pub primitive_element-head : (c : Config) (scope_elements : List (Vec ScopeElementKept Global)) (instances : List InstanceKept) (places : List Place) (known : List KnownInstance) (primitive_elements : List PrimitiveElement) → AreAllScopeElements c scope_elements →
-    AreInstances c instances places known primitive_elements → (n : ℕ) (f : PrimitiveElement) → slice_get primitive_elements n ≡ Some f → IsHeaded c scope_elements instances places n f
-primitive_element-head c scope_elements instances places known primitive_elements all used n f e =
+pub primitive_element-head : (c : Config) (scopes : List ScopeKept) (instances : List InstanceKept) (places : List Place) (known : List KnownInstance) (primitive_elements : List PrimitiveElement) → AreAllScopes c scopes →
+    AreInstances c instances places known primitive_elements → (n : ℕ) (f : PrimitiveElement) → slice_get primitive_elements n ≡ Some f → IsHeaded c scopes instances places n f
+primitive_element-head c scopes instances places known primitive_elements all used n f e =
     let p = some-at places n (subst (λ k. n < k) (sym used.as_many_primitive_elements) (slice_get_within primitive_elements n f e)) in
     let r = used.primitive_element n p.0 p.1 in
     let same : r.0 ≡ f = same_Some r.0 f (sym r.1 ∙ e) in
@@ -57,10 +53,10 @@ primitive_element-head c scope_elements instances places known primitive_element
     let u = used.each p.0.within g.instance_kept g.instance_there in
     let here : u.0 ≡ g.used = same_Some u.0 g.used (sym u.1 ∙ g.instance_is_there) in
     let ls = all u.0.scope u.0.visible u.0.enclosing u.2.stands in
-    let m = map-at (scope_element_of c.text) ls.0.items p.0.element g.scope_element (ap (λ zs. slice_get zs p.0.element) (ls.2 ∙ ap (scope_elements_at c) here) ∙ g.scope_element_there) in
+    let m = map-there (scope_element_of c.text) ls.0.elements.items p.0.element g.scope_element (ap (λ zs. slice_get zs p.0.element) (ls.2.elements ∙ ap (scope_elements_at c) here) ∙ g.scope_element_there) in
     record {
       head = m.0.head;
-      there = head-found scope_elements instances places n p.0 g.instance_kept ls.0 m.0 p.1 g.instance_there (ap (slice_get scope_elements) u.2.scope ∙ ls.1) m.1;
+      there = head-found scopes instances places n p.0 g.instance_kept ls.0 m.0 p.1 g.instance_there (ap (slice_get scopes) u.2.scope ∙ ls.1) m.1;
       first = ap (λ (l : ScopeElement). first_token c l.head) m.2 ∙ sym g.first ∙ ap (λ (l : PrimitiveElement). l.first) same;
     }
 
@@ -99,7 +95,7 @@ record IsPrimitiveElementAt (primitive_elements : List PrimitiveElement) (es : L
 
 primitive_element-at : (primitive_elements : List PrimitiveElement) (es : List FlatElement) (i : ℕ) (e : FlatElement) → es ≡ map flat_element primitive_elements → slice_get es i ≡ Some e → IsPrimitiveElementAt primitive_elements es i e
 primitive_element-at primitive_elements es i e h t =
-    let m = map-at flat_element primitive_elements i e (ap (λ xs. slice_get xs i) (sym h) ∙ t) in
+    let m = map-there flat_element primitive_elements i e (ap (λ xs. slice_get xs i) (sym h) ∙ t) in
     let a = at-place primitive_elements i m.0 m.1 in
     record {
       primitive_element = m.0;

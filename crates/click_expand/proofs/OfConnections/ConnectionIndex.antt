@@ -9,6 +9,7 @@ use Rattle.std.proofs.lemmas.List.Elements.{Contains-push, Contains-push_cases, 
 use Rattle.click_scopes.specs.declared.written_connections.Owner.{Owner}
 use Rattle.click_scopes.specs.declared.written_connections.Owner.TheVariants as owner
 use Rattle.click_scopes.specs.declared.written_connections.WrittenConnection.{WrittenConnection}
+use Rattle.click_scopes.specs.declared.scopes.Scope.{Scope as ScopeKept}
 use Rattle.click_expand.specs.declared.connections.connection_index.ScopePort.{ScopePort}
 use Rattle.click_expand.specs.declared.connections.connection_index.ConnectionIndex.{ConnectionIndex}
 use Rattle.click_expand.specs.kept.Wiring.{scope_port, same_owner, same_port, IsJoined, ends_or_none, ends_in, IsIndex, AreIndices}
@@ -111,28 +112,28 @@ index-more ks i k d old new l is h changed =
         ((q : ScopePort) → ends_in new q ≡ cond (same_port (scope_port k.from.owner k.out_port) q) (ends_in old (scope_port k.from.owner k.out_port) ++ scope_port k.to.owner k.in_port ∷ []) (ends_in old q)) → IsIndex (ks ++ k ∷ []) new
     pushed ks k old new h changed = index-push ks k old new h changed
 
-pub indices-push : (all : List (List WrittenConnection)) (xs : List ConnectionIndex) (ks : List WrittenConnection) (x : ConnectionIndex) → AreIndices all xs → IsIndex ks x.ends.entries → AreIndices (all ++ ks ∷ []) (xs ++ x ∷ [])
-indices-push [] [] ks x h k = (k, tt)
-indices-push [] (y ∷ xs) ks x h k = absurd h
-indices-push (js ∷ all) [] ks x h k = absurd h
-indices-push (js ∷ all) (y ∷ xs) ks x h k = (h.0, indices-push all xs ks x h.1 k)
+pub indices-push : (all : List ScopeKept) (xs : List ConnectionIndex) (k : ScopeKept) (x : ConnectionIndex) → AreIndices all xs → IsIndex k.connections x.ends.entries → AreIndices (all ++ k ∷ []) (xs ++ x ∷ [])
+indices-push [] [] k x h i = (i, tt)
+indices-push [] (y ∷ xs) k x h i = absurd h
+indices-push (j ∷ all) [] k x h i = absurd h
+indices-push (j ∷ all) (y ∷ xs) k x h i = (h.0, indices-push all xs k x h.1 i)
 
-pub indices-more : (all : List (List WrittenConnection)) (i : ℕ) (xs new : List ConnectionIndex) (ks d : List WrittenConnection) (x : ConnectionIndex) → i < length all → ks ≡ get_or all i d → AreIndices (take i all) xs → IsIndex ks x.ends.entries →
+pub indices-more : (all : List ScopeKept) (i : ℕ) (xs new : List ConnectionIndex) (k d : ScopeKept) (x : ConnectionIndex) → i < length all → k ≡ get_or all i d → AreIndices (take i all) xs → IsIndex k.connections x.ends.entries →
     new ≡ xs ++ x ∷ [] → AreIndices (take (i + 1) all) new
-indices-more all i xs new ks d x l is h k e =
+indices-more all i xs new k d x l is h q e =
     subst (AreIndices (take (i + 1) all)) (sym e)
-    (subst (λ a. AreIndices a (xs ++ x ∷ [])) (ap (λ y. take i all ++ y ∷ []) is ∙ sym (take_more all i d l)) (indices-push (take i all) xs ks x h k))
+    (subst (λ a. AreIndices a (xs ++ x ∷ [])) (ap (λ y. take i all ++ y ∷ []) is ∙ sym (take_more all i d l)) (indices-push (take i all) xs k x h q))
 
 -- the index of a scope, and the scope of an index
-pub index-at : (all : List (List WrittenConnection)) (xs : List ConnectionIndex) (i : ℕ) (ks : List WrittenConnection) → AreIndices all xs → slice_get all i ≡ Some ks →
-    (x : ConnectionIndex) × (slice_get xs i ≡ Some x) × IsIndex ks x.ends.entries
-index-at [] xs i ks h e = absurd (cc e)
-index-at (js ∷ all) [] i ks h e = absurd h
-index-at (js ∷ all) (x ∷ xs) zero ks h e = (x, refl, subst (λ k. IsIndex k x.ends.entries) (some_same e) h.0)
+pub index-at : (all : List ScopeKept) (xs : List ConnectionIndex) (i : ℕ) (k : ScopeKept) → AreIndices all xs → slice_get all i ≡ Some k →
+    (x : ConnectionIndex) × (slice_get xs i ≡ Some x) × IsIndex k.connections x.ends.entries
+index-at [] xs i k h e = absurd (cc e)
+index-at (j ∷ all) [] i k h e = absurd h
+index-at (j ∷ all) (x ∷ xs) zero k h e = (x, refl, subst (λ (s : ScopeKept). IsIndex s.connections x.ends.entries) (some_same e) h.0)
   where
     some_same : {X : Type 0} {x y : X} → Some x ≡ Some y → x ≡ y
     some_same h = cc h
-index-at (js ∷ all) (x ∷ xs) (suc i) ks h e = index-at all xs i ks h.1 e
+index-at (j ∷ all) (x ∷ xs) (suc i) k h e = index-at all xs i k h.1 e
 
 -- the port of ports that are there is among the keys
 pub key-at : (es : List (ScopePort × Vec ScopePort Global)) (a b : ScopePort) → Contains (ends_in es a) b → (i : ℕ) × (v : Vec ScopePort Global) × (slice_get es i ≡ Some (a, v))

@@ -1,18 +1,16 @@
 -- What is found, in order, are the connections of the flat elements.
-use Rattle.std.proofs.Common.{◌≡◌, ◌↔◌, ◌≤◌, List, length, Vec, Contains, arith}
-use Rattle.std.specs.Global.{Global}
+use Rattle.std.proofs.Common.{◌≡◌, ◌↔◌, ◌≤◌, List, length, Contains, arith}
 use Rattle.std.specs.List.{IsDistinct}
 use Rattle.click_text.specs.declared.syntax.Config.{Config}
 use Rattle.click_scopes.specs.Faults.{IsFaultless}
 use Rattle.click_scopes.specs.kept.Nesting.{IsNested}
 use Rattle.click_expand.specs.Instances.{PrimitiveElement}
-use Rattle.click_scopes.specs.kept.WrittenConnections.{AreAllWrittenConnections}
-use Rattle.click_scopes.specs.kept.ScopeElements.{AreAllScopeElements}
-use Rattle.click_expand.specs.kept.Passthrough.{body_at, ends_at, AreShortened}
+use Rattle.click_scopes.specs.kept.AllScopes.{AreAllScopes}
+use Rattle.click_expand.specs.kept.Passthrough.{ends_at, AreShortened}
 use Rattle.click_expand.specs.kept.KnownInstances.{KnownInstance, AreInstances}
-use Rattle.click_scopes.specs.declared.scope_elements.ScopeElement.{ScopeElement as ScopeElementKept}
 use Rattle.click_expand.specs.Flat.{Joins, AreOrdered, AreConnections, most_connections}
-use Rattle.click_scopes.specs.declared.written_connections.WrittenConnection.{WrittenConnection as ConnectionKept}
+use Rattle.click_scopes.specs.kept.Lookups.{body_at}
+use Rattle.click_scopes.specs.declared.scopes.Scope.{Scope as ScopeKept}
 use Rattle.click_expand.specs.declared.instances.tree.Place.{Place}
 use Rattle.click_expand.specs.declared.instances.tree.Instance.{Instance}
 use Rattle.click_expand.specs.declared.connections.connection_index.ConnectionIndex.{ConnectionIndex}
@@ -24,17 +22,17 @@ use Rattle.click_expand.proofs.OfConnections.NestedInstances.{instances-nested}
 use Rattle.click_expand.proofs.OfConnections.Shortcuts.{connects-short}
 use Rattle.click_expand.proofs.OfConnections.OutputSearches.{distinct-within}
 
-module _ (c : Config) (nested : IsNested c) (sound : IsFaultless c) (scope_elements : List (Vec ScopeElementKept Global)) (located : AreAllScopeElements c scope_elements) (all : List (List ConnectionKept)) (joined : AreAllWrittenConnections c all)
-    (instances : List Instance) (places : List Place) (whole short : List ConnectionIndex) (indexed : AreIndices all whole) (as_many : length whole ≡ length short)
-    (shortened : AreShortened (ends_at whole) (body_at scope_elements) (ends_at short) short) (found ordered : List Connection) (order : AreOrdered ordered)
+module _ (c : Config) (nested : IsNested c) (sound : IsFaultless c) (scopes : List ScopeKept) (all : AreAllScopes c scopes)
+    (instances : List Instance) (places : List Place) (whole short : List ConnectionIndex) (indexed : AreIndices scopes whole) (as_many : length whole ≡ length short)
+    (shortened : AreShortened (ends_at whole) (body_at scopes) (ends_at short) short) (found ordered : List Connection) (order : AreOrdered ordered)
     (alike : (k : Connection) → Contains ordered k ↔ Contains found k) (found_sound : (k : Connection) → Contains found k → Connects instances short k) where
   module _ (known : List KnownInstance) (primitive_elements : List PrimitiveElement) (are : AreInstances c instances places known primitive_elements) where
     -- the shortened connections lead where those as written do
     short-same : (k : Connection) → Connects instances whole k ↔ Connects instances short k
-    short-same = connects-short instances (body_at scope_elements) (instances-nested c scope_elements located instances places known primitive_elements are) whole short as_many shortened
+    short-same = connects-short instances (body_at scopes) (instances-nested c scopes all instances places known primitive_elements are) whole short as_many shortened
 
     pub ordered-sound : (k : Connection) → Contains ordered k → Joins c primitive_elements k
-    ordered-sound k h = connects-sound c nested sound instances places known primitive_elements are all joined whole indexed k ((short-same k).1 (found_sound k ((alike k).0 h)))
+    ordered-sound k h = connects-sound c nested sound instances places known primitive_elements are scopes all whole indexed k ((short-same k).1 (found_sound k ((alike k).0 h)))
 
     pub ordered-all : IsDistinct same found → (length found ≤ most_connections → HasAll (Connects instances short) found) → length ordered ≤ most_connections → AreConnections c primitive_elements ordered
     ordered-all distinct found_all few =
@@ -42,6 +40,6 @@ module _ (c : Config) (nested : IsNested c) (sound : IsFaultless c) (scope_eleme
         let less : length found ≤ most_connections = omega (arith, n, few) in
         record {
           sound = ordered-sound;
-          complete = λ k h. (alike k).1 (found_all less k ((short-same k).0 (connects-complete c nested sound instances places known primitive_elements are all joined whole indexed k h)));
+          complete = λ k h. (alike k).1 (found_all less k ((short-same k).0 (connects-complete c nested sound instances places known primitive_elements are scopes all whole indexed k h)));
           in_order = order;
         }

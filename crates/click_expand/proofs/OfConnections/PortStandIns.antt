@@ -11,9 +11,11 @@ use Rattle.indexmap.specs.IndexSet.{insert_key}
 use Rattle.indexmap.proofs.CallerLemmas.{Contains-insert_key}
 use Rattle.click_scopes.specs.declared.scope_elements.ScopeElement.{ScopeElement as ScopeElementKept}
 use Rattle.click_scopes.specs.declared.written_connections.Owner.TheVariants as owner
+use Rattle.click_scopes.specs.kept.Lookups.{elements_by, scope_element_body, scope_body, body_at}
+use Rattle.click_scopes.specs.declared.scopes.Scope.{Scope as ScopeKept}
 use Rattle.click_expand.specs.declared.connections.connection_index.ScopePort.{ScopePort}
 use Rattle.click_expand.specs.kept.Wiring.{scope_port, same_port, ends_or_none, ends_in, Gains}
-use Rattle.click_expand.specs.kept.Passthrough.{scope_element_body, scope_body, body_at, LeadsThrough, StandsIn, same, alike, AreStoodFor, AreEndsOf}
+use Rattle.click_expand.specs.kept.Passthrough.{LeadsThrough, StandsIn, same, alike, AreStoodFor, AreEndsOf}
 use Rattle.click_expand.specs.contracts.connections.connection_index.ScopePortPartialEq.TheImpl as ports
 use Rattle.click_expand.proofs.OfConnections.Chains.{some_same}
 use Rattle.click_expand.proofs.OfConnections.PortEquality.{port-eq}
@@ -151,16 +153,17 @@ beyond [] i l = refl
 beyond (k ∷ ls) zero l = absurd (omega (arith, l))
 beyond (k ∷ ls) (suc i) l = beyond ls i (omega (arith, l))
 
-pub no-bodies-all : (scope_elements : List (Vec ScopeElementKept Global)) (s n : ℕ) (ls : Vec ScopeElementKept Global) → slice_get scope_elements s ≡ Some ls → length ls.items ≤ n → NoBodies (body_at scope_elements s) n → (i : ℕ) → body_at scope_elements s i ≡ None
-no-bodies-all scope_elements s n ls e l h i =
+no-body-past : (o : Option ScopeKept) (i : ℕ) → length (elements_by o) ≤ i → scope_body i o ≡ None
+no-body-past None i l = refl
+no-body-past (Some k) i l = ap scope_element_body (beyond k.elements.items i l)
+
+pub no-bodies-all : (scopes : List ScopeKept) (s n : ℕ) → length (elements_by (slice_get scopes s)) ≤ n → NoBodies (body_at scopes s) n → (i : ℕ) → body_at scopes s i ≡ None
+no-bodies-all scopes s n l h i =
     elim (cases_order i n) [
-      | inl q ↦ outside (omega (arith, l, q))
+      | inl q ↦ no-body-past (slice_get scopes s) i (omega (arith, l, q))
       | inr (inl m) ↦ h i m
-      | inr (inr m) ↦ outside (omega (arith, l, m))
+      | inr (inr m) ↦ no-body-past (slice_get scopes s) i (omega (arith, l, m))
     ]
-  where
-    outside : length ls.items ≤ i → body_at scope_elements s i ≡ None
-    outside m = ap (scope_body i) e ∙ ap scope_element_body (beyond ls.items i m)
 
 -- each port may stand for itself
 pub stood-same : (ends : ℕ → ScopePort → List ScopePort) (body : ℕ → ℕ → Option ℕ) (short : ℕ → ScopePort → List ScopePort) (s : ℕ) (ps qs : List ScopePort) → ps ≡ qs → AreStoodFor ends body short s ps qs

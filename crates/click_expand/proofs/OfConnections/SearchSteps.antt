@@ -14,11 +14,13 @@ use Rattle.click_expand.specs.Connections.{Node, output_of, input_of, begin_node
 use Rattle.click_expand.specs.Flat.{Joins}
 use Rattle.click_scopes.specs.kept.Nesting.{IsNested}
 use Rattle.click_scopes.specs.kept.Scoped.{table_place}
-use Rattle.click_scopes.specs.kept.WrittenConnections.{IsWrittenConnection, AreAllWrittenConnections}
+use Rattle.click_scopes.specs.kept.WrittenConnections.{IsWrittenConnection}
+use Rattle.click_scopes.specs.kept.AllScopes.{AreAllScopes}
 use Rattle.click_expand.specs.kept.KnownInstances.{KnownInstance, scope_elements_at, IsInner, IsEnclosing, IsPart, IsInstance, AreInstances}
 use Rattle.click_scopes.specs.declared.written_connections.Owner.{Owner}
 use Rattle.click_scopes.specs.declared.written_connections.Owner.TheVariants as owner
 use Rattle.click_scopes.specs.declared.written_connections.WrittenConnection.{WrittenConnection as ConnectionKept}
+use Rattle.click_scopes.specs.declared.scopes.Scope.{Scope as ScopeKept}
 use Rattle.click_expand.specs.declared.instances.tree.InstancePart.{InstancePart}
 use Rattle.click_expand.specs.declared.instances.tree.InstancePart.TheVariants as part
 use Rattle.click_expand.specs.declared.instances.tree.Place.{Place}
@@ -208,7 +210,7 @@ module _ (c : Config) (nested : IsNested c) (sound : IsFaultless c) (instances :
       let z : Some (part.PrimitiveElement n) ≡ Some (part.PrimitiveElement m) = sym h.part_there ∙ ap (λ (u : Instance). slice_get u.parts h.element) kept ∙ ap (slice_get k.kept.parts) element ∙ k.part_there in
       cc z
 
-  module _ (all : List (List ConnectionKept)) (kept_all : AreAllWrittenConnections c all) (indices : List ConnectionIndex) (indexed : AreIndices all indices) where
+  module _ (all : List ScopeKept) (kept_all : AreAllScopes c all) (indices : List ConnectionIndex) (indexed : AreIndices all indices) where
     -- a step of a search is a connection as written
     step-sound : (s : InstancePort) (n : Reached) (a : Node) → StepsTo instances indices s n → IsStart s a → (b : Node) × Leads c a b × Lies n b
     step-sound s n a st h =
@@ -218,7 +220,7 @@ module _ (c : Config) (nested : IsNested c) (sound : IsFaultless c) (instances :
         let ix = index-at all indices (table_place c x.scope) ks.0 indexed ks.1 in
         let index : st.index ≡ ix.0 = some_same (sym st.index_there ∙ ap (λ (u : Instance). slice_get indices u.scope) used ∙ ap (slice_get indices) h.at.is.scope ∙ ix.1) in
         let w = ix.2.sound s.port st.to (subst (λ (i : ConnectionIndex). Contains (ends_in i.ends.entries s.port) st.to) index st.joined) in
-        let j = written_connection-of (scope_elements_at c x) ks.0 (scope_connections c x.scope x.visible) w.written_connection ks.2 w.there in
+        let j = written_connection-of (scope_elements_at c x) ks.0.connections (scope_connections c x.scope x.visible) w.written_connection ks.2.connections w.there in
         let k = w.written_connection in
         let d = written_connection-begins c nested sound x.scope x.visible x.enclosing h.at.is.stands x.path k j.0 j.1 j.2 in
         let e = written_connection-ends c nested sound x.scope x.visible x.enclosing h.at.is.stands x.path k j.0 j.1 j.2 in
@@ -248,7 +250,7 @@ module _ (c : Config) (nested : IsNested c) (sound : IsFaultless c) (instances :
         let a = begin_node path j.from j.from.role j.out_port in
         let z = leads-stands c nested sound path sc v to in
         let ks = kept_all sc v z.0 z.1 in
-        let k = kept-of (elements_of_scope c sc v) ks.0 (scope_connections c sc v) j ks.2 m in
+        let k = kept-of (elements_of_scope c sc v) ks.0.connections (scope_connections c sc v) j ks.2.connections m in
         let d = written_connection-begins c nested sound sc v z.0 z.1 path k.0 j m k.2 in
         let p : path ≡ x.path = path-same (elements_of_scope c sc v) (scope_elements_at c x) path x.path k.0.from.owner s.port.owner j.out_port s.port.number a a d h.denotes refl in
         let q = leads-once c nested sound path x.path sc x.scope v x.visible to h.at.is.leads p in
@@ -256,7 +258,7 @@ module _ (c : Config) (nested : IsNested c) (sound : IsFaultless c) (instances :
       where
         found : (s : InstancePort) (path : List (List ℕ)) (sc : Scope) (v : List Statement) (j : WrittenConnection) → LeadsTo c path sc v → Contains (scope_connections c sc v) j →
             (h : IsStart s (begin_node path j.from j.from.role j.out_port)) (enclosing : List Scope) → Stands c sc v enclosing →
-            (ks : List ConnectionKept) → slice_get all (table_place c sc) ≡ Some ks → (k : ConnectionKept) → Contains ks k → IsWrittenConnection (elements_of_scope c sc v) k j →
+            (ks : ScopeKept) → slice_get all (table_place c sc) ≡ Some ks → (k : ConnectionKept) → Contains ks.connections k → IsWrittenConnection (elements_of_scope c sc v) k j →
             path ≡ h.used.path → sc ≡ h.used.scope → v ≡ h.used.visible →
             (n : Reached) × StepsTo instances indices s n × Lies n (end_node path j.to j.to.role j.in_port)
         found s path sc v j to m h enclosing st ks there k in_ks w p q r =

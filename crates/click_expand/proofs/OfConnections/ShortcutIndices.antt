@@ -7,7 +7,7 @@ use Rattle.std.proofs.lemmas.List.{length-append}
 use Rattle.std.proofs.lemmas.Option.{slice_get_within}
 use Rattle.std.proofs.lemmas.List.Elements.{Contains-append_left, Contains-append_right}
 use Rattle.click_scopes.specs.declared.written_connections.Owner.TheVariants as owner
-use Rattle.click_scopes.specs.declared.written_connections.WrittenConnection.{WrittenConnection}
+use Rattle.click_scopes.specs.declared.scopes.Scope.{Scope as ScopeKept}
 use Rattle.click_expand.specs.declared.connections.connection_index.ScopePort.{ScopePort}
 use Rattle.click_expand.specs.declared.connections.connection_index.ConnectionIndex.{ConnectionIndex}
 use Rattle.click_expand.specs.declared.connections.passthrough.Shortcut.{Shortcut}
@@ -133,9 +133,9 @@ abbrev pub AreEndsBelow : List ConnectionIndex → (ℕ → ScopePort → List S
 AreEndsBelow xs ends = (s : ℕ) (a : ScopePort) → s < length xs → ends s a ≡ ends_at xs s a
 
 -- The indices of scopes with their shortcuts. What is known of these holds whatever the further scopes lead to.
-pub record AreAllShortened (body : ℕ → ℕ → Option ℕ) (written_connections : List (List WrittenConnection)) (xs : List ConnectionIndex) : Type 0 where
+pub record AreAllShortened (body : ℕ → ℕ → Option ℕ) (scopes : List ScopeKept) (xs : List ConnectionIndex) : Type 0 where
   pub whole : List ConnectionIndex
-  pub are : AreIndices written_connections whole
+  pub are : AreIndices scopes whole
   pub as_many : length whole ≡ length xs
   pub shortened : (ends short : ℕ → ScopePort → List ScopePort) → AreEndsBelow whole ends → AreEndsBelow xs short → AreShortened ends body short xs
 
@@ -145,13 +145,13 @@ below-front xs x ends h s a l = h s a (omega (arith, l, length-append xs (x ∷ 
 below-last : (xs : List ConnectionIndex) (x : ConnectionIndex) (ends : ℕ → ScopePort → List ScopePort) → AreEndsBelow (xs ++ x ∷ []) ends → (a : ScopePort) → ends (length xs) a ≡ ends_in x.ends.entries a
 below-last xs x ends h a = h (length xs) a (omega (arith, length-append xs (x ∷ []))) ∙ ap (λ o. index_ends o a) (slice_get-last xs x)
 
-module _ (body : ℕ → ℕ → Option ℕ) (written_connections : List (List WrittenConnection)) (i : ℕ) (xs new : List ConnectionIndex) (ks d : List WrittenConnection) (index x : ConnectionIndex) (l : i < length written_connections) (item : ks ≡ get_or written_connections i d)
-    (h : AreAllShortened body (take i written_connections) xs) (many : i ≡ length xs) (is_index : IsIndex ks index.ends.entries) (e : new ≡ xs ++ x ∷ []) where
+module _ (body : ℕ → ℕ → Option ℕ) (scopes : List ScopeKept) (i : ℕ) (xs new : List ConnectionIndex) (k d : ScopeKept) (index x : ConnectionIndex) (l : i < length scopes) (item : k ≡ get_or scopes i d)
+    (h : AreAllShortened body (take i scopes) xs) (many : i ≡ length xs) (is_index : IsIndex k.connections index.ends.entries) (e : new ≡ xs ++ x ∷ []) where
   pub all-shortened-next : ((ends short : ℕ → ScopePort → List ScopePort) → AreShortened ends body short xs → ((a : ScopePort) → ends i a ≡ ends_in index.ends.entries a) →
-      ((a : ScopePort) → short i a ≡ ends_in x.ends.entries a) → IsShortened ends body short i × AreAlike ends body short i x) → AreAllShortened body (take (i + 1) written_connections) new
-  all-shortened-next short_one = subst (AreAllShortened body (take (i + 1) written_connections)) (sym e) (record {
+      ((a : ScopePort) → short i a ≡ ends_in x.ends.entries a) → IsShortened ends body short i × AreAlike ends body short i x) → AreAllShortened body (take (i + 1) scopes) new
+  all-shortened-next short_one = subst (AreAllShortened body (take (i + 1) scopes)) (sym e) (record {
     whole = h.whole ++ index ∷ [];
-    are = indices-more written_connections i h.whole (h.whole ++ index ∷ []) ks d index l item h.are is_index refl;
+    are = indices-more scopes i h.whole (h.whole ++ index ∷ []) k d index l item h.are is_index refl;
     as_many = length-append h.whole (index ∷ []) ∙ ap (λ n. n + 1) h.as_many ∙ sym (length-append xs (x ∷ []));
     shortened = λ ends short old_ends new_ends. (
         let before = h.shortened ends short (below-front h.whole index ends old_ends) (below-front xs x short new_ends) in

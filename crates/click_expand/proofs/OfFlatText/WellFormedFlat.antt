@@ -1,16 +1,11 @@
 -- What a flat form keeps of a configuration that a text spells: its names are words, its ports below 256.
-use Rattle.std.proofs.Common.{◌≡◌, ◌≢◌, ℕ, zero, suc, ◌<◌, List, [], ◌∷◌, ◌++◌, length, map, drop, Bool, true, not, ◌&&◌, Option, Some, None, refl, sym, ◌∙◌, arith, inl, inr}
+use Rattle.std.proofs.Common.{◌≡◌, ℕ, zero, suc, ◌<◌, List, [], ◌∷◌, ◌++◌, length, map, drop, Bool, Option, Some, None, refl, sym, arith}
 use Rattle.std.specs.Prelude.{slice_get, codes}
-use Rattle.std.specs.List.{AllByRecursion, list_any, list_all}
-use Rattle.std.specs.Str.{bytes_eq}
-use Rattle.std.proofs.lemmas.Bool.{cases_Bool, or_cases, and_parts, false≢true, not-true}
+use Rattle.std.specs.List.{AllByRecursion}
 use Rattle.std.proofs.lemmas.Option.{slice_get_within}
-use Rattle.std.proofs.lemmas.Slice.Eq.{bytes_eq-Decides}
 use Rattle.std.proofs.lemmas.List.Elements.{recursion_from_All, All-from_recursion, All-contains, All-contains_itself}
 use Rattle.click_text.specs.declared.syntax.Span.{Span}
 use Rattle.click_text.specs.declared.syntax.WrittenPort.{WrittenPort}
-use Rattle.click_text.specs.declared.syntax.ClassReference.{ClassReference}
-use Rattle.click_text.specs.declared.syntax.ClassReference.TheVariants as class
 use Rattle.click_text.specs.declared.syntax.Head.{Head}
 use Rattle.click_text.specs.declared.syntax.Head.TheVariants as head
 use Rattle.click_text.specs.declared.syntax.Element.{Element}
@@ -21,13 +16,11 @@ use Rattle.click_text.specs.declared.syntax.Body.{Body}
 use Rattle.click_text.specs.declared.syntax.Config.{Config}
 use Rattle.click_text.specs.Grammar.{element}
 use Rattle.click_text.specs.Spans.{bytes_at}
-use Rattle.click_text.specs.Pieces.{is_word, digit}
 use Rattle.click_text.specs.Spelling.{Spells}
 use Rattle.click_expand.specs.declared.flat.Connection.{Connection}
 use Rattle.click_expand.specs.declared.flat.Flat.{Flat}
 use Rattle.click_scopes.specs.Scopes.{Scope, whole, inside, statements_of, body_statements, statement_elements, is_body}
-use Rattle.click_scopes.specs.Classes.{primitive, compound, meaning, class_meaning}
-use Rattle.click_scopes.specs.Elements.{Placed, place, placed, Role, makes, refers, pseudo, role, made_name, head_class, ScopeElement, scope_element, scope_element_by, count_with, scope_elements_from}
+use Rattle.click_scopes.specs.Elements.{Placed, place, placed, Role, makes, refers, pseudo, role, made_name, ScopeElement, scope_element, scope_element_by, count_with, scope_elements_from}
 use Rattle.click_scopes.specs.Faults.{End, WrittenConnection, ScopeNames, written_end, scope_names, number_behind, port_number, written_connections_behind, written_connections_from, statement_connections, scope_connections, elements_of_scope, scope_declared, scope_placed}
 use Rattle.click_expand.specs.Instances.{PrimitiveElement, ArePrimitiveElements, no_elements, primitive_element, branch}
 use Rattle.click_expand.specs.Connections.{Node, output_of, input_of, begin_node, end_node, Leads, by_connection, further}

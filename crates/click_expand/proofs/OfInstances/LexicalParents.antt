@@ -7,11 +7,12 @@ use Rattle.click_text.specs.declared.syntax.Config.{Config}
 use Rattle.click_scopes.specs.Scopes.{Scope, whole, inside, statements_of, formals_of, Stands, at_top, nested}
 use Rattle.click_expand.specs.Parameters.{Bindings, arguments_for, argument_of, first_value, scope_value, value_in}
 use Rattle.click_scopes.specs.kept.Nesting.{direct, IsNested}
-use Rattle.click_scopes.specs.kept.Scoped.{table_place, outer_of, AreScopes}
+use Rattle.click_scopes.specs.kept.Scoped.{table_place, outer_of}
+use Rattle.click_scopes.specs.kept.AllScopes.{AreAllScopes}
 use Rattle.click_expand.specs.kept.KnownInstances.{KnownInstance}
-use Rattle.click_expand.specs.kept.InstanceWalk.{outer_by, Follows, here, after_lexical_parent, IsLexicalParentIn}
-use Rattle.click_scopes.specs.declared.classes.ClassEntry.{ClassEntry}
+use Rattle.click_expand.specs.kept.InstanceWalk.{Follows, here, after_lexical_parent, IsLexicalParentIn}
 use Rattle.click_scopes.specs.declared.scopes.Scope.{Scope as ScopeKept}
+use Rattle.click_scopes.specs.kept.Lookups.{parent_by}
 use Rattle.click_expand.specs.declared.instances.tree.Instance.{Instance}
 use Rattle.click_scopes.proofs.OfBodies.OneBodyPlace.{direct-has, child-range, nested_body-range, place-in, stands-once}
 
@@ -212,14 +213,14 @@ module _ (c : Config) where
         record { used = r.used; there = r.there; is = is; agree = subst (Agree c bs r.used.bindings) (sym is) r.agree; within = r.within }
 
   -- the lexical parent of a new instance of a body that is used in another
-  pub new-lexical_parent : IsNested c → (instances : List Instance) (known : List KnownInstance) → AreLexicalParents instances known → (ks : List ScopeKept) (es : List ClassEntry) → AreScopes c es ks →
+  pub new-lexical_parent : IsNested c → (instances : List Instance) (known : List KnownInstance) → AreLexicalParents instances known → (ks : List ScopeKept) → AreAllScopes c ks →
       (u w b : ℕ) (o : KnownInstance) (v : List Statement) (outer front : List Scope) (values : List (List ℕ)) → slice_get known u ≡ Some o → o.scope ∷ o.enclosing ≡ front ++ outer →
-      Stands c (inside b) v outer → IsLexicalParentIn instances (outer_by (slice_get ks b)) u w →
+      Stands c (inside b) v outer → IsLexicalParentIn instances (parent_by (slice_get ks b)) u w →
       (y : KnownInstance) × (w ≤ u) × (slice_get known w ≡ Some y) × (outer ≡ y.scope ∷ y.enclosing) × Agree c ((b, values) ∷ o.bindings) y.bindings outer
-  new-lexical_parent n instances known lexical_parents ks es scopes u w b o v outer front values e s h k =
+  new-lexical_parent n instances known lexical_parents ks scopes u w b o v outer front values e s h k =
       let t = scopes (inside b) v outer h in
-      let q : outer_by (slice_get ks b) ≡ outer_of c outer = ap outer_by t.1 ∙ t.2.outer in
-      let r = found instances known lexical_parents o.bindings outer (next-of (inside b) v outer b h refl) n u w (outer_by (slice_get ks b)) q k
+      let q : parent_by (slice_get ks b) ≡ outer_of c outer = ap parent_by t.1 ∙ t.2.parent in
+      let r = found instances known lexical_parents o.bindings outer (next-of (inside b) v outer b h refl) n u w (parent_by (slice_get ks b)) q k
       (record { used = o; there = e; front = front; splits = s; agree = agree-refl o.bindings (o.scope ∷ o.enclosing); within = omega arith }) in (
         r.used,
         r.within,

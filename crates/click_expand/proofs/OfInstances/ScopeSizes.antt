@@ -1,5 +1,5 @@
 -- The sizes of scopes, one after another by their places.
-use Rattle.std.proofs.Common.{◌≡◌, ◌⊎◌, inl, inr, ℕ, suc, ◌+◌, ◌<◌, ◌≤◌, min, List, [], ◌∷◌, ◌++◌, map, length, Option, Some, None, Vec, Global, refl, sym, ap, ◌∙◌, subst, append_assoc, arith}
+use Rattle.std.proofs.Common.{◌≡◌, ◌⊎◌, inl, inr, ℕ, suc, ◌+◌, ◌<◌, ◌≤◌, min, List, [], ◌∷◌, ◌++◌, map, length, Option, Some, None, refl, sym, ap, ◌∙◌, subst, append_assoc, arith}
 use Rattle.std.specs.List.{slice_get, sum_by}
 use Rattle.std.proofs.lemmas.Bool.{cases_order}
 use Rattle.std.proofs.lemmas.Option.{slice_get_within}
@@ -15,7 +15,7 @@ use Rattle.click_expand.specs.Parameters.{Bindings}
 use Rattle.click_expand.specs.Instances.{PrimitiveElement, ArePrimitiveElements}
 use Rattle.click_scopes.specs.kept.Nesting.{IsNested}
 use Rattle.click_scopes.specs.kept.Scoped.{table_place}
-use Rattle.click_scopes.specs.kept.ScopeElements.{AreAllScopeElements}
+use Rattle.click_scopes.specs.kept.AllScopes.{AreAllScopes}
 use Rattle.click_scopes.specs.kept.Tables.{meaning_by, scope_element_of}
 use Rattle.click_expand.specs.Flat.{most_elements, most_paths}
 use Rattle.click_expand.specs.kept.Sizes.{IsSize, IsSizeOf}
@@ -23,6 +23,7 @@ use Rattle.click_expand.specs.kept.Counted.{size_or, size_inside, elements_in, p
 use Rattle.click_scopes.specs.declared.classes.ResolvedClass.{ResolvedClass}
 use Rattle.click_scopes.specs.declared.classes.ResolvedClass.TheVariants as class
 use Rattle.click_scopes.specs.declared.scope_elements.ScopeElement.{ScopeElement as ScopeElementKept}
+use Rattle.click_scopes.specs.declared.scopes.Scope.{Scope as ScopeKept}
 use Rattle.click_expand.specs.declared.instances.sizes.Size.{Size}
 use Rattle.click_scopes.proofs.OfLists.StatementTables.{slice_get-more, slice_get-last}
 use Rattle.click_scopes.proofs.OfBodies.EarlierBodies.{founded-at}
@@ -135,29 +136,29 @@ module _ (c : Config) where
   pub weighed-none : AreWeighed []
   weighed-none s visible enclosing h l = absurd (omega (arith, l))
 
-  pub weighed-next : IsNested c → (scope_elements : List (Vec ScopeElementKept Global)) → AreAllScopeElements c scope_elements → (sizes new : List Size) (v : Vec ScopeElementKept Global) (size : Size) →
-      slice_get scope_elements (length sizes) ≡ Some v → IsSum sizes v.items size → new ≡ sizes ++ size ∷ [] → AreWeighed sizes → AreWeighed new
-  weighed-next nested scope_elements all sizes new v size there h e weighed = subst AreWeighed (sym e) (λ s visible enclosing stands l. by_place s visible enclosing stands (cases_order (table_place c s) (length sizes)) l)
+  pub weighed-next : IsNested c → (scopes : List ScopeKept) → AreAllScopes c scopes → (sizes new : List Size) (v : ScopeKept) (size : Size) →
+      slice_get scopes (length sizes) ≡ Some v → IsSum sizes v.elements.items size → new ≡ sizes ++ size ∷ [] → AreWeighed sizes → AreWeighed new
+  weighed-next nested scopes all sizes new v size there h e weighed = subst AreWeighed (sym e) (λ s visible enclosing stands l. by_place s visible enclosing stands (cases_order (table_place c s) (length sizes)) l)
     where
       by_place : (s : Scope) (visible : List Statement) (enclosing : List Scope) → Stands c s visible enclosing →
           ((table_place c s ≡ length sizes) ⊎ ((table_place c s < length sizes) ⊎ (length sizes < table_place c s))) → table_place c s < length (sizes ++ size ∷ []) →
           (one : Size) × (slice_get (sizes ++ size ∷ []) (table_place c s) ≡ Some one) × IsScopeSize s visible enclosing one
       by_place s visible enclosing stands (inl q) l =
           let r = all s visible enclosing stands in
-          let same : v ≡ r.0 = same_some (sym there ∙ ap (slice_get scope_elements) (sym q) ∙ r.1) in
-          let items : map (scope_element_of c.text) v.items ≡ elements_of_scope c s visible = ap (λ (x : Vec ScopeElementKept Global). map (scope_element_of c.text) x.items) same ∙ r.2 in (
+          let same : v ≡ r.0 = same_some (sym there ∙ ap (slice_get scopes) (sym q) ∙ r.1) in
+          let items : map (scope_element_of c.text) v.elements.items ≡ elements_of_scope c s visible = ap (λ (x : ScopeKept). map (scope_element_of c.text) x.elements.items) same ∙ r.2.elements in (
             size,
             ap (slice_get (sizes ++ size ∷ [])) q ∙ slice_get-last sizes size,
-            scope-weighed nested sizes weighed s visible enclosing stands q v.items items size h,
+            scope-weighed nested sizes weighed s visible enclosing stands q v.elements.items items size h,
           )
       by_place s visible enclosing stands (inr (inl q)) l = let r = weighed s visible enclosing stands q in (r.0, slice_get-more sizes (size ∷ []) (table_place c s) r.0 r.1, r.2)
       by_place s visible enclosing stands (inr (inr q)) l = let n : length (sizes ++ size ∷ []) ≡ length sizes + 1 = length_push sizes size in absurd (omega (arith, q, l, n))
 
   -- all scopes have their sizes, and so has the whole text
-  pub weighed-all : (scope_elements : List (Vec ScopeElementKept Global)) → AreAllScopeElements c scope_elements → (sizes : List Size) → length scope_elements ≤ length sizes → AreWeighed sizes →
+  pub weighed-all : (scopes : List ScopeKept) → AreAllScopes c scopes → (sizes : List Size) → length scopes ≤ length sizes → AreWeighed sizes →
       IsSizeOf c (size_or (slice_get sizes (length c.bodies)))
-  weighed-all scope_elements all sizes l weighed primitive_elements n h =
+  weighed-all scopes all sizes l weighed primitive_elements n h =
       let t = all whole [] [] at_top in
-      let m = slice_get_within scope_elements (length c.bodies) t.0 t.1 in
+      let m = slice_get_within scopes (length c.bodies) t.0 t.1 in
       let r = weighed whole [] [] at_top (omega (arith, l, m)) in
       subst (λ o. IsSize primitive_elements n (size_or o)) (sym r.1) (r.2 [] [] primitive_elements n h)

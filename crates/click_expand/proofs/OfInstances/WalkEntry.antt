@@ -9,11 +9,11 @@ use Rattle.click_scopes.specs.Elements.{ScopeElement}
 use Rattle.click_scopes.specs.Faults.{elements_of_scope}
 use Rattle.click_expand.specs.Instances.{PrimitiveElement, ArePrimitiveElements, to_inner}
 use Rattle.click_scopes.specs.kept.Nesting.{IsNested}
-use Rattle.click_scopes.specs.kept.Scoped.{AreScopes}
+use Rattle.click_scopes.specs.kept.AllScopes.{AreAllScopes}
 use Rattle.click_expand.specs.kept.KnownInstances.{KnownInstance, scope_elements_at, IsInner}
-use Rattle.click_expand.specs.kept.InstanceWalk.{with_part, instance_without_parts, element_place, outer_by, IsLexicalParentIn}
-use Rattle.click_scopes.specs.declared.classes.ClassEntry.{ClassEntry}
+use Rattle.click_expand.specs.kept.InstanceWalk.{with_part, instance_without_parts, element_place, IsLexicalParentIn}
 use Rattle.click_scopes.specs.declared.scopes.Scope.{Scope as ScopeKept}
+use Rattle.click_scopes.specs.kept.Lookups.{parent_by}
 use Rattle.click_expand.specs.declared.instances.tree.InstancePart.{InstancePart}
 use Rattle.click_expand.specs.declared.instances.tree.InstancePart.TheVariants as part
 use Rattle.click_expand.specs.declared.instances.tree.Place.{Place}
@@ -27,9 +27,9 @@ use Rattle.click_expand.proofs.OfInstances.Frames.{Chain, within, Walking, Inner
 pub lexical_parents-kept : (c : Config) (instances : List Instance) (places : List Place) (known : List KnownInstance) (done : List PrimitiveElement) → Kept c instances places known done → AreLexicalParents c instances known
 lexical_parents-kept c instances places known done w = record { each = λ u k e. let r = w.each u k e in (r.0, r.1, r.2.stands, r.2.scope, r.2.lexical_parent) }
 
-module _ (c : Config) (nested : IsNested c) (ks : List ScopeKept) (es : List ClassEntry) (scopes : AreScopes c es ks) where
+module _ (c : Config) (nested : IsNested c) (ks : List ScopeKept) (scopes : AreAllScopes c ks) where
   module _ (instances : List Instance) (places : List Place) (at : ℕ) (primitive_elements : List PrimitiveElement) (n : ℕ) (w : Walking c instances places at primitive_elements n) where
-    module _ (b lexical_parent : ℕ) (l : ScopeElement) (ls : List ScopeElement) (e : w.frame.rest ≡ l ∷ ls) (meaning : l.meaning ≡ Some (compound b)) (found : IsLexicalParentIn instances (outer_by (slice_get ks b)) at lexical_parent) where
+    module _ (b lexical_parent : ℕ) (l : ScopeElement) (ls : List ScopeElement) (e : w.frame.rest ≡ l ∷ ls) (meaning : l.meaning ≡ Some (compound b)) (found : IsLexicalParentIn instances (parent_by (slice_get ks b)) at lexical_parent) where
       abbrev outside : KnownInstance
       outside = w.frame.used
 
@@ -72,7 +72,7 @@ module _ (c : Config) (nested : IsNested c) (ks : List ScopeKept) (es : List Cla
       lexical_parent-of-it : IsLexicalParentKept c (w.known ++ entered ∷ []) (length instances) entered (Some lexical_parent)
       lexical_parent-of-it =
           let f = founded-enclosing c nested outside (length w.frame.kept.parts) b l the-case.visible the-case.outer so_far.stands there meaning the-case.stands in
-          let h = new-lexical_parent c nested instances w.known (lexical_parents-kept c instances places w.known w.done w.kept) ks es scopes at lexical_parent b outside the-case.visible the-case.outer f.0 the-case.values
+          let h = new-lexical_parent c nested instances w.known (lexical_parents-kept c instances places w.known w.done w.kept) ks scopes at lexical_parent b outside the-case.visible the-case.outer f.0 the-case.values
           w.frame.instance_is_there f.1 the-case.stands found in
           let k = h.1 in let m = below in
           (omega (arith, k, m), (h.0, slice_get-more w.known (entered ∷ []) lexical_parent h.0 h.2, h.3, h.4))

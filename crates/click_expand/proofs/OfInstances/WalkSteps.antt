@@ -1,5 +1,5 @@
 -- One step of the walk over the instances.
-use Rattle.std.proofs.Common.{◌≡◌, ◌⊎◌, inl, inr, ℕ, ◌+◌, ◌-◌, ◌*◌, ◌<◌, ◌≤◌, List, [], ◌∷◌, ◌++◌, map, length, Bool, true, false, Option, Some, None, Vec, Global, refl, sym, ap, ◌∙◌, subst, arith}
+use Rattle.std.proofs.Common.{◌≡◌, ◌⊎◌, inl, inr, ℕ, ◌+◌, ◌-◌, ◌*◌, ◌<◌, ◌≤◌, List, [], ◌∷◌, ◌++◌, map, length, Bool, true, false, Option, Some, None, refl, sym, ap, ◌∙◌, subst, arith}
 use Rattle.std.specs.List.{slice_get, slice_set}
 use Rattle.std.proofs.lemmas.List.{append-nil, length-set, length_push}
 use Rattle.click_text.specs.declared.syntax.Config.{Config}
@@ -7,13 +7,12 @@ use Rattle.click_scopes.specs.Classes.{compound}
 use Rattle.click_scopes.specs.Elements.{ScopeElement}
 use Rattle.click_expand.specs.Instances.{PrimitiveElement}
 use Rattle.click_scopes.specs.kept.Nesting.{IsNested}
-use Rattle.click_scopes.specs.kept.Scoped.{AreScopes}
-use Rattle.click_scopes.specs.kept.ScopeElements.{AreAllScopeElements}
+use Rattle.click_scopes.specs.kept.AllScopes.{AreAllScopes}
+use Rattle.click_scopes.specs.kept.Lookups.{elements_by}
 use Rattle.click_scopes.specs.kept.Tables.{meaning_by, scope_element_of}
 use Rattle.click_expand.specs.kept.InstanceWalk.{next_class, next_of_scope_element, next_in, with_part, instance_without_parts, element_place, AreInward, AddsFlatElement, IsEntered, IsLeft, IsWalkStepBy, IsWalkStep}
 use Rattle.click_scopes.specs.declared.classes.ResolvedClass.{ResolvedClass}
 use Rattle.click_scopes.specs.declared.classes.ResolvedClass.TheVariants as class
-use Rattle.click_scopes.specs.declared.classes.ClassEntry.{ClassEntry}
 use Rattle.click_scopes.specs.declared.scope_elements.ScopeElement.{ScopeElement as ScopeElementKept}
 use Rattle.click_scopes.specs.declared.scopes.Scope.{Scope as ScopeKept}
 use Rattle.click_expand.specs.declared.instances.tree.InstancePart.TheVariants as part
@@ -58,7 +57,7 @@ abbrev pub IsMoved : Bool → Walk → Walk → Type 0
 IsMoved true old new = IsForward old new
 IsMoved false old new = Unit {0}
 
-module _ (c : Config) (nested : IsNested c) (ks : List ScopeKept) (es : List ClassEntry) (scopes : AreScopes c es ks) where
+module _ (c : Config) (nested : IsNested c) (ks : List ScopeKept) (scopes : AreAllScopes c ks) where
   module _ (old new : Walk) (primitive_elements : List PrimitiveElement) (n : ℕ) (w : Walking c old.instances.items old.primitive_elements.items old.place primitive_elements n) where
     to-primitive_element : (l : ScopeElement) (ls : List ScopeElement) → w.frame.rest ≡ l ∷ ls → ((b : ℕ) → l.meaning ≡ Some (compound b) → ⊥) → AddsFlatElement old new w.frame.kept → IsAfter c true new primitive_elements n × IsForward old new
     to-primitive_element l ls e d h =
@@ -84,7 +83,7 @@ module _ (c : Config) (nested : IsNested c) (ks : List ScopeKept) (es : List Cla
           subst (λ u. Walking c u new.primitive_elements.items new.place primitive_elements n) (sym h.instances)
               (subst (λ p. Walking c (slice_set old.instances.items old.place (with_part w.frame.kept (part.Inner (length old.instances.items))) ++ fresh ∷ []) p new.place primitive_elements n) (sym h.primitive_elements)
               (subst (λ x. Walking c (slice_set old.instances.items old.place (with_part w.frame.kept (part.Inner (length old.instances.items))) ++ fresh ∷ []) old.primitive_elements.items x primitive_elements n) (sym h.place)
-              (walking-inner c nested ks es scopes old.instances.items old.primitive_elements.items old.place primitive_elements n w b h.lexical_parent l ls e d h.lexical_parent_in))),
+              (walking-inner c nested ks scopes old.instances.items old.primitive_elements.items old.place primitive_elements n w b h.lexical_parent l ls e d h.lexical_parent_in))),
           inl (omega (arith, a, g)),
         )
 
@@ -106,20 +105,20 @@ module _ (c : Config) (nested : IsNested c) (ks : List ScopeKept) (es : List Cla
     step-by next.Flat more k h = subst (λ m. IsAfter c m new primitive_elements n × IsMoved m old new) (sym h.0) (to-primitive_element k.0 k.1 k.2 k.3 h.1)
     step-by next.Nothing more k h = to-enclosing w.frame.kept.enclosing more refl k h
 
-    next-read : (scope_elements : List (Vec ScopeElementKept Global)) → AreAllScopeElements c scope_elements → IsNextOf (next_in (slice_get scope_elements w.frame.kept.scope) (length w.frame.kept.parts)) w.frame.rest
-    next-read scope_elements h =
+    next-read : IsNextOf (next_in (elements_by (slice_get ks w.frame.kept.scope)) (length w.frame.kept.parts)) w.frame.rest
+    next-read =
         let x = w.frame.used in
         let s = at-so_far c old.instances.items old.primitive_elements.items old.place primitive_elements n w in
-        let r = h x.scope x.visible x.enclosing s.stands in
-        let e : slice_get scope_elements w.frame.kept.scope ≡ Some r.0 = ap (slice_get scope_elements) s.scope ∙ r.1 in
-        subst (λ o. IsNextOf (next_in o (length w.frame.kept.parts)) w.frame.rest) (sym e)
-        (subst (λ i. IsNextOf (next_in (Some r.0) i) w.frame.rest) (sym w.frame.as_far) (next-kept c.text r.0.items w.frame.done w.frame.rest (r.2 ∙ w.frame.splits)))
+        let r = scopes x.scope x.visible x.enclosing s.stands in
+        let e : slice_get ks w.frame.kept.scope ≡ Some r.0 = ap (slice_get ks) s.scope ∙ r.1 in
+        subst (λ o. IsNextOf (next_in (elements_by o) (length w.frame.kept.parts)) w.frame.rest) (sym e)
+        (subst (λ i. IsNextOf (next_in r.0.elements.items i) w.frame.rest) (sym w.frame.as_far) (next-kept c.text r.0.elements.items w.frame.done w.frame.rest (r.2.elements ∙ w.frame.splits)))
 
-    pub stepped : (scope_elements : List (Vec ScopeElementKept Global)) → AreAllScopeElements c scope_elements → (more : Bool) → IsWalkStep ks scope_elements old new more → IsAfter c more new primitive_elements n × IsMoved more old new
-    stepped scope_elements a more h =
+    pub stepped : (more : Bool) → IsWalkStep ks old new more → IsAfter c more new primitive_elements n × IsMoved more old new
+    stepped more h =
         let same : h.0 ≡ w.frame.kept = same_some (sym h.1 ∙ w.frame.kept_there) in
-        step-by (next_in (slice_get scope_elements w.frame.kept.scope) (length w.frame.kept.parts)) more (next-read scope_elements a)
-        (subst (λ (k : Instance). IsWalkStepBy ks old new k (next_in (slice_get scope_elements k.scope) (length k.parts)) more) same h.2)
+        step-by (next_in (elements_by (slice_get ks w.frame.kept.scope)) (length w.frame.kept.parts)) more next-read
+        (subst (λ (k : Instance). IsWalkStepBy ks old new k (next_in (elements_by (slice_get ks k.scope)) (length k.parts)) more) same h.2)
 
   -- the lexical parents of the instances have smaller places
   pub inward : (old : Walk) (primitive_elements : List PrimitiveElement) (n : ℕ) → Walking c old.instances.items old.primitive_elements.items old.place primitive_elements n → AreInward old.instances.items

@@ -11,7 +11,7 @@ use Rattle.click_expand.specs.declared.flat.FlatElement.{FlatElement}
 use Rattle.click_scopes.specs.Scopes.{whole}
 use Rattle.click_scopes.specs.Classes.{Meaning, primitive, compound}
 use Rattle.click_scopes.specs.Elements.{ScopeElement}
-use Rattle.click_scopes.specs.Faults.{elements_of_scope, first_token}
+use Rattle.click_scopes.specs.Faults.{elements_of_scope}
 use Rattle.click_expand.specs.Parameters.{IsReplaced, value_in}
 use Rattle.click_expand.specs.Instances.{PrimitiveElement, ArePrimitiveElements, no_elements, primitive_element, branch}
 use Rattle.click_expand.specs.Flat.{flat_element, flat_names, AreDistinct, StandsBefore, AreOrdered, IsFlat}

@@ -1,5 +1,5 @@
 -- A flat element by what is found of it.
-use Rattle.std.proofs.Common.{◌≡◌, ℕ, zero, suc, ◌+◌, ◌<◌, ◌≤◌, List, [], ◌∷◌, ◌++◌, map, take, drop, get_or, length, Vec, Global, Option, Some, None, refl, sym, ap, ◌∙◌, subst, arith, length-append}
+use Rattle.std.proofs.Common.{◌≡◌, ℕ, zero, suc, ◌+◌, ◌<◌, ◌≤◌, List, [], ◌∷◌, ◌++◌, map, take, drop, get_or, length, Option, Some, None, refl, sym, ap, ◌∙◌, subst, arith, length-append}
 use Rattle.std.specs.List.{slice_get}
 use Rattle.std.proofs.lemmas.List.{map-append, take_all}
 use Rattle.std.proofs.lemmas.List.Prefix.{front_rest}
@@ -13,24 +13,24 @@ use Rattle.click_text.specs.declared.syntax.Config.{Config}
 use Rattle.click_scopes.specs.Scopes.{Scope, Stands}
 use Rattle.click_scopes.specs.Classes.{primitive}
 use Rattle.click_scopes.specs.Elements.{ScopeElement}
-use Rattle.click_scopes.specs.kept.Tables.{meaning_by}
+use Rattle.click_scopes.specs.kept.Tables.{meaning_by, scope_element_of}
 use Rattle.click_scopes.specs.Faults.{elements_of_scope}
 use Rattle.click_expand.specs.Parameters.{IsReplaced}
 use Rattle.click_expand.specs.Instances.{PrimitiveElement}
 use Rattle.click_scopes.specs.kept.Scoped.{table_place}
-use Rattle.click_scopes.specs.kept.ScopeElements.{AreAllScopeElements}
+use Rattle.click_scopes.specs.kept.AllScopes.{AreAllScopes}
 use Rattle.click_expand.specs.kept.KnownInstances.{KnownInstance, AreInstances, IsPrimitiveElement}
-use Rattle.click_expand.specs.kept.ParameterValues.{string_found, IsRead}
-use Rattle.click_expand.specs.kept.Classed.{class_kept, class_by, class_found}
+use Rattle.click_expand.specs.kept.ParameterValues.{IsRead}
 use Rattle.click_scopes.specs.declared.classes.ResolvedClass.{ResolvedClass}
 use Rattle.click_scopes.specs.declared.classes.ResolvedClass.TheVariants as class
-use Rattle.click_scopes.specs.declared.scope_elements.ScopeElement.{ScopeElement as ScopeElementKept}
+use Rattle.click_scopes.specs.kept.Lookups.{string_found, class_kept, class_by, class_found}
+use Rattle.click_scopes.specs.declared.scopes.Scope.{Scope as ScopeKept}
 use Rattle.click_expand.specs.declared.instances.tree.Place.{Place}
 use Rattle.click_expand.specs.declared.instances.tree.Instance.{Instance as InstanceKept}
 use Rattle.click_expand.specs.declared.texts.parameter_values.UnreadText.{UnreadText}
 use Rattle.std.specs.Prelude.{MatchOption}
 use Rattle.click_expand.proofs.OfAnswers.FormOrFault.{match-none, match-some}
-use Rattle.click_scopes.proofs.OfElements.ElementArguments.{unmapped}
+use Rattle.click_scopes.proofs.OfLists.ListParts.{map-there}
 use Rattle.click_expand.proofs.OfTexts.ParameterMeanings.{some-same, use-at, string-is}
 
 primitive-kept : (o : Option ResolvedClass) (k : Class) → meaning_by o ≡ Some (primitive k) → class_kept o ≡ Some k
@@ -38,30 +38,30 @@ primitive-kept None k e = absurd (cc e)
 primitive-kept (Some (class.Primitive d)) k e = cc
 primitive-kept (Some (class.Compound b)) k e = absurd (cc e)
 
-class-is : (c : Config) (scope_elements : List (Vec ScopeElementKept Global)) → AreAllScopeElements c scope_elements → (s : Scope) (visible : List Statement) (enclosing : List Scope) → Stands c s visible enclosing →
-    (i : ℕ) (l : ScopeElement) (w : Class) → slice_get (elements_of_scope c s visible) i ≡ Some l → l.meaning ≡ Some (primitive w) → class_found (slice_get scope_elements (table_place c s)) i ≡ Some w
-class-is c scope_elements known s visible enclosing st i l w there m =
+class-is : (c : Config) (scopes : List ScopeKept) → AreAllScopes c scopes → (s : Scope) (visible : List Statement) (enclosing : List Scope) → Stands c s visible enclosing →
+    (i : ℕ) (l : ScopeElement) (w : Class) → slice_get (elements_of_scope c s visible) i ≡ Some l → l.meaning ≡ Some (primitive w) → class_found (slice_get scopes (table_place c s)) i ≡ Some w
+class-is c scopes known s visible enclosing st i l w there m =
     let r = known s visible enclosing st in
-    let k = unmapped c.text r.0.items i l (ap (λ z. slice_get z i) r.2 ∙ there) in
+    let k = map-there (scope_element_of c.text) r.0.elements.items i l (ap (λ z. slice_get z i) r.2.elements ∙ there) in
     ap (λ o. class_found o i) r.1 ∙ ap class_by k.1 ∙ primitive-kept k.0.class w (ap (λ (x : ScopeElement). x.meaning) k.2 ∙ m)
 
 module _ (c : Config) (instances : List InstanceKept) (places : List Place) (known : List KnownInstance) (primitive_elements : List PrimitiveElement) (are : AreInstances c instances places known primitive_elements)
-    (scope_elements : List (Vec ScopeElementKept Global)) (all : AreAllScopeElements c scope_elements) (n : ℕ) (p : Place) (f : PrimitiveElement) (k : InstanceKept)
+    (scopes : List ScopeKept) (all : AreAllScopes c scopes) (n : ℕ) (p : Place) (f : PrimitiveElement) (k : InstanceKept)
     (there : slice_get places n ≡ Some p) (primitive_element-there : slice_get primitive_elements n ≡ Some f) (kept : slice_get instances p.within ≡ Some k) where
   primitive_element-is : IsPrimitiveElement c instances known n p f
   primitive_element-is = let r = are.primitive_element n p there in subst (λ z. IsPrimitiveElement c instances known n p z) (some-same (sym r.1 ∙ primitive_element-there)) r.2
 
-  pub primitive_element-class : class_found (slice_get scope_elements k.scope) p.element ≡ Some f.class
+  pub primitive_element-class : class_found (slice_get scopes k.scope) p.element ≡ Some f.class
   primitive_element-class =
       let i = primitive_element-is in
       let u = use-at c instances places known primitive_elements are p.within k i.used kept i.instance_is_there in
-      ap (λ z. class_found (slice_get scope_elements z) p.element) u.scope ∙ class-is c scope_elements all i.used.scope i.used.visible i.used.enclosing u.stands p.element i.scope_element f.class i.scope_element_there i.meaning
+      ap (λ z. class_found (slice_get scopes z) p.element) u.scope ∙ class-is c scopes all i.used.scope i.used.visible i.used.enclosing u.stands p.element i.scope_element f.class i.scope_element_there i.meaning
 
-  pub primitive_element-read : (r : UnreadText) → r.within ≡ p.within → r.rest.now ≡ string_found c.text (slice_get scope_elements k.scope) p.element → IsRead c known r f.text
+  pub primitive_element-read : (r : UnreadText) → r.within ≡ p.within → r.rest.now ≡ string_found c.text (slice_get scopes k.scope) p.element → IsRead c known r f.text
   primitive_element-read r e g =
       let i = primitive_element-is in
       let u = use-at c instances places known primitive_elements are p.within k i.used kept i.instance_is_there in
-      let s = g ∙ ap (λ z. string_found c.text (slice_get scope_elements z) p.element) u.scope ∙ string-is c scope_elements all i.used.scope i.used.visible i.used.enclosing u.stands p.element i.scope_element i.scope_element_there in
+      let s = g ∙ ap (λ z. string_found c.text (slice_get scopes z) p.element) u.scope ∙ string-is c scopes all i.used.scope i.used.visible i.used.enclosing u.stands p.element i.scope_element i.scope_element_there in
       (i.used, ap (slice_get known) e ∙ i.instance_is_there, subst (λ z. IsReplaced c i.used.bindings (i.used.scope ∷ i.used.enclosing) z f.text) (sym s) i.text)
 
 abbrev the-element : List ℕ → Class → List ℕ → FlatElement

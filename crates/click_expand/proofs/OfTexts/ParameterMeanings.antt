@@ -1,9 +1,10 @@
 -- What stands for a parameter in an instance, and where it is read.
-use Rattle.std.proofs.Common.{◌≡◌, ℕ, zero, suc, ◌+◌, ◌-◌, ◌<◌, ◌≤◌, List, [], ◌∷◌, length, get_or, drop, Bool, true, false, cond, Vec, Global, Option, Some, None, refl, sym, ap, ◌∙◌, subst, arith, length-take, length-drop, position}
+use Rattle.std.proofs.Common.{◌≡◌, ℕ, zero, suc, ◌+◌, ◌-◌, ◌<◌, ◌≤◌, List, [], ◌∷◌, length, get_or, drop, Bool, true, false, cond, Option, Some, None, refl, sym, ap, ◌∙◌, subst, arith, length-take, length-drop, position}
 use Rattle.std.specs.Prelude.{if◌then◌else◌, option_map, option_and_then}
 use Rattle.std.specs.List.{slice_get, position_from}
 use Rattle.std.specs.Str.{bytes_eq}
 use Rattle.std.proofs.lemmas.Option.{slice_get_read}
+use Rattle.std.proofs.lemmas.List.Elements.{All-contains}
 use Rattle.std.proofs.lemmas.Bool.{eq-eqb}
 use Rattle.std.proofs.lemmas.Iterator.Adapters.{position_from-zero}
 use Rattle.click_text.specs.declared.syntax.Span.{Span}
@@ -18,15 +19,18 @@ use Rattle.click_scopes.specs.Faults.{elements_of_scope}
 use Rattle.click_expand.specs.Parameters.{Bindings, arguments_for, argument_of, scope_value, IsReplaced}
 use Rattle.click_expand.specs.Instances.{PrimitiveElement, AreValues, next_value}
 use Rattle.click_scopes.specs.kept.Scoped.{table_place}
-use Rattle.click_scopes.specs.kept.CompoundArguments.{AreAllArguments}
-use Rattle.click_scopes.specs.kept.ScopeElements.{AreAllScopeElements}
+use Rattle.click_scopes.specs.kept.Tables.{scope_element_of}
+use Rattle.click_scopes.specs.kept.CompoundArguments.{HasArguments}
+use Rattle.click_scopes.specs.kept.AllScopes.{AreAllScopes}
 use Rattle.click_expand.specs.kept.KnownInstances.{KnownInstance, IsEnclosing, IsInstance, AreInstances}
-use Rattle.click_expand.specs.kept.ParameterValues.{spans_by, spans_found, string_kept, string_found, own_arguments}
+use Rattle.click_expand.specs.kept.ParameterValues.{own_arguments}
 use Rattle.click_scopes.specs.declared.scope_elements.ScopeElement.{ScopeElement as ScopeElementKept}
+use Rattle.click_scopes.specs.kept.Lookups.{spans_by, spans_found, string_kept, string_found}
+use Rattle.click_scopes.specs.declared.scopes.Scope.{Scope as ScopeKept}
 use Rattle.click_expand.specs.declared.instances.tree.Place.{Place}
 use Rattle.click_expand.specs.declared.instances.tree.Instance.{Instance as InstanceKept}
 use Rattle.click_text.proofs.OfArguments.OneArgumentList.{arguments-once}
-use Rattle.click_scopes.proofs.OfElements.ElementArguments.{unmapped}
+use Rattle.click_scopes.proofs.OfLists.ListParts.{contains-at, map-there}
 
 pub some-same : {X : Type 0} {x y : X} → Some x ≡ Some y → x ≡ y
 some-same h = cc h
@@ -83,20 +87,21 @@ module _ (c : Config) (bindings : Bindings) (enclosing : List Scope) (text : Lis
   no-value (t ∷ spans) (v ∷ values) (suc i) (next_value s' ss' v' vs' h r) e = no-value spans values i r e
 
 -- what stands in the string of a scope's element
-pub string-is : (c : Config) (scope_elements : List (Vec ScopeElementKept Global)) → AreAllScopeElements c scope_elements → (s : Scope) (visible : List Statement) (enclosing : List Scope) → Stands c s visible enclosing →
-    (i : ℕ) (l : ScopeElement) → slice_get (elements_of_scope c s visible) i ≡ Some l → string_found c.text (slice_get scope_elements (table_place c s)) i ≡ l.text
-string-is c scope_elements known s visible enclosing st i l there =
+pub string-is : (c : Config) (scopes : List ScopeKept) → AreAllScopes c scopes → (s : Scope) (visible : List Statement) (enclosing : List Scope) → Stands c s visible enclosing →
+    (i : ℕ) (l : ScopeElement) → slice_get (elements_of_scope c s visible) i ≡ Some l → string_found c.text (slice_get scopes (table_place c s)) i ≡ l.text
+string-is c scopes known s visible enclosing st i l there =
     let r = known s visible enclosing st in
-    let k = unmapped c.text r.0.items i l (ap (λ z. slice_get z i) r.2 ∙ there) in
+    let k = map-there (scope_element_of c.text) r.0.elements.items i l (ap (λ z. slice_get z i) r.2.elements ∙ there) in
     ap (λ o. string_found c.text o i) r.1 ∙ ap (string_kept c.text) k.1 ∙ ap (λ (x : ScopeElement). x.text) k.2
 
-spans-are : (c : Config) (all : List (List (List Span))) → AreAllArguments c all → (s : Scope) (visible : List Statement) (enclosing : List Scope) → Stands c s visible enclosing →
+spans-are : (c : Config) (scopes : List ScopeKept) → AreAllScopes c scopes → (s : Scope) (visible : List Statement) (enclosing : List Scope) → Stands c s visible enclosing →
     (i : ℕ) (l : ScopeElement) (b : ℕ) (spans : List Span) → slice_get (elements_of_scope c s visible) i ≡ Some l → l.meaning ≡ Some (compound b) → AreArguments l.text spans →
-    spans_found (slice_get all (table_place c s)) i ≡ spans
-spans-are c all known s visible enclosing st i l b spans there m h =
+    spans_found (slice_get scopes (table_place c s)) i ≡ spans
+spans-are c scopes known s visible enclosing st i l b spans there m h =
     let r = known s visible enclosing st in
-    let q = r.2 i l b there m in
-    ap (λ o. spans_found o i) r.1 ∙ ap spans_by q.1 ∙ arguments-once l.text q.0 spans q.2 h
+    let k = map-there (scope_element_of c.text) r.0.elements.items i l (ap (λ z. slice_get z i) r.2.elements ∙ there) in
+    let own = All-contains (HasArguments c.text) r.0.elements.items k.0 r.2.arguments (contains-at r.0.elements.items i k.0 k.1) b (ap (λ (x : ScopeElement). x.meaning) k.2 ∙ m) in
+    ap (λ o. spans_found o i) r.1 ∙ ap spans_by k.1 ∙ arguments-once l.text k.0.arguments spans (subst (λ t. AreArguments t k.0.arguments) (ap (λ (x : ScopeElement). x.text) k.2) own) h
 
 scope-value-inner : (c : Config) (o x : KnownInstance) (b : ℕ) (values : List (List ℕ)) (name : List ℕ) → x.scope ≡ inside b → x.bindings ≡ (b, values) ∷ o.bindings →
     scope_value c x.bindings x.scope name ≡ argument_of c.text (body_formals (slice_get c.bodies b)) values name
@@ -112,13 +117,13 @@ module _ (c : Config) (instances : List InstanceKept) (places : List Place) (kno
   enclosing-at u k x p h g e = subst (λ z. IsEnclosing c known u x z) e (use-at u k x h g).enclosing
 
   -- the parameters of an instance's own body, and its arguments where they stand
-  pub own-value : (scope_elements : List (Vec ScopeElementKept Global)) (all : List (List (List Span))) → AreAllScopeElements c scope_elements → AreAllArguments c all →
+  pub own-value : (scopes : List ScopeKept) → AreAllScopes c scopes →
       (u : ℕ) (k j : InstanceKept) (x : KnownInstance) (p : Place) → k ≡ get_or instances u k → u < length instances → slice_get known u ≡ Some x → k.enclosing ≡ Some p → j ≡ get_or instances p.within j → p.within < u →
       (text name : List ℕ) (fs : List Span) (found : Option ℕ) → text ≡ c.text → fs ≡ body_formals (slice_get c.bodies k.scope) → found ≡ position (named text name) fs →
       (o : KnownInstance) × (slice_get known p.within ≡ Some o) × (scope_value c x.bindings x.scope name ≡ option_and_then (slice_get (own_arguments x.bindings)) found)
-      × AreValues c o.bindings (o.scope ∷ o.enclosing) (string_found text (slice_get scope_elements (get_or instances p.within j).scope) p.element)
-      (spans_found (slice_get all (get_or instances p.within j).scope) p.element) (own_arguments x.bindings)
-  own-value scope_elements all hl ha u k j x p kept l h e q w text name fs found et ef is =
+      × AreValues c o.bindings (o.scope ∷ o.enclosing) (string_found text (slice_get scopes (get_or instances p.within j).scope) p.element)
+      (spans_found (slice_get scopes (get_or instances p.within j).scope) p.element) (own_arguments x.bindings)
+  own-value scopes all u k j x p kept l h e q w text name fs found et ef is =
       let lu : p.within < length instances = omega (arith, l, w) in
       let there : slice_get instances u ≡ Some k = slice_get_read instances (length instances) u k refl l kept in
       let n = use-at u k x there h in
@@ -129,17 +134,17 @@ module _ (c : Config) (instances : List InstanceKept) (places : List Place) (kno
       let scope : table_place c o.scope ≡ (get_or instances p.within j).scope = sym m.scope ∙ ap (λ (z : InstanceKept). z.scope) q in
       let formals : body_formals (slice_get c.bodies i.body) ≡ fs = ap (λ z. body_formals (slice_get c.bodies z)) (sym (n.scope ∙ ap (table_place c) i.scope)) ∙ sym ef in
       let own : i.values ≡ own_arguments x.bindings = sym (ap own_arguments i.bindings) in
-      let string : i.scope_element.text ≡ string_found text (slice_get scope_elements (get_or instances p.within j).scope) p.element =
-      sym (string-is c scope_elements hl o.scope o.visible o.enclosing m.stands p.element i.scope_element i.there) ∙ ap (λ z. string_found z (slice_get scope_elements (table_place c o.scope)) p.element) (sym et)
-      ∙ ap (λ z. string_found text (slice_get scope_elements z) p.element) scope in
-      let spans : i.spans ≡ spans_found (slice_get all (get_or instances p.within j).scope) p.element =
-      sym (spans-are c all ha o.scope o.visible o.enclosing m.stands p.element i.scope_element i.body i.spans i.there i.meaning i.arguments) ∙ ap (λ z. spans_found (slice_get all z) p.element) scope in (
+      let string : i.scope_element.text ≡ string_found text (slice_get scopes (get_or instances p.within j).scope) p.element =
+      sym (string-is c scopes all o.scope o.visible o.enclosing m.stands p.element i.scope_element i.there) ∙ ap (λ z. string_found z (slice_get scopes (table_place c o.scope)) p.element) (sym et)
+      ∙ ap (λ z. string_found text (slice_get scopes z) p.element) scope in
+      let spans : i.spans ≡ spans_found (slice_get scopes (get_or instances p.within j).scope) p.element =
+      sym (spans-are c scopes all o.scope o.visible o.enclosing m.stands p.element i.scope_element i.body i.spans i.there i.meaning i.arguments) ∙ ap (λ z. spans_found (slice_get scopes z) p.element) scope in (
         o,
         a.1.1,
         scope-value-inner c o x i.body i.values name i.scope i.bindings ∙ argument-by c.text name (body_formals (slice_get c.bodies i.body)) i.values
             ∙ ap (λ z. option_and_then (slice_get z) (position (named c.text name) (body_formals (slice_get c.bodies i.body)))) own
             ∙ ap (option_and_then (slice_get (own_arguments x.bindings))) (ap (position (named c.text name)) formals ∙ ap (λ z. position (named z name) fs) (sym et) ∙ sym is),
-        subst (λ z. AreValues c o.bindings (o.scope ∷ o.enclosing) z (spans_found (slice_get all (get_or instances p.within j).scope) p.element) (own_arguments x.bindings)) string
+        subst (λ z. AreValues c o.bindings (o.scope ∷ o.enclosing) z (spans_found (slice_get scopes (get_or instances p.within j).scope) p.element) (own_arguments x.bindings)) string
             (subst (λ z. AreValues c o.bindings (o.scope ∷ o.enclosing) i.scope_element.text z (own_arguments x.bindings)) spans
             (subst (λ z. AreValues c o.bindings (o.scope ∷ o.enclosing) i.scope_element.text i.spans z) own i.replaced)),
       )
@@ -156,9 +161,9 @@ kept-short : (text : List ℕ) (l : Option ScopeElementKept) → length (string_
 kept-short text None = omega arith
 kept-short text (Some l) = string-short text l.text
 
-pub found-short : (text : List ℕ) (o : Option (Vec ScopeElementKept Global)) (i : ℕ) → length (string_found text o i) ≤ length text
+pub found-short : (text : List ℕ) (o : Option ScopeKept) (i : ℕ) → length (string_found text o i) ≤ length text
 found-short text None i = omega arith
-found-short text (Some ls) i = kept-short text (slice_get ls.items i)
+found-short text (Some k) i = kept-short text (slice_get k.elements.items i)
 
 pub is-none : {X : Type 0} (o : Option X) → ((x : X) → o ≡ Some x → ⊥) → o ≡ None
 is-none None h = refl

@@ -1,6 +1,5 @@
 -- What the code answers on its way from a sound configuration to the flat form.
-use Rattle.std.specs.Prelude.{◌≡◌, ℕ, List, [], ◌∷◌, ◌++◌, map, All, Contains, true, false, slice_get, Vec, Option, Some, None}
-use Rattle.std.specs.Global.{Global}
+use Rattle.std.specs.Prelude.{◌≡◌, ℕ, List, [], ◌∷◌, ◌++◌, map, All, Contains, true, false, slice_get, Option, Some, None}
 use Rattle.click_text.specs.declared.syntax.Head.{Head}
 use Rattle.click_text.specs.declared.syntax.Config.{Config}
 use Rattle.click_expand.specs.Instances.{PrimitiveElement}
@@ -10,7 +9,8 @@ use Rattle.click_expand.specs.declared.flat.Flat.{Flat}
 use Rattle.click_expand.specs.declared.fault.ExpandFault.{ExpandFault}
 use Rattle.click_scopes.specs.declared.analysis.ScopeFault.{ScopeFault}
 use Rattle.click_scopes.specs.declared.analysis.ScopeFault.TheVariants as scope_fault
-use Rattle.click_scopes.specs.declared.scope_elements.ScopeElement.{ScopeElement as ScopeElementKept}
+use Rattle.click_scopes.specs.kept.Lookups.{scope_head}
+use Rattle.click_scopes.specs.declared.scopes.Scope.{Scope as ScopeKept}
 use Rattle.click_expand.specs.declared.instances.tree.Place.{Place}
 use Rattle.click_expand.specs.declared.instances.tree.Instance.{Instance as InstanceKept}
 use Rattle.click_expand.specs.declared.flattening.Refusal.{Refusal}
@@ -58,21 +58,13 @@ fault_for refused.TooMany = expand_fault kind.TooMany None []
 fault_for (refused.Broken name) = expand_fault kind.BrokenText None name
 
 -- what the flat element at a place begins with
-abbrev pub scope_element_head : Option ScopeElementKept → Option Head
-scope_element_head None = None
-scope_element_head (Some l) = Some l.head
+abbrev pub instance_head : List ScopeKept → ℕ → Option InstanceKept → Option Head
+instance_head scopes i None = None
+instance_head scopes i (Some k) = scope_head i (slice_get scopes k.scope)
 
-abbrev pub scope_head : ℕ → Option (Vec ScopeElementKept Global) → Option Head
-scope_head i None = None
-scope_head i (Some ls) = scope_element_head (slice_get ls.items i)
+abbrev pub place_head : List ScopeKept → List InstanceKept → Option Place → Option Head
+place_head scopes instances None = None
+place_head scopes instances (Some p) = instance_head scopes p.element (slice_get instances p.within)
 
-abbrev pub instance_head : List (Vec ScopeElementKept Global) → ℕ → Option InstanceKept → Option Head
-instance_head scope_elements i None = None
-instance_head scope_elements i (Some k) = scope_head i (slice_get scope_elements k.scope)
-
-abbrev pub place_head : List (Vec ScopeElementKept Global) → List InstanceKept → Option Place → Option Head
-place_head scope_elements instances None = None
-place_head scope_elements instances (Some p) = instance_head scope_elements p.element (slice_get instances p.within)
-
-abbrev pub head_in : List (Vec ScopeElementKept Global) → List InstanceKept → List Place → ℕ → Option Head
-head_in scope_elements instances places n = place_head scope_elements instances (slice_get places n)
+abbrev pub head_in : List ScopeKept → List InstanceKept → List Place → ℕ → Option Head
+head_in scopes instances places n = place_head scopes instances (slice_get places n)

@@ -1,10 +1,10 @@
 -- What one step of the walk over the instances does.
-use Rattle.std.specs.Prelude.{◌≡◌, ◌<◌, ◌++◌, ℕ, List, [], ◌∷◌, length, slice_get, slice_set, eqb, Bool, true, false, Option, Some, None, Vec, if◌then◌else◌}
-use Rattle.std.specs.Global.{Global}
+use Rattle.std.specs.Prelude.{◌≡◌, ◌<◌, ◌++◌, ℕ, List, [], ◌∷◌, length, slice_get, slice_set, eqb, Bool, true, false, Option, Some, None, if◌then◌else◌}
 use Rattle.click_scopes.specs.declared.classes.ResolvedClass.{ResolvedClass}
 use Rattle.click_scopes.specs.declared.classes.ResolvedClass.TheVariants as class
 use Rattle.click_scopes.specs.declared.scope_elements.ScopeElement.{ScopeElement}
-use Rattle.click_scopes.specs.declared.scopes.Scope.{Scope}
+use Rattle.click_scopes.specs.declared.scopes.Scope.{Scope as ScopeKept}
+use Rattle.click_scopes.specs.kept.Lookups.{parent_by, elements_by}
 use Rattle.click_expand.specs.declared.instances.tree.InstancePart.{InstancePart}
 use Rattle.click_expand.specs.declared.instances.tree.InstancePart.TheVariants as part
 use Rattle.click_expand.specs.declared.instances.tree.Place.{Place}
@@ -23,14 +23,8 @@ abbrev pub next_of_scope_element : Option ScopeElement → NextElement
 next_of_scope_element None = next.Nothing
 next_of_scope_element (Some l) = next_class l.class
 
-abbrev pub next_in : Option (Vec ScopeElement Global) → ℕ → NextElement
-next_in None i = next.Nothing
-next_in (Some ls) i = next_of_scope_element (slice_get ls.items i)
-
--- the place of the scope that a scope stands in
-abbrev pub outer_by : Option Scope → ℕ
-outer_by None = 0
-outer_by (Some s) = s.outer
+abbrev pub next_in : List ScopeElement → ℕ → NextElement
+next_in ls i = next_of_scope_element (slice_get ls i)
 
 -- an instance that has no parts yet
 abbrev pub instance_without_parts : ℕ → Option Place → Option ℕ → Instance
@@ -70,9 +64,9 @@ pub record AddsFlatElement (old new : Walk) (k : Instance) : Type 0 where
   pub place : new.place ≡ old.place
 
 -- The instance of a body is added, and the walk goes there.
-pub record IsEntered (scopes : List Scope) (body : ℕ) (old new : Walk) (k : Instance) : Type 0 where
+pub record IsEntered (scopes : List ScopeKept) (body : ℕ) (old new : Walk) (k : Instance) : Type 0 where
   pub lexical_parent : ℕ
-  pub lexical_parent_in : IsLexicalParentIn old.instances.items (outer_by (slice_get scopes body)) old.place lexical_parent
+  pub lexical_parent_in : IsLexicalParentIn old.instances.items (parent_by (slice_get scopes body)) old.place lexical_parent
   pub instances : new.instances.items ≡
       slice_set old.instances.items old.place (with_part k (part.Inner (length old.instances.items)))
       ++ instance_without_parts body (Some (element_place old.place (length k.parts))) (Some lexical_parent) ∷ []
@@ -84,12 +78,12 @@ abbrev pub IsLeft : Option Place → Walk → Walk → Bool → Type 0
 IsLeft None old new more = (more ≡ false) × (new.instances.items ≡ old.instances.items) × (new.primitive_elements.items ≡ old.primitive_elements.items)
 IsLeft (Some p) old new more = (more ≡ true) × (new.instances.items ≡ old.instances.items) × (new.primitive_elements.items ≡ old.primitive_elements.items) × (new.place ≡ p.within)
 
-abbrev pub IsWalkStepBy : List Scope → Walk → Walk → Instance → NextElement → Bool → Type 0
+abbrev pub IsWalkStepBy : List ScopeKept → Walk → Walk → Instance → NextElement → Bool → Type 0
 IsWalkStepBy scopes old new k (next.Inner b) more = (more ≡ true) × IsEntered scopes b old new k
 IsWalkStepBy scopes old new k next.Flat more = (more ≡ true) × AddsFlatElement old new k
 IsWalkStepBy scopes old new k next.Nothing more = IsLeft k.enclosing old new more
 
 -- one step of the walk, and whether there are more
-abbrev pub IsWalkStep : List Scope → List (Vec ScopeElement Global) → Walk → Walk → Bool → Type 0
-IsWalkStep scopes scope_elements old new more =
-    (k : Instance) × (slice_get old.instances.items old.place ≡ Some k) × IsWalkStepBy scopes old new k (next_in (slice_get scope_elements k.scope) (length k.parts)) more
+abbrev pub IsWalkStep : List ScopeKept → Walk → Walk → Bool → Type 0
+IsWalkStep scopes old new more =
+    (k : Instance) × (slice_get old.instances.items old.place ≡ Some k) × IsWalkStepBy scopes old new k (next_in (elements_by (slice_get scopes k.scope)) (length k.parts)) more

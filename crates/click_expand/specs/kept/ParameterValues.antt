@@ -1,33 +1,11 @@
 -- The texts that stand for parameters, as the code finds them.
-use Rattle.std.specs.Prelude.{◌≡◌, ℕ, List, [], ◌∷◌, slice_get, Option, Some, None, Vec}
-use Rattle.std.specs.Global.{Global}
-use Rattle.click_text.specs.declared.syntax.Span.{Span}
+use Rattle.std.specs.Prelude.{◌≡◌, ℕ, List, [], ◌∷◌, slice_get, Option, Some, None}
 use Rattle.click_text.specs.declared.syntax.Config.{Config}
-use Rattle.click_scopes.specs.Elements.{string_or_empty}
 use Rattle.click_expand.specs.Parameters.{Bindings, IsReplaced}
 use Rattle.click_expand.specs.kept.KnownInstances.{KnownInstance}
-use Rattle.click_scopes.specs.declared.scope_elements.ScopeElement.{ScopeElement as ScopeElementKept}
 use Rattle.click_expand.specs.declared.texts.parameter_values.UnreadText.{UnreadText}
 use Rattle.click_expand.specs.declared.texts.parameter_values.Argument.{Argument}
 use Rattle.click_expand.specs.declared.texts.parameter_values.ParameterValue.{ParameterValue}
-
--- where the arguments of an element stand: nowhere, where there is none
-abbrev pub spans_by : Option (List Span) → List Span
-spans_by None = []
-spans_by (Some spans) = spans
-
-abbrev pub spans_found : Option (List (List Span)) → ℕ → List Span
-spans_found None element = []
-spans_found (Some one) element = spans_by (slice_get one element)
-
--- the string of an element
-abbrev pub string_kept : List ℕ → Option ScopeElementKept → List ℕ
-string_kept text None = []
-string_kept text (Some l) = string_or_empty text l.text
-
-abbrev pub string_found : List ℕ → Option (Vec ScopeElementKept Global) → ℕ → List ℕ
-string_found text None element = []
-string_found text (Some ls) element = string_kept text (slice_get ls.items element)
 
 -- with its parameters replaced by what they are in its instance, a text is this one
 abbrev pub IsRead : Config → List KnownInstance → UnreadText → List ℕ → Type 0

@@ -1,10 +1,6 @@
 -- Connections that only lead through a compound: in at one of its inputs and out at its outputs, past no flat element.
-use Rattle.std.specs.Prelude.{◌≡◌, ◌⊎◌, ℕ, ◌<◌, List, [], ◌∷◌, length, slice_get, Contains, nat_eq, Option, Some, None, Vec}
-use Rattle.std.specs.Global.{Global}
+use Rattle.std.specs.Prelude.{◌≡◌, ◌⊎◌, ℕ, ◌<◌, List, [], ◌∷◌, length, slice_get, Contains, nat_eq, Option, Some, None}
 use Rattle.std.specs.Map.{lookup}
-use Rattle.click_scopes.specs.declared.classes.ResolvedClass.{ResolvedClass}
-use Rattle.click_scopes.specs.declared.classes.ResolvedClass.TheVariants as class
-use Rattle.click_scopes.specs.declared.scope_elements.ScopeElement.{ScopeElement as ScopeElementKept}
 use Rattle.click_scopes.specs.declared.written_connections.Owner.TheVariants as owner
 use Rattle.click_expand.specs.declared.connections.connection_index.ScopePort.{ScopePort}
 use Rattle.click_expand.specs.declared.connections.connection_index.ConnectionIndex.{ConnectionIndex}
@@ -14,24 +10,6 @@ use Rattle.click_expand.specs.declared.instances.tree.Instance.{Instance}
 use Rattle.click_expand.specs.declared.connections.passthrough.Shortcut.{Shortcut}
 use Rattle.click_expand.specs.declared.connections.passthrough.ScopeShortcuts.{ScopeShortcuts}
 use Rattle.click_expand.specs.kept.Wiring.{scope_port, same_port, ends_in, Gains, HasAll}
-
--- the body that a class stands for
-abbrev pub class_body : Option ResolvedClass → Option ℕ
-class_body None = None
-class_body (Some (class.Primitive s)) = None
-class_body (Some (class.Compound b)) = Some b
-
-abbrev pub scope_element_body : Option ScopeElementKept → Option ℕ
-scope_element_body None = None
-scope_element_body (Some l) = class_body l.class
-
-abbrev pub scope_body : ℕ → Option (Vec ScopeElementKept Global) → Option ℕ
-scope_body i None = None
-scope_body i (Some ls) = scope_element_body (slice_get ls.items i)
-
--- the body that an element of a scope stands for
-abbrev pub body_at : List (Vec ScopeElementKept Global) → ℕ → ℕ → Option ℕ
-body_at scope_elements s i = scope_body i (slice_get scope_elements s)
 
 abbrev pub index_ends : Option ConnectionIndex → ScopePort → List ScopePort
 index_ends None a = []

@@ -5,6 +5,7 @@ use Rattle.std.specs.Map.{lookup}
 use Rattle.click_scopes.specs.declared.written_connections.Owner.{Owner}
 use Rattle.click_scopes.specs.declared.written_connections.Owner.TheVariants as owner
 use Rattle.click_scopes.specs.declared.written_connections.WrittenConnection.{WrittenConnection}
+use Rattle.click_scopes.specs.declared.scopes.Scope.{Scope as ScopeKept}
 use Rattle.click_expand.specs.declared.instances.tree.InstancePart.{InstancePart}
 use Rattle.click_expand.specs.declared.instances.tree.InstancePart.TheVariants as part
 use Rattle.click_expand.specs.declared.instances.tree.Place.{Place}
@@ -59,11 +60,11 @@ pub record IsIndex (ks : List WrittenConnection) (entries : List (ScopePort × V
   pub complete : (a b : ScopePort) → IsJoined ks a b → Contains (ends_in entries a) b
 
 -- one index for each scope
-abbrev pub AreIndices : List (List WrittenConnection) → List ConnectionIndex → Type 0
+abbrev pub AreIndices : List ScopeKept → List ConnectionIndex → Type 0
 AreIndices [] [] = Unit {0}
 AreIndices [] (x ∷ xs) = ⊥
-AreIndices (ks ∷ all) [] = ⊥
-AreIndices (ks ∷ all) (x ∷ xs) = IsIndex ks x.ends.entries × AreIndices all xs
+AreIndices (k ∷ all) [] = ⊥
+AreIndices (k ∷ all) (x ∷ xs) = IsIndex k.connections x.ends.entries × AreIndices all xs
 
 -- out of an instance that stands there
 abbrev pub outward : Option Place → ℕ → Reached

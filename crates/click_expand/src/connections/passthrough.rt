@@ -3,6 +3,7 @@
 
 ghost use Rattle.std.specs.Prelude.{◌≡◌, ◌⊎◌, ◌∷◌, [], ℕ, List, Contains, Option, None, true, false, length, IfOk, OnOk, IfSome};
 ghost use Rattle.click_scopes.specs.declared.written_connections.Owner.TheVariants as owner;
+ghost use Rattle.click_scopes.specs.kept.Lookups.{body_at};
 ghost use Rattle.click_expand.specs.declared.connections.connection_index.ScopePort.{ScopePort as PortKept};
 ghost use Rattle.click_expand.specs.declared.connections.connection_index.ConnectionIndex.{ConnectionIndex as IndexKept};
 ghost use Rattle.click_expand.specs.kept.Wiring.{AreIndices, Gains, HasAll, ends_in, scope_port as port_of};
@@ -10,8 +11,7 @@ ghost use Rattle.click_expand.specs.kept.Passthrough as spec;
 ghost use Rattle.click_expand.specs.kept.Passthrough.{AreAlike, AreEndsOf, AreFound, AreShortened, AreStoodFor, HasShortcuts, IsLike, IsOutputOf, IsShortened, LeadAlike, LeadsThrough, GoesOnBehind, StandsIn};
 
 use crate::connections::connection_index::{ConnectionIndex, ScopePort, index_of};
-use click_base::sequence::Sequence;
-use click_scopes::{Owner, ResolvedClass, ScopeElement, WrittenConnection};
+use click_scopes::{Owner, Scopes};
 use indexmap::{IndexMap, IndexSet};
 use std::alloc::{AllocError, Global};
 
@@ -20,16 +20,6 @@ use std::alloc::{AllocError, Global};
 struct Shortcut {
     from: ScopePort,
     outputs: Vec<ScopePort>,
-}
-
-/// The body that an element of a scope stands for.
-fn body_at(scope_elements: &[Vec<ScopeElement>], scope: usize, element: usize) -> Option<usize>
-    ensures { result ≡ spec.body_at scope_elements.now scope element }
-{
-    match scope_elements.get(scope)?.get(element)?.class {
-        Some(ResolvedClass::Compound(body)) => Some(body),
-        _ => None,
-    }
 }
 
 /// The number of the input that stands in for that input of a body: its own, where none is kept.
@@ -47,18 +37,13 @@ fn number_for(done: &[ConnectionIndex], body: usize, number: u8) -> u8
 }
 
 /// The port that stands in for one that a connection leads to.
-fn port_for(
-    done: &[ConnectionIndex],
-    scope_elements: &[Vec<ScopeElement>],
-    scope: usize,
-    end: ScopePort,
-) -> ScopePort
-    ensures { (ends short : ℕ → PortKept → List PortKept) → AreShortened ends (spec.body_at scope_elements.now) short done.now → StandsIn ends (spec.body_at scope_elements.now) short scope end result }
+fn port_for(done: &[ConnectionIndex], scopes: &Scopes, scope: usize, end: ScopePort) -> ScopePort
+    ensures { (ends short : ℕ → PortKept → List PortKept) → AreShortened ends (body_at scopes.now.scopes.items) short done.now → StandsIn ends (body_at scopes.now.scopes.items) short scope end result }
 {
     let Owner::Element(element) = end.owner else {
         return end;
     };
-    match body_at(scope_elements, scope, element) {
+    match scopes.body_at(scope, element) {
         Some(body) => ScopePort {
             owner: end.owner,
             number: number_for(done, body, end.number),
@@ -71,16 +56,16 @@ fn port_for(
 fn ports_for(
     alloc: Global,
     done: &[ConnectionIndex],
-    scope_elements: &[Vec<ScopeElement>],
+    scopes: &Scopes,
     scope: usize,
     ends: &[ScopePort],
 ) -> Result<Vec<ScopePort>, AllocError>
-    ensures { (joined short : ℕ → PortKept → List PortKept) → AreShortened joined (spec.body_at scope_elements.now) short done.now →
-        IfOk result (λ ports. AreStoodFor joined (spec.body_at scope_elements.now) short scope ends.now ports.items) }
+    ensures { (joined short : ℕ → PortKept → List PortKept) → AreShortened joined (body_at scopes.now.scopes.items) short done.now →
+        IfOk result (λ ports. AreStoodFor joined (body_at scopes.now.scopes.items) short scope ends.now ports.items) }
 {
     let mut ports = IndexSet::new(alloc);
     for end in ends {
-        ports.insert(port_for(done, scope_elements, scope, *end))?;
+        ports.insert(port_for(done, scopes, scope, *end))?;
     }
     Vec::from_slice(alloc, ports.as_slice())
 }
@@ -89,17 +74,17 @@ fn ports_for(
 fn with_stand_ins(
     alloc: Global,
     done: &[ConnectionIndex],
-    scope_elements: &[Vec<ScopeElement>],
+    scopes: &Scopes,
     scope: usize,
     index: &ConnectionIndex,
 ) -> Result<ConnectionIndex, AllocError>
-    ensures { (ends short : ℕ → PortKept → List PortKept) → AreShortened ends (spec.body_at scope_elements.now) short done.now → ((a : PortKept) → ends scope a ≡ ends_in index.now.ends.entries a) →
-        IfOk result (λ x. AreEndsOf ends (spec.body_at scope_elements.now) short scope (ends_in x.ends.entries)) }
+    ensures { (ends short : ℕ → PortKept → List PortKept) → AreShortened ends (body_at scopes.now.scopes.items) short done.now → ((a : PortKept) → ends scope a ≡ ends_in index.now.ends.entries a) →
+        IfOk result (λ x. AreEndsOf ends (body_at scopes.now.scopes.items) short scope (ends_in x.ends.entries)) }
 {
     let mut ends = IndexMap::new(alloc);
     for at in 0..index.ends.len() {
         if let Some((port, _)) = index.ends.get_index(at) {
-            let ports = ports_for(alloc, done, scope_elements, scope, index.ends(*port))?;
+            let ports = ports_for(alloc, done, scopes, scope, index.ends(*port))?;
             ends.insert(*port, ports)?;
         }
     }
@@ -110,14 +95,11 @@ fn with_stand_ins(
 }
 
 /// Whether an element of the scope is a compound.
-fn has_compounds(scope_elements: &[Vec<ScopeElement>], scope: usize) -> bool
-    ensures { result ≡ false → (element : ℕ) → spec.body_at scope_elements.now scope element ≡ None }
+fn has_compounds(scopes: &Scopes, scope: usize) -> bool
+    ensures { result ≡ false → (element : ℕ) → body_at scopes.now.scopes.items scope element ≡ None }
 {
-    let Some(one) = scope_elements.get(scope) else {
-        return false;
-    };
-    for element in 0..one.len() {
-        if body_at(scope_elements, scope, element).is_some() {
+    for element in 0..scopes.elements_at(scope).len() {
+        if scopes.body_at(scope, element).is_some() {
             return true;
         }
     }
@@ -128,15 +110,15 @@ fn has_compounds(scope_elements: &[Vec<ScopeElement>], scope: usize) -> bool
 fn reduced(
     alloc: Global,
     done: &[ConnectionIndex],
-    scope_elements: &[Vec<ScopeElement>],
+    scopes: &Scopes,
     scope: usize,
     index: ConnectionIndex,
 ) -> Result<ConnectionIndex, AllocError>
-    ensures { (ends short : ℕ → PortKept → List PortKept) → AreShortened ends (spec.body_at scope_elements.now) short done.now → ((a : PortKept) → ends scope a ≡ ends_in index.ends.entries a) →
-        IfOk result (λ x. AreEndsOf ends (spec.body_at scope_elements.now) short scope (ends_in x.ends.entries)) }
+    ensures { (ends short : ℕ → PortKept → List PortKept) → AreShortened ends (body_at scopes.now.scopes.items) short done.now → ((a : PortKept) → ends scope a ≡ ends_in index.ends.entries a) →
+        IfOk result (λ x. AreEndsOf ends (body_at scopes.now.scopes.items) short scope (ends_in x.ends.entries)) }
 {
-    if has_compounds(scope_elements, scope) {
-        return with_stand_ins(alloc, done, scope_elements, scope, &index);
+    if has_compounds(scopes, scope) {
+        return with_stand_ins(alloc, done, scopes, scope, &index);
     }
     Ok(index)
 }
@@ -186,14 +168,14 @@ fn go_on(
 /// Goes on after a port that a connection leads to. False where that is a flat element's, or an input that leads to an element.
 fn pass(
     done: &[ConnectionIndex],
-    scope_elements: &[Vec<ScopeElement>],
+    scopes: &Scopes,
     scope: usize,
     end: ScopePort,
     seen: &mut IndexSet<ScopePort>,
     outputs: &mut IndexSet<ScopePort>,
 ) -> Result<bool, AllocError>
-    ensures { (ends short : ℕ → PortKept → List PortKept) → AreShortened ends (spec.body_at scope_elements.now) short done.now →
-        IfOk result (λ on. on ≡ true → GoesOnBehind ends (spec.body_at scope_elements.now) short scope (end ∷ []) seen.old.keys seen.new.keys outputs.old.keys outputs.new.keys) }
+    ensures { (ends short : ℕ → PortKept → List PortKept) → AreShortened ends (body_at scopes.now.scopes.items) short done.now →
+        IfOk result (λ on. on ≡ true → GoesOnBehind ends (body_at scopes.now.scopes.items) short scope (end ∷ []) seen.old.keys seen.new.keys outputs.old.keys outputs.new.keys) }
 {
     match end.owner {
         // No connection leads to a body's own input: that is a wrong use.
@@ -203,7 +185,7 @@ fn pass(
             Ok(true)
         }
         Owner::Element(element) => {
-            let Some(body) = body_at(scope_elements, scope, element) else {
+            let Some(body) = scopes.body_at(scope, element) else {
                 return Ok(false);
             };
             let Some(behind) = outputs_through(done, body, end.number) else {
@@ -218,17 +200,17 @@ fn pass(
 /// Goes on after each of these ports, up to the first that leads to an element; false there.
 fn search_past_all(
     done: &[ConnectionIndex],
-    scope_elements: &[Vec<ScopeElement>],
+    scopes: &Scopes,
     scope: usize,
     ends: &[ScopePort],
     seen: &mut IndexSet<ScopePort>,
     outputs: &mut IndexSet<ScopePort>,
 ) -> Result<bool, AllocError>
-    ensures { (joined short : ℕ → PortKept → List PortKept) → AreShortened joined (spec.body_at scope_elements.now) short done.now →
-        IfOk result (λ on. on ≡ true → GoesOnBehind joined (spec.body_at scope_elements.now) short scope ends.now seen.old.keys seen.new.keys outputs.old.keys outputs.new.keys) }
+    ensures { (joined short : ℕ → PortKept → List PortKept) → AreShortened joined (body_at scopes.now.scopes.items) short done.now →
+        IfOk result (λ on. on ≡ true → GoesOnBehind joined (body_at scopes.now.scopes.items) short scope ends.now seen.old.keys seen.new.keys outputs.old.keys outputs.new.keys) }
 {
     for end in ends {
-        if !pass(done, scope_elements, scope, *end, seen, outputs)? {
+        if !pass(done, scopes, scope, *end, seen, outputs)? {
             return Ok(false);
         }
     }
@@ -239,13 +221,13 @@ fn search_past_all(
 fn outputs_from(
     alloc: Global,
     done: &[ConnectionIndex],
-    scope_elements: &[Vec<ScopeElement>],
+    scopes: &Scopes,
     scope: usize,
     index: &ConnectionIndex,
     from: ScopePort,
 ) -> Result<Option<Vec<ScopePort>>, AllocError>
-    ensures { (ends short : ℕ → PortKept → List PortKept) → AreShortened ends (spec.body_at scope_elements.now) short done.now → AreEndsOf ends (spec.body_at scope_elements.now) short scope (ends_in index.now.ends.entries) →
-        IfOk result (λ r. IfSome r (λ outputs. LeadAlike ends (spec.body_at scope_elements.now) scope (ends_in index.now.ends.entries) from outputs.items)) }
+    ensures { (ends short : ℕ → PortKept → List PortKept) → AreShortened ends (body_at scopes.now.scopes.items) short done.now → AreEndsOf ends (body_at scopes.now.scopes.items) short scope (ends_in index.now.ends.entries) →
+        IfOk result (λ r. IfSome r (λ outputs. LeadAlike ends (body_at scopes.now.scopes.items) scope (ends_in index.now.ends.entries) from outputs.items)) }
 {
     let mut seen = IndexSet::new(alloc);
     let mut outputs = IndexSet::new(alloc);
@@ -254,7 +236,7 @@ fn outputs_from(
     while at < seen.len() {
         let port = seen.as_slice()[at];
         let ends = index.ends(port);
-        if !search_past_all(done, scope_elements, scope, ends, &mut seen, &mut outputs)? {
+        if !search_past_all(done, scopes, scope, ends, &mut seen, &mut outputs)? {
             return Ok(None);
         }
         at += 1;
@@ -317,13 +299,13 @@ impl ScopeShortcuts {
         &mut self,
         alloc: Global,
         done: &[ConnectionIndex],
-        scope_elements: &[Vec<ScopeElement>],
+        scopes: &Scopes,
         scope: usize,
         index: &ConnectionIndex,
         from: ScopePort,
     ) -> Result<(), AllocError>
-        ensures { (ends short : ℕ → PortKept → List PortKept) → AreShortened ends (spec.body_at scope_elements.now) short done.now → AreEndsOf ends (spec.body_at scope_elements.now) short scope (ends_in index.now.ends.entries) →
-            AreFound ends (spec.body_at scope_elements.now) scope (ends_in index.now.ends.entries) self.old → OnOk result (AreFound ends (spec.body_at scope_elements.now) scope (ends_in index.now.ends.entries) self.new) }
+        ensures { (ends short : ℕ → PortKept → List PortKept) → AreShortened ends (body_at scopes.now.scopes.items) short done.now → AreEndsOf ends (body_at scopes.now.scopes.items) short scope (ends_in index.now.ends.entries) →
+            AreFound ends (body_at scopes.now.scopes.items) scope (ends_in index.now.ends.entries) self.old → OnOk result (AreFound ends (body_at scopes.now.scopes.items) scope (ends_in index.now.ends.entries) self.new) }
     {
         let Owner::Input = from.owner else {
             return Ok(());
@@ -332,7 +314,7 @@ impl ScopeShortcuts {
             self.alike.insert(from.number, number)?;
             return Ok(());
         }
-        match outputs_from(alloc, done, scope_elements, scope, index, from)? {
+        match outputs_from(alloc, done, scopes, scope, index, from)? {
             Some(outputs) => self.add(index, from, outputs),
             None => Ok(()),
         }
@@ -343,12 +325,12 @@ impl ScopeShortcuts {
 fn shortcuts_of(
     alloc: Global,
     done: &[ConnectionIndex],
-    scope_elements: &[Vec<ScopeElement>],
+    scopes: &Scopes,
     scope: usize,
     index: &ConnectionIndex,
 ) -> Result<ScopeShortcuts, AllocError>
-    ensures { (ends short : ℕ → PortKept → List PortKept) → AreShortened ends (spec.body_at scope_elements.now) short done.now → AreEndsOf ends (spec.body_at scope_elements.now) short scope (ends_in index.now.ends.entries) →
-        IfOk result (AreFound ends (spec.body_at scope_elements.now) scope (ends_in index.now.ends.entries)) }
+    ensures { (ends short : ℕ → PortKept → List PortKept) → AreShortened ends (body_at scopes.now.scopes.items) short done.now → AreEndsOf ends (body_at scopes.now.scopes.items) short scope (ends_in index.now.ends.entries) →
+        IfOk result (AreFound ends (body_at scopes.now.scopes.items) scope (ends_in index.now.ends.entries)) }
 {
     let mut found = ScopeShortcuts {
         shortcuts: Vec::new(alloc),
@@ -357,7 +339,7 @@ fn shortcuts_of(
     };
     for at in 0..index.ends.len() {
         if let Some((port, _)) = index.ends.get_index(at) {
-            found.add_shortcut_from(alloc, done, scope_elements, scope, index, *port)?;
+            found.add_shortcut_from(alloc, done, scopes, scope, index, *port)?;
         }
     }
     Ok(found)
@@ -385,31 +367,28 @@ fn with_shortcuts(
 fn shortened(
     alloc: Global,
     done: &[ConnectionIndex],
-    scope_elements: &[Vec<ScopeElement>],
+    scopes: &Scopes,
     scope: usize,
     index: ConnectionIndex,
 ) -> Result<ConnectionIndex, AllocError>
-    ensures { (ends short : ℕ → PortKept → List PortKept) → AreShortened ends (spec.body_at scope_elements.now) short done.now → ((a : PortKept) → ends scope a ≡ ends_in index.ends.entries a) →
-        IfOk result (λ x. ((a : PortKept) → short scope a ≡ ends_in x.ends.entries a) → IsShortened ends (spec.body_at scope_elements.now) short scope × AreAlike ends (spec.body_at scope_elements.now) short scope x) }
+    ensures { (ends short : ℕ → PortKept → List PortKept) → AreShortened ends (body_at scopes.now.scopes.items) short done.now → ((a : PortKept) → ends scope a ≡ ends_in index.ends.entries a) →
+        IfOk result (λ x. ((a : PortKept) → short scope a ≡ ends_in x.ends.entries a) → IsShortened ends (body_at scopes.now.scopes.items) short scope × AreAlike ends (body_at scopes.now.scopes.items) short scope x) }
 {
-    let short = reduced(alloc, done, scope_elements, scope, index)?;
-    let found = shortcuts_of(alloc, done, scope_elements, scope, &short)?;
+    let short = reduced(alloc, done, scopes, scope, index)?;
+    let found = shortcuts_of(alloc, done, scopes, scope, &short)?;
     with_shortcuts(short, found)
 }
 
 /// The indices of all scopes, with the shortcuts through them.
-pub fn all_indices(
-    alloc: Global,
-    written_connections: &[Sequence<WrittenConnection>],
-    scope_elements: &[Vec<ScopeElement>],
-) -> Result<Vec<ConnectionIndex>, AllocError>
-    ensures { IfOk result (λ short. (whole : List IndexKept) × AreIndices written_connections.now whole × (length whole ≡ length short.items)
-        × AreShortened (spec.ends_at whole) (spec.body_at scope_elements.now) (spec.ends_at short.items) short.items) }
+pub fn all_indices(alloc: Global, scopes: &Scopes) -> Result<Vec<ConnectionIndex>, AllocError>
+    ensures { IfOk result (λ short. (whole : List IndexKept) × AreIndices scopes.now.scopes.items whole × (length whole ≡ length short.items)
+        × AreShortened (spec.ends_at whole) (body_at scopes.now.scopes.items) (spec.ends_at short.items) short.items) }
 {
     let mut indices = Vec::new(alloc);
-    for (scope, one) in written_connections.iter().enumerate() {
-        let index = index_of(alloc, one.as_slice())?;
-        indices.push(shortened(alloc, indices.as_slice(), scope_elements, scope, index)?)?;
+    let all = scopes.scopes.as_slice();
+    for (scope, one) in all.iter().enumerate() {
+        let index = index_of(alloc, one.connections.as_slice())?;
+        indices.push(shortened(alloc, indices.as_slice(), scopes, scope, index)?)?;
     }
     Ok(indices)
 }

@@ -4,8 +4,7 @@ ghost use Rattle.std.specs.Prelude.{◌≡◌, ◌≤◌, ◌<◌, ◌∷◌, []
 ghost use Rattle.click_expand.specs.declared.flat.Connection.{Connection as Joined};
 ghost use Rattle.click_scopes.specs.kept.Nesting.{IsNested};
 ghost use Rattle.click_scopes.specs.Faults.{IsFaultless};
-ghost use Rattle.click_scopes.specs.kept.WrittenConnections.{AreAllWrittenConnections};
-ghost use Rattle.click_scopes.specs.kept.ScopeElements.{AreAllScopeElements};
+ghost use Rattle.click_scopes.specs.Analysis.{AreScopes};
 ghost use Rattle.click_expand.specs.Instances.{PrimitiveElement as Flattened};
 ghost use Rattle.click_expand.specs.kept.KnownInstances.{KnownInstance, AreInstances};
 ghost use Rattle.click_expand.specs.Flat.{AreConnections, AreOrdered, Joins, most_connections};
@@ -19,8 +18,7 @@ use crate::connections::order::in_order;
 use crate::connections::passthrough::all_indices;
 use crate::flat::Connection;
 use crate::instances::tree::{Instance, InstancePart, Instances};
-use click_base::sequence::Sequence;
-use click_scopes::{Owner, ScopeElement, WrittenConnection};
+use click_scopes::{Owner, Scopes};
 use click_text::syntax::Config;
 use indexmap::IndexSet;
 use std::alloc::{AllocError, Global};
@@ -210,20 +208,18 @@ fn search_all(
 pub fn connections_of(
     alloc: Global,
     config: &Config,
-    scope_elements: &[Vec<ScopeElement>],
-    written_connections: &[Sequence<WrittenConnection>],
+    scopes: &Scopes,
     instances: &Instances,
 ) -> Result<Option<Vec<Connection>>, AllocError>
     requires nested { IsNested config.now }
     requires sound { IsFaultless config.now }
-    requires scope_elements { AreAllScopeElements config.now scope_elements.now }
-    requires joined { AreAllWrittenConnections config.now written_connections.now }
+    requires scopes { AreScopes config.now scopes.now }
     requires used { (primitive_elements : List Flattened) × (known : List KnownInstance) × AreInstances config.now instances.now.instances.items instances.now.primitive_elements.items known primitive_elements }
     ensures { IfOk result (λ r. (primitive_elements : List Flattened) (known : List KnownInstance) → AreInstances config.now instances.now.instances.items instances.now.primitive_elements.items known primitive_elements →
         MatchOption r ((ks : List Joined) × AreOrdered ks × ((k : Joined) → Contains ks k → Joins config.now primitive_elements k) × (most_connections < length ks))
         (λ ks. AreConnections config.now primitive_elements ks.items × (length ks.items ≤ most_connections))) }
 {
-    let indices = all_indices(alloc, written_connections, scope_elements)?;
+    let indices = all_indices(alloc, scopes)?;
     let found = search_all(alloc, instances.instances.as_slice(), indices.as_slice())?;
     let all = in_order(Vec::from_slice(alloc, found.as_slice())?);
     if all.len() > MOST_CONNECTIONS {

@@ -1,37 +1,26 @@
 //! The flat names of elements: the local names on the way to them, with `/` between two of them.
 
-ghost use Rattle.std.specs.Prelude.{◌≡◌, ℕ, List, Vec, map, reverse, slice_get, Some, IfOk};
-ghost use Rattle.std.specs.Global.{Global as Allocator};
+ghost use Rattle.std.specs.Prelude.{◌≡◌, ℕ, List, map, reverse, slice_get, Some, IfOk};
 ghost use Rattle.click_text.specs.declared.syntax.Config.{Config as Spelled};
-ghost use Rattle.click_scopes.specs.declared.scope_elements.ScopeElement.{ScopeElement as ScopeElementKept};
+ghost use Rattle.click_scopes.specs.declared.scopes.Scope.{Scope as ScopeKept};
 ghost use Rattle.click_expand.specs.declared.instances.tree.Place.{Place as Placed};
 ghost use Rattle.click_expand.specs.Flat.{flat_name};
 ghost use Rattle.click_expand.specs.Instances.{PrimitiveElement as Flattened};
-ghost use Rattle.click_scopes.specs.kept.ScopeElements.{AreAllScopeElements};
+ghost use Rattle.click_scopes.specs.kept.AllScopes.{AreAllScopes};
 ghost use Rattle.click_expand.specs.kept.KnownInstances.{KnownInstance, AreInstances};
 ghost use Rattle.click_expand.specs.kept.Ways.{name_of_place, enclosing_in};
 
 use crate::instances::tree::{Instance, Place};
-use click_scopes::ScopeElement;
+use click_scopes::Scopes;
 use std::alloc::{AllocError, Global};
 
 /// The local name of the element at a place.
-fn local_name<'a>(
-    scope_elements: &'a [Vec<ScopeElement>],
-    instances: &[Instance],
-    place: Place,
-) -> &'a [u8]
-    ensures { result.now ≡ name_of_place scope_elements.now instances.now place }
+fn local_name<'a>(scopes: &'a Scopes, instances: &[Instance], place: Place) -> &'a [u8]
+    ensures { result.now ≡ name_of_place scopes.now.scopes.items instances.now place }
 {
     match instances.get(place.within) {
         None => &[],
-        Some(one) => match scope_elements.get(one.scope) {
-            None => &[],
-            Some(scope) => match scope.get(place.element) {
-                None => &[],
-                Some(scope_element) => scope_element.name.as_slice(),
-            },
-        },
+        Some(one) => scopes.name_at(one.scope, place.element),
     }
 }
 
@@ -50,8 +39,8 @@ fn enclosing(instances: &[Instance], at: usize) -> Option<Place>
 
 /// The places on the way from an instance outwards, the nearest first.
 fn outward(alloc: Global, instances: &[Instance], within: usize) -> Result<Vec<Place>, AllocError>
-    ensures { IfOk result (λ way. (c : Spelled) (scope_elements : List (Vec ScopeElementKept Allocator)) (places : List Placed) (known : List KnownInstance) (primitive_elements : List Flattened) (x : KnownInstance) →
-        AreAllScopeElements c scope_elements → AreInstances c instances.now places known primitive_elements → slice_get known within ≡ Some x → x.path ≡ reverse (map (name_of_place scope_elements instances.now) way.items)) }
+    ensures { IfOk result (λ way. (c : Spelled) (scopes : List ScopeKept) (places : List Placed) (known : List KnownInstance) (primitive_elements : List Flattened) (x : KnownInstance) →
+        AreAllScopes c scopes → AreInstances c instances.now places known primitive_elements → slice_get known within ≡ Some x → x.path ≡ reverse (map (name_of_place scopes instances.now) way.items)) }
 {
     let mut way = Vec::new(alloc);
     let mut at = within;
@@ -65,19 +54,19 @@ fn outward(alloc: Global, instances: &[Instance], within: usize) -> Result<Vec<P
 /// The flat name of the flat element at a place.
 pub fn name_of(
     alloc: Global,
-    scope_elements: &[Vec<ScopeElement>],
+    scopes: &Scopes,
     instances: &[Instance],
     place: Place,
 ) -> Result<Vec<u8>, AllocError>
     ensures { IfOk result (λ name. (c : Spelled) (places : List Placed) (known : List KnownInstance) (primitive_elements : List Flattened) (n : ℕ) (primitive_element : Flattened) →
-        AreAllScopeElements c scope_elements.now → AreInstances c instances.now places known primitive_elements → slice_get places n ≡ Some place → slice_get primitive_elements n ≡ Some primitive_element → name.items ≡ flat_name primitive_element.path) }
+        AreAllScopes c scopes.now.scopes.items → AreInstances c instances.now places known primitive_elements → slice_get places n ≡ Some place → slice_get primitive_elements n ≡ Some primitive_element → name.items ≡ flat_name primitive_element.path) }
 {
     let mut name = Vec::new(alloc);
     let mut way = outward(alloc, instances, place.within)?;
     while let Some(step) = way.pop() {
-        name.extend_from_slice(local_name(scope_elements, instances, step))?;
+        name.extend_from_slice(local_name(scopes, instances, step))?;
         name.push(b'/')?;
     }
-    name.extend_from_slice(local_name(scope_elements, instances, place))?;
+    name.extend_from_slice(local_name(scopes, instances, place))?;
     Ok(name)
 }

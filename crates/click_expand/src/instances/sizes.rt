@@ -1,7 +1,7 @@
 //! How much a configuration stands for, before it is expanded.
 
 ghost use Rattle.std.specs.Prelude.{◌≡◌, ◌+◌, ◌++◌, ◌∷◌, [], min, slice_get, IfOk, OnOk};
-ghost use Rattle.click_scopes.specs.kept.ScopeElements.{AreAllScopeElements};
+ghost use Rattle.click_scopes.specs.Analysis.{AreScopes};
 ghost use Rattle.click_scopes.specs.kept.Nesting.{IsNested};
 ghost use Rattle.click_scopes.specs.Faults.{IsFaultless};
 ghost use Rattle.click_expand.specs.kept.Sizes.{IsSizeOf};
@@ -9,7 +9,7 @@ ghost use Rattle.click_expand.specs.Flat.{most_elements, most_paths};
 ghost use Rattle.click_expand.specs.kept.Counted as spec;
 ghost use Rattle.click_expand.specs.kept.Counted.{size_or, IsSum};
 
-use click_scopes::{ResolvedClass, ScopeElement};
+use click_scopes::{ResolvedClass, ScopeElement, Scopes};
 use click_text::syntax::Config;
 use std::alloc::{AllocError, Global};
 
@@ -97,19 +97,16 @@ fn push_size(sizes: &mut Vec<Size>, size: Size) -> Result<(), AllocError>
 }
 
 /// The size of a configuration, counted once for each scope and not once for each instance.
-pub fn size_of(
-    alloc: Global,
-    config: &Config,
-    scope_elements: &[Vec<ScopeElement>],
-) -> Result<Size, AllocError>
+pub fn size_of(alloc: Global, config: &Config, scopes: &Scopes) -> Result<Size, AllocError>
     requires nested { IsNested config.now }
     requires sound { IsFaultless config.now }
-    requires scope_elements { AreAllScopeElements config.now scope_elements.now }
+    requires scopes { AreScopes config.now scopes.now }
     ensures { IfOk result (λ size. IsSizeOf config.now size) }
 {
     let mut sizes = Vec::new(alloc);
-    for elements in scope_elements {
-        let size = scope_size(sizes.as_slice(), elements.as_slice());
+    let all = scopes.scopes.as_slice();
+    for scope in all {
+        let size = scope_size(sizes.as_slice(), scope.elements.as_slice());
         push_size(&mut sizes, size)?;
     }
     Ok(size_at(sizes.as_slice(), config.bodies.len()))

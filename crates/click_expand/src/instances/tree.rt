@@ -1,18 +1,18 @@
 //! The instances of scopes: the whole text, and each compound that a path leads to.
 
 ghost use Rattle.std.specs.Prelude.{◌≡◌, ◌≤◌, ◌<◌, ◌++◌, ◌∷◌, [], ℕ, List, length, slice_get, slice_set, Some, IfOk, OnOk};
-ghost use Rattle.click_scopes.specs.kept.ScopeElements.{AreAllScopeElements};
 ghost use Rattle.click_scopes.specs.kept.Nesting.{IsNested};
-ghost use Rattle.click_scopes.specs.kept.Scoped.{AreScopes};
+ghost use Rattle.click_scopes.specs.Analysis.{AreScopes};
+ghost use Rattle.click_scopes.specs.kept.Lookups.{elements_by};
 ghost use Rattle.click_scopes.specs.Faults.{IsFaultless};
 ghost use Rattle.click_expand.specs.Instances.{PrimitiveElement as Flattened, PrimitiveElementsOf};
 ghost use Rattle.click_expand.specs.kept.KnownInstances.{KnownInstance, AreInstances};
 ghost use Rattle.click_expand.specs.declared.instances.tree.Instance.{Instance as InstanceKept};
 ghost use Rattle.click_expand.specs.kept.InstanceWalk as spec;
-ghost use Rattle.click_expand.specs.kept.InstanceWalk.{outer_by, instance_without_parts, with_part, AreInward, lexical_parent_by, IsLexicalParentIn, AddsFlatElement, IsEntered, IsLeft, IsWalkStep};
+ghost use Rattle.click_expand.specs.kept.InstanceWalk.{instance_without_parts, with_part, AreInward, lexical_parent_by, IsLexicalParentIn, AddsFlatElement, IsEntered, IsLeft, IsWalkStep};
 
 use click_base::sequence::Sequence;
-use click_scopes::{ResolvedClass, Scope, ScopeElement, Scopes};
+use click_scopes::{ResolvedClass, Scopes};
 use click_text::syntax::Config;
 use std::alloc::{AllocError, Global};
 
@@ -78,25 +78,12 @@ fn next_class(class: Option<ResolvedClass>) -> NextElement
 }
 
 /// What stands at that place among the elements of a scope.
-fn next_in(scope_elements: &[Vec<ScopeElement>], scope: usize, element: usize) -> NextElement
-    ensures { result ≡ spec.next_in (slice_get scope_elements.now scope) element }
+fn next_in(scopes: &Scopes, scope: usize, element: usize) -> NextElement
+    ensures { result ≡ spec.next_in (elements_by (slice_get scopes.now.scopes.items scope)) element }
 {
-    match scope_elements.get(scope) {
-        Some(elements) => match elements.as_slice().get(element) {
-            Some(scope_element) => next_class(scope_element.class),
-            None => NextElement::Nothing,
-        },
+    match scopes.elements_at(scope).get(element) {
+        Some(scope_element) => next_class(scope_element.class),
         None => NextElement::Nothing,
-    }
-}
-
-/// The place of the scope that a scope stands in.
-fn outer_of(scopes: &[Scope], scope: usize) -> usize
-    ensures { result ≡ outer_by (slice_get scopes.now scope) }
-{
-    match scopes.get(scope) {
-        Some(one) => one.outer,
-        None => 0,
     }
 }
 
@@ -194,16 +181,16 @@ fn add_primitive_element(walk: &mut Walk) -> Result<(), AllocError>
 }
 
 /// Adds the instance of a body, and goes there.
-fn enter(alloc: Global, scopes: &[Scope], body: usize, walk: &mut Walk) -> Result<(), AllocError>
+fn enter(alloc: Global, scopes: &Scopes, body: usize, walk: &mut Walk) -> Result<(), AllocError>
     requires there { walk.old.place < length walk.old.instances.items }
     requires inward { AreInward walk.old.instances.items }
-    ensures { OnOk result ((k : InstanceKept) × (slice_get walk.old.instances.items walk.old.place ≡ Some k) × IsEntered scopes.now body walk.old walk.new k) }
+    ensures { OnOk result ((k : InstanceKept) × (slice_get walk.old.instances.items walk.old.place ≡ Some k) × IsEntered scopes.now.scopes.items body walk.old walk.new k) }
 {
     let element = part_count(walk.instances.as_slice(), walk.place);
     let lexical_parent = lexical_parent_of(
         walk.instances.as_slice(),
         walk.place,
-        outer_of(scopes, body),
+        scopes.parent_of(body),
     );
     let inner = walk.instances.len();
     add_part(&mut walk.instances, walk.place, InstancePart::Inner(inner))?;
@@ -235,30 +222,21 @@ fn leave(walk: &mut Walk) -> bool
 }
 
 /// What the walk finds at its place.
-fn next_of(
-    instances: &[Instance],
-    scope_elements: &[Vec<ScopeElement>],
-    place: usize,
-) -> NextElement
+fn next_of(instances: &[Instance], scopes: &Scopes, place: usize) -> NextElement
     requires { place < length instances.now }
-    ensures { (k : InstanceKept) × (slice_get instances.now place ≡ Some k) × (result ≡ spec.next_in (slice_get scope_elements.now k.scope) (length k.parts)) }
+    ensures { (k : InstanceKept) × (slice_get instances.now place ≡ Some k) × (result ≡ spec.next_in (elements_by (slice_get scopes.now.scopes.items k.scope)) (length k.parts)) }
 {
     let one = &instances[place];
-    next_in(scope_elements, one.scope, one.parts.len())
+    next_in(scopes, one.scope, one.parts.len())
 }
 
 /// One step of the walk; says whether there are more.
-fn step(
-    alloc: Global,
-    scopes: &[Scope],
-    scope_elements: &[Vec<ScopeElement>],
-    walk: &mut Walk,
-) -> Result<bool, AllocError>
+fn step(alloc: Global, scopes: &Scopes, walk: &mut Walk) -> Result<bool, AllocError>
     requires there { walk.old.place < length walk.old.instances.items }
     requires inward { AreInward walk.old.instances.items }
-    ensures { IfOk result (λ more. IsWalkStep scopes.now scope_elements.now walk.old walk.new more) }
+    ensures { IfOk result (λ more. IsWalkStep scopes.now.scopes.items walk.old walk.new more) }
 {
-    match next_of(walk.instances.as_slice(), scope_elements, walk.place) {
+    match next_of(walk.instances.as_slice(), scopes, walk.place) {
         NextElement::Inner(body) => {
             enter(alloc, scopes, body, walk)?;
             Ok(true)
@@ -276,12 +254,10 @@ pub fn instances_of(
     alloc: Global,
     config: &Config,
     scopes: &Scopes,
-    scope_elements: &[Vec<ScopeElement>],
     paths: usize,
 ) -> Result<Instances, AllocError>
     requires nested { IsNested config.now }
-    requires scoped { AreScopes config.now scopes.now.entries.items scopes.now.scopes.items }
-    requires scope_elements { AreAllScopeElements config.now scope_elements.now }
+    requires scopes { AreScopes config.now scopes.now }
     requires sound { IsFaultless config.now }
     requires few { paths ≤ 16384 }
     requires counted { (primitive_elements : List Flattened) × PrimitiveElementsOf config.now primitive_elements paths }
@@ -296,10 +272,9 @@ pub fn instances_of(
         &mut walk.instances,
         new_instance(alloc, config.bodies.len(), None, None),
     )?;
-    let scopes = scopes.scopes.as_slice();
     let mut more = true;
     while more {
-        more = step(alloc, scopes, scope_elements, &mut walk)?;
+        more = step(alloc, scopes, &mut walk)?;
     }
     Ok(Instances {
         instances: walk.instances,

@@ -1,8 +1,7 @@
 //! The elements of a flat configuration.
 
 ghost use Rattle.std.specs.Prelude.{◌≡◌, ◌<◌, ◌≤◌, ◌++◌, ◌∷◌, [], List, map, IfOk, OnOk, MatchOption};
-ghost use Rattle.click_scopes.specs.kept.ScopeElements.{AreAllScopeElements};
-ghost use Rattle.click_scopes.specs.kept.CompoundArguments.{AreAllArguments};
+ghost use Rattle.click_scopes.specs.Analysis.{AreScopes};
 ghost use Rattle.click_scopes.specs.kept.Nesting.{IsNested};
 ghost use Rattle.click_expand.specs.Instances.{PrimitiveElement as Flattened};
 ghost use Rattle.click_expand.specs.kept.KnownInstances.{KnownInstance, AreInstances};
@@ -12,9 +11,8 @@ use crate::flat::FlatElement;
 use crate::instances::tree::Instances;
 use crate::texts::flat_elements::element_at;
 use crate::texts::text_buffer::TextBuffer;
-use click_base::sequence::Sequence;
-use click_scopes::ScopeElement;
-use click_text::syntax::{Config, Span};
+use click_scopes::Scopes;
+use click_text::syntax::Config;
 use std::alloc::{AllocError, Global};
 
 /// Adds an element at the end.
@@ -29,13 +27,11 @@ fn push_flat(elements: &mut Vec<FlatElement>, element: FlatElement) -> Result<()
 pub fn elements_of(
     alloc: Global,
     config: &Config,
-    scope_elements: &[Vec<ScopeElement>],
-    arguments: &[Sequence<Sequence<Span>>],
+    scopes: &Scopes,
     instances: &Instances,
 ) -> Result<Option<Vec<FlatElement>>, AllocError>
     requires nested { IsNested config.now }
-    requires scope_elements { AreAllScopeElements config.now scope_elements.now }
-    requires arguments { AreAllArguments config.now arguments.now }
+    requires scopes { AreScopes config.now scopes.now }
     requires used { (primitive_elements : List Flattened) × (known : List KnownInstance) × AreInstances config.now instances.now.instances.items instances.now.primitive_elements.items known primitive_elements }
     ensures { IfOk result (λ r. (primitive_elements : List Flattened) (known : List KnownInstance) → AreInstances config.now instances.now.instances.items instances.now.primitive_elements.items known primitive_elements →
         MatchOption r (most_text < text_size primitive_elements) (λ elements. (elements.items ≡ map flat_element primitive_elements) × (text_size primitive_elements ≤ most_text))) }
@@ -46,8 +42,7 @@ pub fn elements_of(
         let Some(element) = element_at(
             alloc,
             config,
-            scope_elements,
-            arguments,
+            scopes,
             instances.instances.as_slice(),
             &mut buffer,
             *place,

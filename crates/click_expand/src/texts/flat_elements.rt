@@ -1,50 +1,34 @@
 //! A flat element by its place.
 
 ghost use Rattle.std.specs.Prelude.{◌≡◌, ◌<◌, ◌+◌, ℕ, List, length, slice_get, Some, IfOk, MatchOption};
-ghost use Rattle.click_scopes.specs.kept.ScopeElements.{AreAllScopeElements};
-ghost use Rattle.click_scopes.specs.kept.CompoundArguments.{AreAllArguments};
+ghost use Rattle.click_scopes.specs.Analysis.{AreScopes};
 ghost use Rattle.click_expand.specs.kept.Buffered.{AreKept};
 ghost use Rattle.click_expand.specs.Instances.{PrimitiveElement as Flattened};
 ghost use Rattle.click_expand.specs.kept.KnownInstances.{KnownInstance, AreInstances};
 ghost use Rattle.click_expand.specs.Flat.{flat_element};
-ghost use Rattle.click_expand.specs.kept.Classed.{class_found};
 ghost use Rattle.click_expand.specs.declared.instances.tree.Place.{Place as Placed};
 
 use crate::flat::FlatElement;
 use crate::instances::flat_names::name_of;
 use crate::instances::tree::{Instance, Place};
-use crate::texts::parameter_values::{UnreadText, string_at};
+use crate::texts::parameter_values::UnreadText;
 use crate::texts::text_buffer::TextBuffer;
 use crate::texts::writing::write_text;
-use click_base::Class;
 use click_base::sequence::Sequence;
-use click_scopes::{ResolvedClass, ScopeElement};
-use click_text::syntax::{Config, Span};
+use click_scopes::Scopes;
+use click_text::syntax::Config;
 use std::alloc::{AllocError, Global};
-
-/// The class of an element that is one of the router's: none for another.
-fn class_at(scope_elements: &[Vec<ScopeElement>], scope: usize, element: usize) -> Option<Class>
-    ensures { result ≡ class_found (slice_get scope_elements.now scope) element }
-{
-    let scope_element = scope_elements.get(scope)?.as_slice().get(element)?;
-    match scope_element.class {
-        Some(ResolvedClass::Primitive(class)) => Some(class),
-        _ => None,
-    }
-}
 
 /// The flat element at a place, or none where its text has more bytes than there is room for.
 pub fn element_at(
     alloc: Global,
     config: &Config,
-    scope_elements: &[Vec<ScopeElement>],
-    arguments: &[Sequence<Sequence<Span>>],
+    scopes: &Scopes,
     instances: &[Instance],
     buffer: &mut TextBuffer,
     place: Place,
 ) -> Result<Option<FlatElement>, AllocError>
-    requires scope_elements { AreAllScopeElements config.now scope_elements.now }
-    requires arguments { AreAllArguments config.now arguments.now }
+    requires scopes { AreScopes config.now scopes.now }
     requires within { place.within < length instances.now }
     requires found { (places : List Placed) × (known : List KnownInstance) × (primitive_elements : List Flattened) × (n : ℕ) × AreInstances config.now instances.now places known primitive_elements × (slice_get places n ≡ Some place) }
     requires kept { AreKept config.now instances.now buffer.old }
@@ -55,24 +39,16 @@ pub fn element_at(
 {
     let text = config.text.as_slice();
     let one = &instances[place.within];
-    let Some(class) = class_at(scope_elements, one.scope, place.element) else {
+    let Some(class) = scopes.class_at(one.scope, place.element) else {
         unreachable!()
     };
-    let name = name_of(alloc, scope_elements, instances, place)?;
+    let name = name_of(alloc, scopes, instances, place)?;
     let first = UnreadText {
         within: place.within,
-        rest: string_at(text, scope_elements, one.scope, place.element),
+        rest: scopes.string_at(text, one.scope, place.element),
     };
     let start = buffer.text.len();
-    if !write_text(
-        alloc,
-        config,
-        scope_elements,
-        arguments,
-        instances,
-        buffer,
-        first,
-    )? {
+    if !write_text(alloc, config, scopes, instances, buffer, first)? {
         return Ok(None);
     }
     let replaced = Vec::from_slice(alloc, buffer.behind(start))?;

@@ -2,18 +2,16 @@
 
 ghost use Rattle.std.specs.Prelude.{◌≡◌, ◌<◌, ◌≤◌, List, length, slice_get, ◌∷◌, Some, IfSome};
 ghost use Rattle.click_scopes.specs.Scopes.{body_formals};
-ghost use Rattle.click_scopes.specs.kept.CompoundArguments.{AreAllArguments};
-ghost use Rattle.click_scopes.specs.kept.ScopeElements.{AreAllScopeElements};
+ghost use Rattle.click_scopes.specs.Analysis.{AreScopes};
 ghost use Rattle.click_expand.specs.Parameters.{scope_value, value_in};
 ghost use Rattle.click_expand.specs.Instances.{PrimitiveElement as Flattened};
 ghost use Rattle.click_expand.specs.kept.KnownInstances.{KnownInstance, AreInstances};
-ghost use Rattle.click_expand.specs.kept.ParameterValues.{spans_found, string_found, IsValue};
+ghost use Rattle.click_expand.specs.kept.ParameterValues.{IsValue};
 ghost use Rattle.click_expand.specs.declared.instances.tree.Place.{Place as Placed};
 
 use crate::instances::tree::Instance;
 use crate::texts::parameters::formal_place;
-use click_base::sequence::Sequence;
-use click_scopes::{ScopeElement, string_inside};
+use click_scopes::Scopes;
 use click_text::syntax::{Body, Config, Span};
 
 /// A text that is to be read in an instance: the parameters in it have the values that they have there.
@@ -47,48 +45,15 @@ fn formals_at(bodies: &[Body], scope: usize) -> &[Span]
     }
 }
 
-/// Where the arguments of an element stand in its string.
-pub fn spans_at(arguments: &[Sequence<Sequence<Span>>], scope: usize, element: usize) -> &[Span]
-    ensures { result.now ≡ spans_found (slice_get arguments.now scope) element }
-{
-    let Some(one) = arguments.get(scope) else {
-        return &[];
-    };
-    match one.as_slice().get(element) {
-        Some(spans) => spans.as_slice(),
-        None => &[],
-    }
-}
-
-/// What stands in the configuration string of an element.
-pub fn string_at<'a>(
-    text: &'a [u8],
-    scope_elements: &[Vec<ScopeElement>],
-    scope: usize,
-    element: usize,
-) -> &'a [u8]
-    ensures { result.now ≡ string_found text.now (slice_get scope_elements.now scope) element }
-{
-    let Some(one) = scope_elements.get(scope) else {
-        return &[];
-    };
-    match one.as_slice().get(element) {
-        Some(scope_element) => string_inside(text, scope_element.text),
-        None => &[],
-    }
-}
-
 /// What stands for a parameter of the scope that an instance is of.
 fn own_value<'a>(
     config: &'a Config,
-    scope_elements: &[Vec<ScopeElement>],
-    arguments: &[Sequence<Sequence<Span>>],
+    scopes: &Scopes,
     instances: &[Instance],
     at: usize,
     name: &[u8],
 ) -> Option<ParameterValue<'a>>
-    requires scope_elements { AreAllScopeElements config.now scope_elements.now }
-    requires arguments { AreAllArguments config.now arguments.now }
+    requires scopes { AreScopes config.now scopes.now }
     ensures value { (places : List Placed) (known : List KnownInstance) (primitive_elements : List Flattened) (x : KnownInstance) → AreInstances config.now instances.now places known primitive_elements → slice_get known at ≡ Some x →
         IsValue config.now known result (scope_value config.now x.bindings x.scope name.now) }
     ensures before { IfSome result (λ v. v.reading.within < at) }
@@ -108,8 +73,8 @@ fn own_value<'a>(
     let scope = instances[outer.within].scope;
     let formals = formals_at(config.bodies.as_slice(), one.scope);
     let place = formal_place(text, formals, name)?;
-    let span = spans_at(arguments, scope, outer.element).get(place)?;
-    let string = string_at(text, scope_elements, scope, outer.element);
+    let span = scopes.arguments_at(scope, outer.element).get(place)?;
+    let string = scopes.string_at(text, scope, outer.element);
     Some(ParameterValue {
         argument: Argument { within: at, place },
         reading: UnreadText {
@@ -122,14 +87,12 @@ fn own_value<'a>(
 /// What stands for a parameter in an instance: the argument of the nearest body around that has the parameter.
 pub fn value_at<'a>(
     config: &'a Config,
-    scope_elements: &[Vec<ScopeElement>],
-    arguments: &[Sequence<Sequence<Span>>],
+    scopes: &Scopes,
     instances: &[Instance],
     from: usize,
     name: &[u8],
 ) -> Option<ParameterValue<'a>>
-    requires scope_elements { AreAllScopeElements config.now scope_elements.now }
-    requires arguments { AreAllArguments config.now arguments.now }
+    requires scopes { AreScopes config.now scopes.now }
     ensures value { (places : List Placed) (known : List KnownInstance) (primitive_elements : List Flattened) (x : KnownInstance) → AreInstances config.now instances.now places known primitive_elements → slice_get known from ≡ Some x →
         IsValue config.now known result (value_in config.now x.bindings (x.scope ∷ x.enclosing) name.now) }
     ensures before { IfSome result (λ v. v.reading.within < from) }
@@ -137,7 +100,7 @@ pub fn value_at<'a>(
 {
     let mut at = from;
     'lexical_parents: loop {
-        if let Some(found) = own_value(config, scope_elements, arguments, instances, at, name) {
+        if let Some(found) = own_value(config, scopes, instances, at, name) {
             return Some(found);
         }
         if at >= instances.len() {

@@ -1,8 +1,7 @@
 //! Texts with their parameters replaced.
 
 ghost use Rattle.std.specs.Prelude.{◌≡◌, ℕ, ◌<◌, ◌≤◌, ◌+◌, ◌++◌, ◌∷◌, [], List, length, true, false, IfOk, OnOk};
-ghost use Rattle.click_scopes.specs.kept.CompoundArguments.{AreAllArguments};
-ghost use Rattle.click_scopes.specs.kept.ScopeElements.{AreAllScopeElements};
+ghost use Rattle.click_scopes.specs.Analysis.{AreScopes};
 ghost use Rattle.click_expand.specs.Instances.{PrimitiveElement as Flattened};
 ghost use Rattle.click_expand.specs.kept.KnownInstances.{KnownInstance, AreInstances};
 ghost use Rattle.click_expand.specs.kept.ParameterValues.{IsRead};
@@ -16,10 +15,9 @@ use crate::instances::tree::Instance;
 use crate::texts::parameter_values::{Argument, ParameterValue, UnreadText, value_at};
 use crate::texts::parameters::parameter_at;
 use crate::texts::text_buffer::TextBuffer;
-use click_base::sequence::Sequence;
-use click_scopes::ScopeElement;
+use click_scopes::Scopes;
 use click_text::first_item;
-use click_text::syntax::{Config, Span};
+use click_text::syntax::Config;
 use std::alloc::{AllocError, Global};
 
 /// What a text begins with: so many bytes that stay, or a parameter of so many bytes and what stands for it.
@@ -41,13 +39,11 @@ pub enum TextStep<'a> {
 /// What a text that is not empty begins with.
 fn part_of<'a>(
     config: &'a Config,
-    scope_elements: &[Vec<ScopeElement>],
-    arguments: &[Sequence<Sequence<Span>>],
+    scopes: &Scopes,
     instances: &[Instance],
     reading: UnreadText<'a>,
 ) -> TextPart<'a>
-    requires scope_elements { AreAllScopeElements config.now scope_elements.now }
-    requires arguments { AreAllArguments config.now arguments.now }
+    requires scopes { AreScopes config.now scopes.now }
     requires some { 0 < length reading.rest.now }
     ensures parts { (places : List Placed) (known : List KnownInstance) (primitive_elements : List Flattened) (whole : List ℕ) → AreInstances config.now instances.now places known primitive_elements → IsRead config.now known reading.entry whole →
         Parts config.now known reading.entry.within reading.entry.rest.now whole result }
@@ -55,14 +51,7 @@ fn part_of<'a>(
 {
     if let Some(parameter) = parameter_at(reading.rest) {
         let name = parameter.name.of(reading.rest);
-        if let Some(value) = value_at(
-            config,
-            scope_elements,
-            arguments,
-            instances,
-            reading.within,
-            name,
-        ) {
+        if let Some(value) = value_at(config, scopes, instances, reading.within, name) {
             return TextPart::Value(parameter.size, value);
         }
     }
@@ -97,15 +86,13 @@ fn push_rest<'a>(
 /// Writes what a text begins with, or adds the steps to write it: whether there is room for it. A value that was written before is not read again.
 fn read_on<'a>(
     config: &'a Config,
-    scope_elements: &[Vec<ScopeElement>],
-    arguments: &[Sequence<Sequence<Span>>],
+    scopes: &Scopes,
     instances: &[Instance],
     buffer: &mut TextBuffer,
     steps: &mut Vec<TextStep<'a>>,
     reading: UnreadText<'a>,
 ) -> Result<bool, AllocError>
-    requires scope_elements { AreAllScopeElements config.now scope_elements.now }
-    requires arguments { AreAllArguments config.now arguments.now }
+    requires scopes { AreScopes config.now scopes.now }
     requires kept { AreKept config.now instances.now buffer.old }
     ensures kept { IfOk result (λ _. AreKept config.now instances.now buffer.new) }
     ensures room { IfOk result (λ _. buffer.new.room + length buffer.new.text.items ≡ buffer.old.room + length buffer.old.text.items) }
@@ -119,7 +106,7 @@ fn read_on<'a>(
     if reading.rest.is_empty() {
         return Ok(true);
     }
-    match part_of(config, scope_elements, arguments, instances, reading) {
+    match part_of(config, scopes, instances, reading) {
         TextPart::Bytes(len) => {
             push_rest(steps, reading, len)?;
             buffer.add(&reading.rest[..len])
@@ -140,14 +127,12 @@ fn read_on<'a>(
 pub fn write_text<'a>(
     alloc: Global,
     config: &'a Config,
-    scope_elements: &[Vec<ScopeElement>],
-    arguments: &[Sequence<Sequence<Span>>],
+    scopes: &Scopes,
     instances: &[Instance],
     buffer: &mut TextBuffer,
     first: UnreadText<'a>,
 ) -> Result<bool, AllocError>
-    requires scope_elements { AreAllScopeElements config.now scope_elements.now }
-    requires arguments { AreAllArguments config.now arguments.now }
+    requires scopes { AreScopes config.now scopes.now }
     requires within { first.within < length instances.now }
     requires kept { AreKept config.now instances.now buffer.old }
     ensures kept { IfOk result (λ _. AreKept config.now instances.now buffer.new) }
@@ -163,15 +148,7 @@ pub fn write_text<'a>(
         match step {
             TextStep::Keep(argument, start) => buffer.keep(argument, start)?,
             TextStep::Read(reading) => {
-                if !read_on(
-                    config,
-                    scope_elements,
-                    arguments,
-                    instances,
-                    buffer,
-                    &mut steps,
-                    reading,
-                )? {
+                if !read_on(config, scopes, instances, buffer, &mut steps, reading)? {
                     return Ok(false);
                 }
             }

@@ -1,7 +1,7 @@
 -- A scope's elements mean bodies that stand before its own place, in it or in a scope around it.
 use Rattle.std.proofs.Common.{◌≡◌, inl, inr, ℕ, ◌+◌, ◌<◌, ◌≤◌, List, [], ◌∷◌, ◌++◌, map, reverse, Bool, true, false, Option, Some, None, option_map, refl, sym, ap, ◌∙◌, subst, append_assoc, arith, Contains}
 use Rattle.std.specs.Prelude.{if◌then◌else◌}
-use Rattle.std.specs.List.{slice_get, list_any}
+use Rattle.std.specs.List.{slice_get}
 use Rattle.std.specs.Str.{bytes_eq}
 use Rattle.std.proofs.lemmas.List.Elements.{Contains-append_left, Contains-append_right, Contains-append_cases}
 use Rattle.click_text.specs.declared.syntax.Span.{Span}

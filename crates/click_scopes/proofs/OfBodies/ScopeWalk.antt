@@ -16,10 +16,10 @@ use Rattle.click_scopes.specs.Elements.{placed}
 use Rattle.click_scopes.specs.kept.Tables.{meaning_by, Shows, AreWritten, IsMore}
 use Rattle.click_scopes.specs.kept.Nesting.{direct, Nests, no_bodies, next_body, IsNested}
 use Rattle.click_scopes.specs.kept.Standing.{Each, IsNestedBody, AreNestedBodies, written_ports, HasSynonym, AddsSynonyms}
-use Rattle.click_scopes.specs.kept.Scoped.{table_place, outer_of, ports_in, IsScope, AreScopes, IsSynonym, AreSynonyms}
+use Rattle.click_scopes.specs.kept.Scoped.{table_place, outer_of, ports_in, IsWrittenScope, AreWrittenScopes, IsSynonym, AreSynonyms}
 use Rattle.click_scopes.specs.declared.classes.ClassEntry.{ClassEntry}
-use Rattle.click_scopes.specs.declared.scopes.NestedBody.{NestedBody}
-use Rattle.click_scopes.specs.declared.scopes.Scope.{Scope as ScopeKept}
+use Rattle.click_scopes.specs.declared.written_scopes.NestedBody.{NestedBody}
+use Rattle.click_scopes.specs.declared.written_scopes.WrittenScope.{WrittenScope}
 use Rattle.click_scopes.proofs.OfLists.StatementTables.{shows-grown, written-grown, each-append, slice_get-more, slice_get-last}
 use Rattle.click_scopes.proofs.OfNames.Synonyms.{synonym-grown}
 use Rattle.click_scopes.proofs.OfBodies.NestedBodies.{nests-append}
@@ -64,24 +64,24 @@ module _ (c : Config) where
   AreSound es = (i : ℕ) (e : ClassEntry) (w : Span) → slice_get es i ≡ Some e → e.original ≡ Some w → IsSynonym c w (meaning_by e.class)
 
   -- A body that is done.
-  pub record IsDone (es : List ClassEntry) (ks : List ScopeKept) (p : ℕ) : Type 0 where
+  pub record IsDone (es : List ClassEntry) (ks : List WrittenScope) (p : ℕ) : Type 0 where
     pub visible : List Statement
     pub enclosing : List Scope
-    pub scope : ScopeKept
+    pub scope : WrittenScope
     pub stands : Stands c (inside p) visible enclosing
     pub there : slice_get ks (length c.bodies - p) ≡ Some scope
-    pub is : IsScope c es (inside p) visible enclosing scope
+    pub is : IsWrittenScope c es (inside p) visible enclosing scope
     pub synonyms : HasAll es (inside p) visible
 
   -- The whole text and all bodies from a place on are done; those that are left stand before it.
-  pub record Walked (es : List ClassEntry) (rs : List NestedBody) (ks : List ScopeKept) : Type 0 where
+  pub record Walked (es : List ClassEntry) (rs : List NestedBody) (ks : List WrittenScope) : Type 0 where
     pub left : ℕ
     pub count : left + length ks ≡ length c.bodies + 1
     pub nests : Nests c.bodies 0 (places rs) left
     pub pending : Each (IsPending es) rs
-    pub first : ScopeKept
+    pub first : WrittenScope
     pub first_there : slice_get ks 0 ≡ Some first
-    pub first_is : IsScope c es whole [] [] first
+    pub first_is : IsWrittenScope c es whole [] [] first
     pub first_synonyms : HasAll es whole []
     pub sound : AreSound es
     pub done : (p : ℕ) → left ≤ p → p < length c.bodies → IsDone es ks p
@@ -93,7 +93,7 @@ module _ (c : Config) where
     pending-grown es new rs m h.1,
   )
 
-  scope-grown : (es new : List ClassEntry) (s : Scope) (v : List Statement) (a : List Scope) (k : ScopeKept) → IsMore es new → IsScope c es s v a k → IsScope c new s v a k
+  scope-grown : (es new : List ClassEntry) (s : Scope) (v : List Statement) (a : List Scope) (k : WrittenScope) → IsMore es new → IsWrittenScope c es s v a k → IsWrittenScope c new s v a k
   scope-grown es new s v a k m h = record { written = written-grown c.text es new k.written.items (placed v (statements_of c s)) m h.written; ports = h.ports; outer = h.outer }
 
   all-grown : (es new : List ClassEntry) (s : Scope) (v : List Statement) → IsMore es new → HasAll es s v → HasAll new s v
@@ -132,7 +132,7 @@ module _ (c : Config) where
     nested_bodies-pending es s v a rs k h.1,
   )
 
-  pub walked-first : (es : List ClassEntry) (rs : List NestedBody) (k : ScopeKept) → IsNested c → AreWritten c.text es k.written.items (placed [] c.statements) → written_ports k.written.items ≡ ports_in c.statements → k.outer ≡ length c.bodies →
+  pub walked-first : (es : List ClassEntry) (rs : List NestedBody) (k : WrittenScope) → IsNested c → AreWritten c.text es k.written.items (placed [] c.statements) → written_ports k.written.items ≡ ports_in c.statements → k.outer ≡ length c.bodies →
       AreNestedBodies c.text es (length c.bodies) [] c.statements [] rs → AddsSynonyms c.text [] c.statements [] es → Walked es rs (k ∷ [])
   walked-first es rs k n w ports o r y = record {
     left = length c.bodies;
@@ -152,14 +152,14 @@ module _ (c : Config) where
   each-front P (x ∷ xs) y h = let r = each-front P xs y h.1 in ((h.0, r.0), r.1)
 
   -- what is known of the body that is taken
-  pub record IsTaken (es : List ClassEntry) (rs : List NestedBody) (r : NestedBody) (ks : List ScopeKept) : Type 0 where
+  pub record IsTaken (es : List ClassEntry) (rs : List NestedBody) (r : NestedBody) (ks : List WrittenScope) : Type 0 where
     pub pending : IsPending es r
     pub last : LastBody c.bodies 0 (places rs) r.body (r.body + 1)
     pub count : r.body + 1 + length ks ≡ length c.bodies + 1
     pub rest : Each (IsPending es) rs
     pub done : (p : ℕ) → r.body + 1 ≤ p → p < length c.bodies → IsDone es ks p
 
-  pub taken : (es : List ClassEntry) (all rs : List NestedBody) (r : NestedBody) (ks : List ScopeKept) → all ≡ rs ++ r ∷ [] → Walked es all ks → IsTaken es rs r ks
+  pub taken : (es : List ClassEntry) (all rs : List NestedBody) (r : NestedBody) (ks : List WrittenScope) → all ≡ rs ++ r ∷ [] → Walked es all ks → IsTaken es rs r ks
   taken es all rs r ks e w =
       let n : Nests c.bodies 0 (places rs ++ r.body ∷ []) w.left =
       subst (λ x. Nests c.bodies 0 x w.left) (ap places e ∙ map-append (λ (x : NestedBody). x.body) rs (r ∷ [])) w.nests in
@@ -173,7 +173,7 @@ module _ (c : Config) where
         done = λ p q m. w.done p (omega (arith, l.next, q)) m;
       }
 
-  done-grown : (es new : List ClassEntry) (ks ls : List ScopeKept) (k : ScopeKept) (p : ℕ) → ls ≡ ks ++ k ∷ [] → IsMore es new → IsDone es ks p → IsDone new ls p
+  done-grown : (es new : List ClassEntry) (ks ls : List WrittenScope) (k : WrittenScope) (p : ℕ) → ls ≡ ks ++ k ∷ [] → IsMore es new → IsDone es ks p → IsDone new ls p
   done-grown es new ks ls k p e m d = record {
     visible = d.visible;
     enclosing = d.enclosing;
@@ -184,7 +184,7 @@ module _ (c : Config) where
     synonyms = all-grown es new (inside p) d.visible m d.synonyms;
   }
 
-  done-next : (es new : List ClassEntry) (ks ls : List ScopeKept) (k : ScopeKept) (b x : ℕ) → ls ≡ ks ++ k ∷ [] → IsMore es new → IsDone new ls b →
+  done-next : (es new : List ClassEntry) (ks ls : List WrittenScope) (k : WrittenScope) (b x : ℕ) → ls ≡ ks ++ k ∷ [] → IsMore es new → IsDone new ls b →
       ((p : ℕ) → b + 1 ≤ p → p < length c.bodies → IsDone es ks p) → b ≤ x → x < length c.bodies → IsDone new ls x
   done-next es new ks ls k b x e m h f l n =
       elim (cases_order x b) [
@@ -196,7 +196,7 @@ module _ (c : Config) where
   at_end : (b m n : ℕ) → b + 1 + m ≡ n + 1 → n - b ≡ m
   at_end b m n h = omega (arith, h)
 
-  pub walked-next : (es new : List ClassEntry) (all rs more : List NestedBody) (r : NestedBody) (ks ls : List ScopeKept) (k : ScopeKept) → all ≡ rs ++ r ∷ [] → Walked es all ks → IsMore es new →
+  pub walked-next : (es new : List ClassEntry) (all rs more : List NestedBody) (r : NestedBody) (ks ls : List WrittenScope) (k : WrittenScope) → all ≡ rs ++ r ∷ [] → Walked es all ks → IsMore es new →
       ((v : List Statement) → Shows c.text es r.top v → AreWritten c.text new k.written.items (placed v (statements_of c (inside r.body)))) →
       written_ports k.written.items ≡ ports_in (statements_of c (inside r.body)) → k.outer ≡ r.outer →
       ((v : List Statement) → Shows c.text es r.top v → AreNestedBodies c.text new r.body v (statements_of c (inside r.body)) rs more) →
@@ -256,7 +256,7 @@ module _ (c : Config) where
       ∙ ap Some (get_or-reverse xs i d l ∙ ap (λ n. get_or xs n d) k)
       ∙ sym (slice_get-get_or xs j d (omega (arith, e)))
 
-  pub walked-all : (es : List ClassEntry) (rs : List NestedBody) (ks : List ScopeKept) → IsNested c → rs ≡ [] → Walked es rs ks → AreScopes c es (reverse ks)
+  pub walked-all : (es : List ClassEntry) (rs : List NestedBody) (ks : List WrittenScope) → IsNested c → rs ≡ [] → Walked es rs ks → AreWrittenScopes c es (reverse ks)
   walked-all es rs ks n e w s v a st = by_scope s st
     where
       none : 0 ≡ w.left
@@ -265,25 +265,25 @@ module _ (c : Config) where
       count : length ks ≡ length c.bodies + 1
       count = let x = w.count in let y = none in omega arith
 
-      by_whole : (v : List Statement) (a : List Scope) → Stands c whole v a → (k : ScopeKept) × (slice_get (reverse ks) (length c.bodies) ≡ Some k) × IsScope c es whole v a k
+      by_whole : (v : List Statement) (a : List Scope) → Stands c whole v a → (k : WrittenScope) × (slice_get (reverse ks) (length c.bodies) ≡ Some k) × IsWrittenScope c es whole v a k
       by_whole v a at_top =
           (w.first, slice_get-reverse ks (length c.bodies) 0 w.first (let x = count in omega arith) (let x = count in omega arith) ∙ w.first_there, w.first_is)
 
-      by_body : (p : ℕ) → Stands c (inside p) v a → (k : ScopeKept) × (slice_get (reverse ks) p ≡ Some k) × IsScope c es (inside p) v a k
+      by_body : (p : ℕ) → Stands c (inside p) v a → (k : WrittenScope) × (slice_get (reverse ks) p ≡ Some k) × IsWrittenScope c es (inside p) v a k
       by_body p h =
           let l = inside-within n (inside p) v a h p refl in
           let d = w.done p (let x = none in omega arith) l in
           let o = stands-once c n (inside p) v d.visible a d.enclosing h d.stands in (
             d.scope,
             slice_get-reverse ks p (length c.bodies - p) w.first (let x = count in omega (arith, l)) (let x = count in omega (arith, l)) ∙ d.there,
-            subst (λ x. IsScope c es (inside p) x a d.scope) (sym o.0) (subst (λ x. IsScope c es (inside p) d.visible x d.scope) (sym o.1) d.is),
+            subst (λ x. IsWrittenScope c es (inside p) x a d.scope) (sym o.0) (subst (λ x. IsWrittenScope c es (inside p) d.visible x d.scope) (sym o.1) d.is),
           )
 
-      by_scope : (s : Scope) → Stands c s v a → (k : ScopeKept) × (slice_get (reverse ks) (table_place c s) ≡ Some k) × IsScope c es s v a k
+      by_scope : (s : Scope) → Stands c s v a → (k : WrittenScope) × (slice_get (reverse ks) (table_place c s) ≡ Some k) × IsWrittenScope c es s v a k
       by_scope whole h = by_whole v a h
       by_scope (inside p) h = by_body p h
 
-  pub walked-synonyms : (es : List ClassEntry) (rs : List NestedBody) (ks : List ScopeKept) → IsNested c → rs ≡ [] → Walked es rs ks → AreSynonyms c es
+  pub walked-synonyms : (es : List ClassEntry) (rs : List NestedBody) (ks : List WrittenScope) → IsNested c → rs ≡ [] → Walked es rs ks → AreSynonyms c es
   walked-synonyms es rs ks n e w = record {
     sound = w.sound;
     complete = λ s v a before after m x st q. let h = by_scope s v a st before after m x q in (h.place, h.entry, h.there, h.is, h.class);
@@ -306,7 +306,7 @@ module _ (c : Config) where
       by_scope (inside p) v a h = by_body p v a h
 
   -- the same for what the code reads
-  pub walk-first : (text : List ℕ) (ss : List Statement) (n : ℕ) (es : List ClassEntry) (rs0 rs : List NestedBody) (ks0 ks : List ScopeKept) (k : ScopeKept) →
+  pub walk-first : (text : List ℕ) (ss : List Statement) (n : ℕ) (es : List ClassEntry) (rs0 rs : List NestedBody) (ks0 ks : List WrittenScope) (k : WrittenScope) →
       ks ≡ ks0 ++ k ∷ [] → ks0 ≡ [] → rs0 ≡ [] → text ≡ c.text → ss ≡ c.statements → n ≡ length c.bodies → IsNested c →
       AreWritten text es k.written.items (placed [] ss) → written_ports k.written.items ≡ ports_in ss → k.outer ≡ n → AreNestedBodies text es n [] ss rs0 rs →
       (es0 : List ClassEntry) → es0 ≡ [] → AddsSynonyms text [] ss es0 es → Walked es rs ks
@@ -324,7 +324,7 @@ module _ (c : Config) where
       (subst (λ x. AddsSynonyms text [] x [] es) se
       (subst (λ x. AddsSynonyms text [] ss x es) y0 y))))
 
-  pub walk-next : (text : List ℕ) (ss : List Statement) (es new : List ClassEntry) (all rs more : List NestedBody) (r : NestedBody) (ks ls : List ScopeKept) (k : ScopeKept) →
+  pub walk-next : (text : List ℕ) (ss : List Statement) (es new : List ClassEntry) (all rs more : List NestedBody) (r : NestedBody) (ks ls : List WrittenScope) (k : WrittenScope) →
       ls ≡ ks ++ k ∷ [] → all ≡ rs ++ r ∷ [] → text ≡ c.text → ss ≡ statements_of c (inside r.body) → Walked es all ks → IsMore es new →
       ((v : List Statement) → Shows text es r.top v → AreWritten text new k.written.items (placed v ss)) → written_ports k.written.items ≡ ports_in ss → k.outer ≡ r.outer →
       ((v : List Statement) → Shows text es r.top v → AreNestedBodies text new r.body v ss rs more) →

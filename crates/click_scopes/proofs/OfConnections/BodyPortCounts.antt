@@ -15,13 +15,16 @@ use Rattle.click_scopes.specs.Scopes.{Scope, whole, inside, is_body, body_statem
 use Rattle.click_scopes.specs.Elements.{Placed, place, placed, declared_names, Role, pseudo, refers, makes, input_name, output_name, ScopeElement}
 use Rattle.click_scopes.specs.Faults.{ScopeNames, End, written_end, WrittenConnection, number_behind, number_after_all, written_connections_behind, written_connections_from, statement_connections, scope_connections, input_ports, output_ports, inputs_of, outputs_of}
 use Rattle.click_scopes.specs.kept.Nesting.{direct, Nests, no_bodies, next_body, IsNested}
-use Rattle.click_scopes.specs.kept.WrittenConnections.{IsOwner, AreWrittenConnections, AreAllWrittenConnections}
+use Rattle.click_scopes.specs.kept.WrittenConnections.{IsOwner, AreWrittenConnections}
+use Rattle.click_scopes.specs.kept.AllScopes.{AreAllScopes}
+use Rattle.click_scopes.specs.kept.Lookups.{connections_by}
 use Rattle.click_scopes.specs.kept.ConnectionEnds.{placed_elements}
 use Rattle.click_scopes.specs.kept.Tables.{names_declared}
-use Rattle.click_scopes.specs.kept.CompoundFaults.{from_input, to_output, inputs_kept, outputs_kept, HasGap, IsPorts, ports_or, list_or_empty, ArePorts}
+use Rattle.click_scopes.specs.kept.CompoundFaults.{from_input, to_output, inputs_kept, outputs_kept, HasGap, IsPorts, ports_or, ArePorts}
 use Rattle.click_scopes.specs.declared.written_connections.Owner.{Owner}
 use Rattle.click_scopes.specs.declared.written_connections.Owner.TheVariants as owner
 use Rattle.click_scopes.specs.declared.written_connections.WrittenConnection.{WrittenConnection as ConnectionKept}
+use Rattle.click_scopes.specs.declared.scopes.Scope.{Scope as ScopeKept}
 use Rattle.click_scopes.specs.declared.ports.Ports.{Ports}
 use Rattle.click_scopes.proofs.OfLists.StatementTables.{slice_get-more, slice_get-last}
 use Rattle.click_scopes.proofs.OfLists.ListParts.{contains-here, contains-behind}
@@ -213,15 +216,15 @@ module _ (c : Config) (s : Scope) (v w : List Statement) where
   pub outputs-same : output_ports (scope_connections c s v) ≡ output_ports (scope_connections c s w)
   outputs-same = alike-outputs (scope_connections c s v) (scope_connections c s w) scopes-alike
 
-module _ (c : Config) (n : IsNested c) (written_connections : List (List ConnectionKept)) (h : AreAllWrittenConnections c written_connections) where
-  pub body-ports : (b : ℕ) (p : Ports) → b < length c.bodies → IsPorts (inputs_kept (list_or_empty (slice_get written_connections b))) (outputs_kept (list_or_empty (slice_get written_connections b))) p →
+module _ (c : Config) (n : IsNested c) (scopes : List ScopeKept) (h : AreAllScopes c scopes) where
+  pub body-ports : (b : ℕ) (p : Ports) → b < length c.bodies → IsPorts (inputs_kept (connections_by (slice_get scopes b))) (outputs_kept (connections_by (slice_get scopes b))) p →
       IsPorts (inputs_of c b) (outputs_of c b) p
   body-ports b p l i =
       let st = body-stands c n b l in
       let r = h (inside b) st.visible st.enclosing st.stands in
-      let row : list_or_empty (slice_get written_connections b) ≡ r.0 = ap list_or_empty r.1 in
-      subst (λ xs. IsPorts xs (outputs_of c b) p) (ap inputs_kept row ∙ inputs-said _ r.0 _ r.2 ∙ inputs-same c (inside b) st.visible [])
-      (subst (λ xs. IsPorts (inputs_kept (list_or_empty (slice_get written_connections b))) xs p) (ap outputs_kept row ∙ outputs-said _ r.0 _ r.2 ∙ outputs-same c (inside b) st.visible []) i)
+      let row : connections_by (slice_get scopes b) ≡ r.0.connections = ap connections_by r.1 in
+      subst (λ xs. IsPorts xs (outputs_of c b) p) (ap inputs_kept row ∙ inputs-said _ r.0.connections _ r.2.connections ∙ inputs-same c (inside b) st.visible [])
+      (subst (λ xs. IsPorts (inputs_kept (connections_by (slice_get scopes b))) xs p) (ap outputs_kept row ∙ outputs-said _ r.0.connections _ r.2.connections ∙ outputs-same c (inside b) st.visible []) i)
 
 no-gap : HasGap [] → ⊥
 no-gap g = let b = g.below in omega (arith, b)

@@ -16,7 +16,7 @@ use Rattle.click_scopes.specs.Faults.{ScopeNames, End, written_end, WrittenConne
 use Rattle.click_scopes.specs.kept.Scoped.{ports_in}
 use Rattle.click_scopes.specs.kept.WrittenConnections.{IsEndKept, AreWrittenConnections}
 use Rattle.click_scopes.specs.kept.ConnectionEnds.{AreEndsKept, written_connection_by}
-use Rattle.click_scopes.specs.declared.scopes.WrittenElement.{WrittenElement}
+use Rattle.click_scopes.specs.declared.written_scopes.WrittenElement.{WrittenElement}
 use Rattle.click_scopes.specs.declared.written_connections.End.{End as EndKept}
 use Rattle.click_scopes.specs.declared.written_connections.WrittenConnection.{WrittenConnection as ConnectionKept}
 

@@ -21,7 +21,7 @@ use Rattle.click_text.specs.declared.syntax.Body.{Body}
 use Rattle.click_scopes.specs.kept.ConnectionEnds.{placed_elements, names_among, scope_elements_in, at, declares, AreDeclared, AreNamesKnown, IsHere, AreEndsKept}
 use Rattle.click_scopes.specs.declared.written_connections.Owner.TheVariants as owner
 use Rattle.click_scopes.specs.declared.written_connections.End.{End as EndKept}
-use Rattle.click_scopes.specs.declared.scopes.WrittenElement.{WrittenElement}
+use Rattle.click_scopes.specs.declared.written_scopes.WrittenElement.{WrittenElement}
 use Rattle.click_scopes.proofs.OfElements.ElementTables.{role-same}
 use Rattle.click_scopes.proofs.OfElements.DeclaredNames.{position-from, some-within}
 

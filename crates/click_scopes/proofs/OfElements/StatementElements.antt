@@ -10,7 +10,7 @@ use Rattle.click_text.specs.declared.syntax.Element.{Element}
 use Rattle.click_text.specs.declared.syntax.Head.{Head}
 use Rattle.click_text.specs.declared.syntax.Head.TheVariants as head
 use Rattle.click_scopes.specs.declared.classes.ClassEntry.{ClassEntry}
-use Rattle.click_scopes.specs.declared.scopes.WrittenElement.{WrittenElement}
+use Rattle.click_scopes.specs.declared.written_scopes.WrittenElement.{WrittenElement}
 use Rattle.click_scopes.specs.declared.scope_elements.ScopeElement.{ScopeElement as ScopeElementKept}
 use Rattle.click_scopes.specs.declared.scope_elements.Role.{Role as RoleKept}
 use Rattle.click_scopes.specs.declared.scope_elements.Role.TheVariants as kept

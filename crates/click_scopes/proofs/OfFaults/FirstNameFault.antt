@@ -1,6 +1,5 @@
 -- The first wrong name, class or declaration of a configuration.
-use Rattle.std.proofs.Common.{◌≡◌, ◌⊎◌, inl, inr, ◌≤◌, List, [], ◌∷◌, ◌++◌, map, take, length, true, Vec, Global, Option, Some, None, refl, sym, ap, ◌∙◌, subst, arith}
-use Rattle.std.specs.List.{slice_get}
+use Rattle.std.proofs.Common.{◌≡◌, ◌⊎◌, inl, inr, ◌≤◌, List, [], ◌∷◌, ◌++◌, take, length, true, nat_lt, Option, Some, None, refl, sym, ap, ◌∙◌, subst, arith}
 use Rattle.click_text.specs.declared.syntax.Span.{Span}
 use Rattle.click_text.specs.declared.syntax.Head.TheVariants as head
 use Rattle.click_text.specs.declared.syntax.ClassReference.TheVariants as class
@@ -8,14 +7,15 @@ use Rattle.click_text.specs.declared.syntax.Statement.{Statement}
 use Rattle.click_text.specs.declared.syntax.Config.{Config}
 use Rattle.click_scopes.specs.Scopes.{Scope, whole, inside, is_body, Stands, at_top}
 use Rattle.click_scopes.specs.Elements.{Placed, makes, role_of_head, has_name, scope_elements_from}
-use Rattle.click_scopes.specs.Faults.{IsWrong, fault_number, scope_placed, scope_declared, elements_of_scope, role_in, first_token, unknown_name, unknown_class, unknown_declared, unknown_original, named_twice, port_declared, formal_twice, wrong_parameters, no_output, no_input, output_as_source, input_as_target, input_gap, output_gap}
-use Rattle.click_scopes.specs.kept.Tables.{scope_element_of}
+use Rattle.click_scopes.specs.Faults.{IsWrong, fault_number, scope_placed, scope_declared, role_in, first_token, unknown_name, unknown_class, unknown_declared, unknown_original, named_twice, port_declared, formal_twice, wrong_parameters, no_output, no_input, output_as_source, input_as_target, input_gap, output_gap}
 use Rattle.click_scopes.specs.kept.Nesting.{IsNested}
 use Rattle.click_scopes.specs.kept.Scoped.{table_place, AreSynonyms}
-use Rattle.click_scopes.specs.kept.ScopeElements.{AreAllScopeElements, AreAllStrings, strings_of, scope_strings}
+use Rattle.click_scopes.specs.kept.AllScopes.{AreAllScopes}
+use Rattle.click_scopes.specs.kept.Lookups.{elements_by}
 use Rattle.click_scopes.specs.kept.FirstFault.{token_fault, AtMost, IsLeast, IsNameFault, first_of, local_names, IsWrongScopeElement}
 use Rattle.click_scopes.specs.kept.NameFaults.{IsWrongAt, IsNameFaultWithin, IsWrongEntry}
 use Rattle.click_scopes.specs.declared.scope_elements.ScopeElement.{ScopeElement as ScopeElementKept}
+use Rattle.click_scopes.specs.declared.scopes.Scope.{Scope as ScopeKept}
 use Rattle.click_scopes.specs.declared.classes.ClassEntry.{ClassEntry}
 use Rattle.click_scopes.specs.declared.fault.WrongUse.{WrongUse}
 use Rattle.click_scopes.specs.declared.fault.WrongUse.TheVariants as kind
@@ -28,33 +28,21 @@ use Rattle.click_scopes.proofs.OfFaults.PlaceNameFaults.{least-before, at_most-s
 use Rattle.click_scopes.proofs.OfElements.WrittenElements.{IsKept}
 use Rattle.click_scopes.proofs.OfFaults.ScopeNameFaults.{WrongHere, scope_element-sound, scope_element-found, unknown-here, twice-here, port-here, formal-sound, formal-found, entry-sound, entry-found}
 
-some_same : {X : Type 0} {x y : X} → Some x ≡ Some y → x ≡ y
-some_same h = cc h
-
 -- in the whole text, in a body, or a synonym
-abbrev pub AnyWrong : Config → List ClassEntry → List (Vec ScopeElementKept Global) → TokenFault → Type 0
+abbrev pub AnyWrong : Config → List ClassEntry → List ScopeKept → TokenFault → Type 0
 AnyWrong c entries all w = (IsWrongAt c all (length c.bodies) w ⊎ IsNameFaultWithin c all (length c.bodies) w) ⊎ IsWrongEntry entries (length entries) w
 
 -- one that stands no later
-abbrev Found : Config → List ClassEntry → List (Vec ScopeElementKept Global) → TokenFault → Type 0
+abbrev Found : Config → List ClassEntry → List ScopeKept → TokenFault → Type 0
 Found c entries all w = (x : TokenFault) × AnyWrong c entries all x × AtMost x w
 
-module _ (c : Config) (entries : List ClassEntry) (all : List (Vec ScopeElementKept Global)) (n : IsNested c) (ls : AreAllScopeElements c all) (ts : AreAllStrings c all) (ys : AreSynonyms c entries) where
-  strings-at : (s : Scope) (v : List Statement) (a : List Scope) → Stands c s v a → (x : Vec ScopeElementKept Global) → slice_get all (table_place c s) ≡ Some x → strings_of x.items ≡ scope_strings c s v
-  strings-at s v a st x e =
-      let y = ts s v a st in
-      subst (λ (z : Vec ScopeElementKept Global). strings_of z.items ≡ scope_strings c s v) (some_same (sym y.1 ∙ e)) y.2
-
-  scope_elements-at : (s : Scope) (v : List Statement) (a : List Scope) → Stands c s v a → (x : Vec ScopeElementKept Global) → slice_get all (table_place c s) ≡ Some x →
-      map (scope_element_of c.text) x.items ≡ elements_of_scope c s v
-  scope_elements-at s v a st x e =
-      let y = ls s v a st in
-      subst (λ (z : Vec ScopeElementKept Global). map (scope_element_of c.text) z.items ≡ elements_of_scope c s v) (some_same (sym y.1 ∙ e)) y.2
-
+module _ (c : Config) (entries : List ClassEntry) (all : List ScopeKept) (n : IsNested c) (ls : AreAllScopes c all) (ys : AreSynonyms c entries) where
   scope-sound : (s : Scope) (v : List Statement) (a : List Scope) → Stands c s v a → (w : TokenFault) → IsWrongAt c all (table_place c s) w → IsNameFault c w
   scope-sound s v a st w h =
-      scope_element-sound c s v a st h.elements.items (scope_elements-at s v a st h.elements h.there) (strings-at s v a st h.elements h.there) w
-      (subst (λ b. IsWrongScopeElement c.text c.bodies b h.elements.items (length h.elements.items) w) (body-place c n s v a st) h.is)
+      let x = ls s v a st in let es = x.0.elements.items in
+      scope_element-sound c s v a st es x.2.elements x.2.strings w
+      (subst (λ b. IsWrongScopeElement c.text c.bodies b es (length es) w) (body-place c n s v a st)
+      (subst (λ zs. IsWrongScopeElement c.text c.bodies (nat_lt (table_place c s) (length c.bodies)) zs (length zs) w) (ap elements_by x.1) h))
 
   body-sound : (w : TokenFault) → IsNameFaultWithin c all (length c.bodies) w → IsNameFault c w
   body-sound w h =
@@ -80,13 +68,11 @@ module _ (c : Config) (entries : List ClassEntry) (all : List (Vec ScopeElementK
       Found c entries all w
   scope-found s v a st front p back e r w f =
       let x = ls s v a st in
-      let q = scope_element-found c s v a st x.0.items x.2 (strings-at s v a st x.0 x.1) front p back e r w (f x.0.items) in (
+      let q = scope_element-found c s v a st x.0.elements.items x.2.elements x.2.strings front p back e r w (f x.0.elements.items) in (
         q.0,
-        scope-any s v a st q.0 (record {
-          elements = x.0;
-          there = x.1;
-          is = subst (λ b. IsWrongScopeElement c.text c.bodies b x.0.items (length x.0.items) q.0) (sym (body-place c n s v a st)) q.1;
-        }),
+        scope-any s v a st q.0
+            (subst (λ zs. IsWrongScopeElement c.text c.bodies (nat_lt (table_place c s) (length c.bodies)) zs (length zs) q.0) (sym (ap elements_by x.1))
+            (subst (λ b. IsWrongScopeElement c.text c.bodies b x.0.elements.items (length x.0.elements.items) q.0) (sym (body-place c n s v a st)) q.1)),
         q.2,
       )
 

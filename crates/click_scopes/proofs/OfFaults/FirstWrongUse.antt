@@ -1,5 +1,5 @@
 -- The first wrong use: of those of names and those of compounds, and that it is one.
-use Rattle.std.proofs.Common.{◌≡◌, ◌⊎◌, inl, inr, ◌<◌, ◌≤◌, Option, Some, None, refl, arith}
+use Rattle.std.proofs.Common.{◌≡◌, ◌⊎◌, inl, inr, ◌≤◌, Option, Some, None, refl, arith}
 use Rattle.click_text.specs.declared.syntax.Span.{Span}
 use Rattle.click_text.specs.declared.syntax.Config.{Config}
 use Rattle.click_scopes.specs.Faults.{IsWrong, IsFirstWrong, fault_number}

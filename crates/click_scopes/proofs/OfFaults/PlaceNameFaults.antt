@@ -1,5 +1,5 @@
 -- The first wrong names, classes and declarations of the places of the table.
-use Rattle.std.proofs.Common.{◌≡◌, ◌⊎◌, inl, inr, ℕ, ◌+◌, ◌<◌, List, length, get_or, Bool, nat_lt, Vec, Global, Option, Some, None, refl, sym, ap, ◌∙◌, subst, arith}
+use Rattle.std.proofs.Common.{◌≡◌, ◌⊎◌, inl, inr, ℕ, ◌+◌, ◌<◌, List, length, get_or, Bool, nat_lt, Option, Some, None, refl, sym, ap, ◌∙◌, subst, arith}
 use Rattle.std.specs.List.{slice_get}
 use Rattle.std.proofs.lemmas.Bool.{cases_order}
 use Rattle.std.proofs.lemmas.Option.{slice_get-get_or}
@@ -7,7 +7,9 @@ use Rattle.click_text.specs.declared.syntax.Body.{Body}
 use Rattle.click_text.specs.declared.syntax.Config.{Config}
 use Rattle.click_scopes.specs.kept.FirstFault.{first_of, AtMost, IsLeast, IsWrongScopeElement}
 use Rattle.click_scopes.specs.kept.NameFaults.{IsWrongAt, IsWrongWithin, IsNameFaultWithin, IsWrongEntry, original_at}
+use Rattle.click_scopes.specs.kept.Lookups.{elements_by}
 use Rattle.click_scopes.specs.declared.scope_elements.ScopeElement.{ScopeElement as ScopeElementKept}
+use Rattle.click_scopes.specs.declared.scopes.Scope.{Scope as ScopeKept}
 use Rattle.click_scopes.specs.declared.classes.ClassEntry.{ClassEntry}
 use Rattle.click_scopes.specs.declared.first_fault.TokenFault.{TokenFault}
 use Rattle.click_scopes.proofs.OfFaults.LeastWrongUse.{least-first_of, least-alone, least-same, at_most-through}
@@ -58,30 +60,17 @@ module _ (entries : List ClassEntry) where
       ])
       (least-first_of (IsWrongEntry entries i) (λ w. here ≡ Some w) o here h (least-alone here)))
 
-module _ (c : Config) (all : List (Vec ScopeElementKept Global)) where
-  -- nothing is wrong where no scope is
-  pub place-none : (place : ℕ) → slice_get all place ≡ None → IsLeast (IsWrongAt c all place) None
-  place-none place e = λ w h. let q : None ≡ Some h.elements = sym e ∙ h.there in absurd (cc q)
-
-  place-some : (place : ℕ) (ls : Vec ScopeElementKept Global) (o : Option TokenFault) → slice_get all place ≡ Some ls →
-      IsLeast (IsWrongScopeElement c.text c.bodies (nat_lt place (length c.bodies)) ls.items (length ls.items)) o → IsLeast (IsWrongAt c all place) o
-  place-some place ls o e h =
-      least-same (IsWrongScopeElement c.text c.bodies (nat_lt place (length c.bodies)) ls.items (length ls.items)) (IsWrongAt c all place) o
-      (λ w p. record { elements = ls; there = e; is = p })
-      (λ w p. let same : p.elements ≡ ls = some_same (sym p.there ∙ e) in
-      subst (λ (x : Vec ScopeElementKept Global). IsWrongScopeElement c.text c.bodies (nat_lt place (length c.bodies)) x.items (length x.items) w) same p.is)
-      h
-
-  -- the same for what the code reads
-  pub place-read : (text : List ℕ) (bodies : List Body) (b : Bool) (items : List ScopeElementKept) (place : ℕ) (ls : Vec ScopeElementKept Global) (o : Option TokenFault) →
-      text ≡ c.text → bodies ≡ c.bodies → b ≡ nat_lt place (length c.bodies) → items ≡ ls.items → slice_get all place ≡ Some ls →
+module _ (c : Config) (all : List ScopeKept) where
+  -- what is wrong at a place, by what the code reads there
+  pub place-read : (text : List ℕ) (bodies : List Body) (b : Bool) (items : List ScopeElementKept) (place : ℕ) (o : Option TokenFault) →
+      text ≡ c.text → bodies ≡ c.bodies → b ≡ nat_lt place (length c.bodies) → items ≡ elements_by (slice_get all place) →
       IsLeast (IsWrongScopeElement text bodies b items (length items)) o → IsLeast (IsWrongAt c all place) o
-  place-read text bodies b items place ls o te be ne le e h =
-      place-some place ls o e
-      (subst (λ x. IsLeast (IsWrongScopeElement x c.bodies (nat_lt place (length c.bodies)) ls.items (length ls.items)) o) te
-      (subst (λ x. IsLeast (IsWrongScopeElement text x (nat_lt place (length c.bodies)) ls.items (length ls.items)) o) be
-      (subst (λ x. IsLeast (IsWrongScopeElement text bodies x ls.items (length ls.items)) o) ne
-      (subst (λ x. IsLeast (IsWrongScopeElement text bodies b x (length x)) o) le h))))
+  place-read text bodies b items place o te be ne le h =
+      let ls = elements_by (slice_get all place) in
+      subst (λ x. IsLeast (IsWrongScopeElement x c.bodies (nat_lt place (length c.bodies)) ls (length ls)) o) te
+      (subst (λ x. IsLeast (IsWrongScopeElement text x (nat_lt place (length c.bodies)) ls (length ls)) o) be
+      (subst (λ x. IsLeast (IsWrongScopeElement text bodies x ls (length ls)) o) ne
+      (subst (λ x. IsLeast (IsWrongScopeElement text bodies b x (length x)) o) le h)))
 
   pub bodies-none : IsLeast (IsNameFaultWithin c all 0) None
   bodies-none = λ w h. let l = h.within in omega (arith, l)

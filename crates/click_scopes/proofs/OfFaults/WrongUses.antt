@@ -1,9 +1,10 @@
 -- The wrong uses that the code looks for are those of the configuration.
-use Rattle.std.proofs.Common.{◌≡◌, ◌≢◌, ◌⊎◌, inl, inr, ℕ, suc, zero, ◌<◌, ◌≤◌, List, [], ◌∷◌, ◌++◌, map, length, take, Bool, true, false, not, nat_eq, nat_lt, Vec, Global, Option, Some, None, refl, sym, ap, ◌∙◌, subst, arith, Contains}
+use Rattle.std.proofs.Common.{◌≡◌, ◌≢◌, ◌⊎◌, inl, inr, ℕ, suc, zero, ◌<◌, ◌≤◌, List, [], ◌∷◌, ◌++◌, map, length, take, Bool, true, false, not, nat_eq, nat_lt, Option, Some, None, refl, sym, ap, ◌∙◌, subst, arith, All, Contains}
 use Rattle.std.specs.List.{slice_get}
 use Rattle.std.specs.Option.{option_map}
 use Rattle.std.specs.Str.{bytes_eq}
 use Rattle.std.proofs.lemmas.Bool.Decides.{nat_tests}
+use Rattle.std.proofs.lemmas.List.Elements.{All-contains}
 use Rattle.std.proofs.lemmas.Option.{same_Some, slice_get-map, slice_get_within}
 use Rattle.click_text.specs.declared.syntax.Span.{Span}
 use Rattle.click_text.specs.declared.syntax.Statement.{Statement}
@@ -17,44 +18,29 @@ use Rattle.click_scopes.specs.Faults.{scope_placed, scope_declared, elements_of_
 use Rattle.click_scopes.specs.kept.Tables.{meaning_by, scope_element_of}
 use Rattle.click_scopes.specs.kept.Nesting.{IsNested}
 use Rattle.click_scopes.specs.kept.Scoped.{table_place}
-use Rattle.click_scopes.specs.kept.ScopeElements.{AreAllScopeElements}
-use Rattle.click_scopes.specs.kept.CompoundArguments.{AreArgumentsOf, AreAllArguments}
-use Rattle.click_scopes.specs.kept.WrittenConnections.{IsOwner, IsWrittenConnection, AreWrittenConnections, AreAllWrittenConnections}
+use Rattle.click_scopes.specs.kept.CompoundArguments.{HasArguments}
+use Rattle.click_scopes.specs.kept.AllScopes.{AreAllScopes}
+use Rattle.click_scopes.specs.kept.Lookups.{elements_by, connections_by, class_body, scope_element_body}
+use Rattle.click_scopes.specs.kept.WrittenConnections.{IsOwner, IsWrittenConnection, AreWrittenConnections}
 use Rattle.click_scopes.specs.kept.FirstFault.{IsLeast, IsCompoundFault, first_of, first_in, token_fault, token_fault_if}
-use Rattle.click_scopes.specs.kept.CompoundFaults.{Among, IsWrongCall, IsWrongWrittenConnection, IsWrongIn, IsCompoundFaultOfBody, ArePorts, ports_or, compound_by, compound_in, call_fault_by, call_fault_of, outputs_by, inputs_by, lacking, source_by, target_by, gap_at, items_of, list_or_empty, HasGap}
-use Rattle.click_scopes.specs.declared.classes.ResolvedClass.{ResolvedClass}
-use Rattle.click_scopes.specs.declared.classes.ResolvedClass.TheVariants as class
+use Rattle.click_scopes.specs.kept.CompoundFaults.{Among, IsWrongCall, IsWrongWrittenConnection, IsWrongIn, IsCompoundFaultOfBody, ArePorts, ports_or, call_fault_of, outputs_by, inputs_by, lacking, source_by, target_by, gap_at, HasGap}
 use Rattle.click_scopes.specs.declared.fault.WrongUse.{WrongUse}
 use Rattle.click_scopes.specs.declared.fault.WrongUse.TheVariants as kind
 use Rattle.click_scopes.specs.declared.scope_elements.ScopeElement.{ScopeElement as ScopeElementKept}
 use Rattle.click_scopes.specs.declared.written_connections.Owner.{Owner}
 use Rattle.click_scopes.specs.declared.written_connections.Owner.TheVariants as owner
 use Rattle.click_scopes.specs.declared.written_connections.WrittenConnection.{WrittenConnection as ConnectionKept}
+use Rattle.click_scopes.specs.declared.scopes.Scope.{Scope as ScopeKept}
 use Rattle.click_scopes.specs.declared.ports.Ports.{Ports}
 use Rattle.click_scopes.specs.declared.first_fault.TokenFault.{TokenFault}
-use Rattle.click_scopes.proofs.OfLists.ListParts.{contains-at, at-contains, contains-split}
+use Rattle.click_scopes.proofs.OfLists.ListParts.{contains-at, at-contains, contains-split, map-there}
+use Rattle.click_scopes.proofs.OfElements.ElementBodies.{compound-means, means-compound}
 use Rattle.click_scopes.proofs.OfBodies.EarlierBodies.{scope_element-made}
 use Rattle.click_text.proofs.OfArguments.OneArgumentList.{arguments-once}
 use Rattle.click_scopes.proofs.OfConnections.EndOwners.{numbers-after, made-there, first-in}
 use Rattle.click_scopes.proofs.OfConnections.BodyPortCounts.{is_by, body-stands}
 use Rattle.click_scopes.proofs.OfBodies.ScopeWalk.{inside-within}
 use Rattle.click_scopes.proofs.OfFaults.LeastWrongUse.{least-first_of, least-same}
-
--- the class of an element as it is kept
-compound-means : (o : Option ResolvedClass) (b : ℕ) → compound_by o ≡ Some b → meaning_by o ≡ Some (compound b)
-compound-means None b h = absurd (cc h)
-compound-means (Some (class.Primitive s)) b h = absurd (cc h)
-compound-means (Some (class.Compound d)) b h = ap (λ x. Some (compound x)) (same_Some d b h)
-
-means-compound : (o : Option ResolvedClass) (b : ℕ) → meaning_by o ≡ Some (compound b) → compound_by o ≡ Some b
-means-compound None b h = absurd (cc h)
-means-compound (Some (class.Primitive s)) b h = absurd (cc h)
-means-compound (Some (class.Compound d)) b h = ap Some (let e : d ≡ b = cc h in e)
-
-map-there : {X Y : Type 0} (f : X → Y) (xs : List X) (i : ℕ) (y : Y) → slice_get (map f xs) i ≡ Some y → (x : X) × (slice_get xs i ≡ Some x) × (f x ≡ y)
-map-there f [] i y h = absurd (cc h)
-map-there f (x ∷ xs) zero y h = (x, refl, same_Some (f x) y h)
-map-there f (x ∷ xs) (suc i) y h = map-there f xs i y h
 
 there-map : {X Y : Type 0} (f : X → Y) (xs : List X) (i : ℕ) (x : X) → slice_get xs i ≡ Some x → slice_get (map f xs) i ≡ Some (f x)
 there-map f xs i x h = slice_get-map f xs i ∙ ap (option_map f) h
@@ -81,20 +67,17 @@ wrong-found true k s w h = absurd (cc h)
 wrong-found false k s w h = (refl, sym (same_Some (token_fault k s) w h))
 
 -- an element with a wrong number of arguments
-record IsCall (bodies : List Body) (o : Option ℕ) (spans : Option (List Span)) (first : Span) (w : TokenFault) : Type 0 where
+record IsCall (bodies : List Body) (o : Option ℕ) (spans : List Span) (first : Span) (w : TokenFault) : Type 0 where
   pub body : ℕ
   pub compound : o ≡ Some body
-  pub found : List Span
-  pub there : spans ≡ Some found
-  pub other : length found ≢ length (body_formals (slice_get bodies body))
+  pub other : length spans ≢ length (body_formals (slice_get bodies body))
   pub is : w ≡ token_fault kind.WrongParameters first
 
-call-is : (bodies : List Body) (o : Option ℕ) (spans : Option (List Span)) (first : Span) (w : TokenFault) → call_fault_of bodies o spans first ≡ Some w → IsCall bodies o spans first w
+call-is : (bodies : List Body) (o : Option ℕ) (spans : List Span) (first : Span) (w : TokenFault) → call_fault_of bodies o spans first ≡ Some w → IsCall bodies o spans first w
 call-is bodies None spans first w h = absurd (cc h)
-call-is bodies (Some b) None first w h = absurd (cc h)
-call-is bodies (Some b) (Some xs) first w h =
-    let r = wrong-found (nat_eq (length xs) (length (body_formals (slice_get bodies b)))) kind.WrongParameters first w h in
-    record { body = b; compound = refl; found = xs; there = refl; other = eq-not (length xs) (length (body_formals (slice_get bodies b))) r.0; is = r.1 }
+call-is bodies (Some b) spans first w h =
+    let r = wrong-found (nat_eq (length spans) (length (body_formals (slice_get bodies b)))) kind.WrongParameters first w h in
+    record { body = b; compound = refl; other = eq-not (length spans) (length (body_formals (slice_get bodies b))) r.0; is = r.1 }
 
 -- a port that a compound lacks
 record IsLack (count : Ports → ℕ) (ports : List Ports) (o : Option ℕ) (port : ℕ) (first : Span) (w : TokenFault) : Type 0 where
@@ -115,7 +98,7 @@ input-lack ports (Some b) port first w h =
     let r = wrong-found (nat_lt port ((ports_or (slice_get ports b)).inputs)) kind.CompoundPort first w h in
     record { body = b; compound = refl; past = below-not port ((ports_or (slice_get ports b)).inputs) r.0; is = r.1 }
 
-compound-there : (o : Option ScopeElementKept) (b : ℕ) → compound_in o ≡ Some b → (l : ScopeElementKept) × (o ≡ Some l) × (compound_by l.class ≡ Some b)
+compound-there : (o : Option ScopeElementKept) (b : ℕ) → scope_element_body o ≡ Some b → (l : ScopeElementKept) × (o ≡ Some l) × (class_body l.class ≡ Some b)
 compound-there None b h = absurd (cc h)
 compound-there (Some l) b h = (l, refl, h)
 
@@ -151,37 +134,39 @@ module _ (c : Config) (s : Scope) (v : List Statement) (a : List Scope) (st : St
   scope_element-kept : (i : ℕ) (l : ScopeElement) → slice_get (elements_of_scope c s v) i ≡ Some l → (k : ScopeElementKept) × (slice_get ls i ≡ Some k) × (scope_element_of c.text k ≡ l)
   scope_element-kept i l h = map-there (scope_element_of c.text) ls i l (ap (λ xs. slice_get xs i) same ∙ h)
 
-  module _ (args : List (List Span)) (ha : AreArgumentsOf (elements_of_scope c s v) args) where
-    pub call-to : (i : ℕ) (w : TokenFault) → IsWrongCall c.bodies ls args i w → IsCompoundFault c w
+  module _ (ha : All (HasArguments c.text) ls) where
+    arguments-at : (i : ℕ) (l : ScopeElementKept) → slice_get ls i ≡ Some l → HasArguments c.text l
+    arguments-at i l h = All-contains (HasArguments c.text) ls l ha (contains-at ls i l h)
+
+    pub call-to : (i : ℕ) (w : TokenFault) → IsWrongCall c.bodies ls i w → IsCompoundFault c w
     call-to i w h =
         let l = h.element in
-        let r = call-is c.bodies (compound_by l.class) (slice_get args i) (first_in c.bodies l.head) w h.is in
+        let r = call-is c.bodies (class_body l.class) l.arguments (first_in c.bodies l.head) w h.is in
         let there = scope_element-there i l h.there in
         let means : meaning_by l.class ≡ Some (compound r.body) = compound-means l.class r.body r.compound in
         let m = scope_element-made c.text (is_body s) (scope_declared c s v) 0 (scope_placed c s v) (scope_element_of c.text l) (contains-at (elements_of_scope c s v) i (scope_element_of c.text l) there) in
         let p = m.element in
         let split = contains-split (scope_placed c s v) p m.there in
-        let found = ha i (scope_element_of c.text l) r.body there means in
-        let xs : found.0 ≡ r.found = same_Some found.0 r.found (sym found.1 ∙ r.there) in
         let text = ap (λ (x : ScopeElement). x.text) m.is in
-        let read = subst (AreArguments (string_or_empty c.text p.element.text)) xs (subst (λ t. AreArguments t found.0) text found.2) in
+        let read = subst (λ t. AreArguments t l.arguments) text (arguments-at i l h.there r.body means) in
         let first : first_token c p.element.head ≡ first_in c.bodies l.head = sym (first-in c l.head c.bodies refl ∙ ap (λ (x : ScopeElement). first_token c x.head) m.is) in
         least-kind c kind.WrongParameters (first_in c.bodies l.head) w (omega arith) r.is
         (subst (IsWrong c kind.WrongParameters) first
-        (wrong_parameters s v a split.0 split.1 p r.body r.found st split.2 m.makes (sym (ap (λ (x : ScopeElement). x.meaning) m.is) ∙ means) read r.other))
+        (wrong_parameters s v a split.0 split.1 p r.body l.arguments st split.2 m.makes (sym (ap (λ (x : ScopeElement). x.meaning) m.is) ∙ means) read r.other))
 
     pub call-from : (front back : List Placed) (p : Placed) (b : ℕ) (spans : List Span) → scope_placed c s v ≡ front ++ p ∷ back → role_in c s v p ≡ makes →
         element_meaning c.text p ≡ Some (compound b) → AreArguments (string_or_empty c.text p.element.text) spans → length spans ≢ length (formals_of c (inside b)) →
-        Among (IsWrongCall c.bodies ls args) (length ls) (token_fault kind.WrongParameters (first_token c p.element.head))
+        Among (IsWrongCall c.bodies ls) (length ls) (token_fault kind.WrongParameters (first_token c p.element.head))
     call-from front back p b spans split made means read other =
         let ps = scope_placed c s v in
         let at_p : slice_get ps (length front) ≡ Some p = ap (λ xs. slice_get xs (length front)) split ∙ split-there front p back in
         let n = number_after_all c (scope_names c s v) 0 (take (length front) ps) in
         let m = made-there c.text (is_body s) (scope_declared c s v) 0 ps (length front) p n at_p (numbers-after c (scope_names c s v) 0 ps (length front) p at_p) made in
         let k = scope_element-kept m.place (scope_element c.text n p) m.there in
-        let found = ha m.place (scope_element c.text n p) b m.there means in
-        let once : found.0 ≡ spans = arguments-once (string_or_empty c.text p.element.text) found.0 spans found.2 read in
-        let class : compound_by k.0.class ≡ Some b = means-compound k.0.class b (ap (λ (x : ScopeElement). x.meaning) k.2 ∙ means) in
+        let kept-means = ap (λ (x : ScopeElement). x.meaning) k.2 ∙ means in
+        let found = subst (λ t. AreArguments t k.0.arguments) (ap (λ (x : ScopeElement). x.text) k.2) (arguments-at m.place k.0 k.1 b kept-means) in
+        let once : k.0.arguments ≡ spans = arguments-once (string_or_empty c.text p.element.text) k.0.arguments spans found read in
+        let class : class_body k.0.class ≡ Some b = means-compound k.0.class b kept-means in
         let first : first_in c.bodies k.0.head ≡ first_token c p.element.head = first-in c k.0.head c.bodies refl ∙ ap (λ (x : ScopeElement). first_token c x.head) k.2 in
         record {
           place = m.place;
@@ -190,8 +175,8 @@ module _ (c : Config) (s : Scope) (v : List Statement) (a : List Scope) (st : St
             element = k.0;
             there = k.1;
             is =
-                ap (λ o. call_fault_of c.bodies o (slice_get args m.place) (first_in c.bodies k.0.head)) class
-                ∙ ap (λ o. call_fault_by c.bodies b o (first_in c.bodies k.0.head)) (found.1 ∙ ap Some once)
+                ap (λ o. call_fault_of c.bodies o k.0.arguments (first_in c.bodies k.0.head)) class
+                ∙ ap (λ x. call_fault_of c.bodies (Some b) x (first_in c.bodies k.0.head)) once
                 ∙ ap (λ t. token_fault_if (not t) kind.WrongParameters (first_in c.bodies k.0.head)) (not-eq (length spans) (length (body_formals (slice_get c.bodies b))) other)
                 ∙ ap (λ x. Some (token_fault kind.WrongParameters x)) first;
           };
@@ -199,16 +184,16 @@ module _ (c : Config) (s : Scope) (v : List Statement) (a : List Scope) (st : St
 
   module _ (ports : List Ports) (hp : ArePorts c ports) (ks : List ConnectionKept) (hk : AreWrittenConnections (elements_of_scope c s v) ks (scope_connections c s v)) where
     -- the class of an element that is joined
-    joined-means : (i b : ℕ) (e : End) → IsOwner (elements_of_scope c s v) (owner.Element i) e → compound_in (slice_get ls i) ≡ Some b → e.meaning ≡ Some (compound b)
+    joined-means : (i b : ℕ) (e : End) → IsOwner (elements_of_scope c s v) (owner.Element i) e → scope_element_body (slice_get ls i) ≡ Some b → e.meaning ≡ Some (compound b)
     joined-means i b e h k =
         let r = compound-there (slice_get ls i) b k in
         let same_scope_element : scope_element_of c.text r.0 ≡ h.1.0 = same_Some (scope_element_of c.text r.0) h.1.0 (sym (scope_element-there i r.0 r.1) ∙ h.1.1) in
         sym h.1.3 ∙ sym (ap (λ (x : ScopeElement). x.meaning) same_scope_element) ∙ compound-means r.0.class b r.2
 
-    means-joined : (i b : ℕ) (e : End) → IsOwner (elements_of_scope c s v) (owner.Element i) e → e.meaning ≡ Some (compound b) → compound_in (slice_get ls i) ≡ Some b
+    means-joined : (i b : ℕ) (e : End) → IsOwner (elements_of_scope c s v) (owner.Element i) e → e.meaning ≡ Some (compound b) → scope_element_body (slice_get ls i) ≡ Some b
     means-joined i b e h k =
         let r = scope_element-kept i h.1.0 h.1.1 in
-        ap compound_in r.1 ∙ means-compound r.0.class b (ap (λ (x : ScopeElement). x.meaning) r.2 ∙ h.1.3 ∙ k)
+        ap scope_element_body r.1 ∙ means-compound r.0.class b (ap (λ (x : ScopeElement). x.meaning) r.2 ∙ h.1.3 ∙ k)
 
     source-to : (j : WrittenConnection) → Contains (scope_connections c s v) j → (o : Owner) → IsOwner (elements_of_scope c s v) o j.from → (port : ℕ) → port ≡ j.out_port → (first : Span) → first ≡ j.from.first →
         (w : TokenFault) → source_by ls ports o port first ≡ Some w → IsCompoundFault c w
@@ -217,7 +202,7 @@ module _ (c : Config) (s : Scope) (v : List Statement) (a : List Scope) (st : St
         least-kind c kind.CompoundPort j.from.first w (omega arith) (sym (same_Some (token_fault kind.CompoundPort first) w e) ∙ ap (token_fault kind.CompoundPort) f)
         (output_as_source s v a j st i (own-port output_name j.from.name j.from.role output_name h.0 h.1))
     source-to j i (owner.Element n) h port p first f w e =
-        let r = output-lack ports (compound_in (slice_get ls n)) port first w e in
+        let r = output-lack ports (scope_element_body (slice_get ls n)) port first w e in
         least-kind c kind.CompoundPort j.from.first w (omega arith) (r.is ∙ ap (token_fault kind.CompoundPort) f)
         (no_output s v a j r.body st i h.0 (joined-means n r.body j.from h r.compound) (let x = r.past in let y = (hp.each r.body).outs in omega (arith, x, y, p)))
 
@@ -228,7 +213,7 @@ module _ (c : Config) (s : Scope) (v : List Statement) (a : List Scope) (st : St
         least-kind c kind.CompoundPort j.to.first w (omega arith) (sym (same_Some (token_fault kind.CompoundPort first) w e) ∙ ap (token_fault kind.CompoundPort) f)
         (input_as_target s v a j st i (own-port input_name j.to.name j.to.role input_name h.0 h.1))
     target-to j i (owner.Element n) h port p first f w e =
-        let r = input-lack ports (compound_in (slice_get ls n)) port first w e in
+        let r = input-lack ports (scope_element_body (slice_get ls n)) port first w e in
         least-kind c kind.CompoundPort j.to.first w (omega arith) (r.is ∙ ap (token_fault kind.CompoundPort) f)
         (no_input s v a j r.body st i h.0 (joined-means n r.body j.to h r.compound) (let x = r.past in let y = (hp.each r.body).ins in omega (arith, x, y, p)))
 
@@ -283,51 +268,43 @@ wrong-yes : (b : Bool) (k : WrongUse) (s : Span) (w : TokenFault) → token_faul
 wrong-yes true k s w h = (refl, sym (same_Some (token_fault k s) w h))
 wrong-yes false k s w h = absurd (cc h)
 
-module _ (c : Config) (n : IsNested c) (scope_elements : List (Vec ScopeElementKept Global)) (arguments : List (List (List Span))) (written_connections : List (List ConnectionKept)) (ports : List Ports)
-    (hl : AreAllScopeElements c scope_elements) (ha : AreAllArguments c arguments) (hj : AreAllWrittenConnections c written_connections) (hp : ArePorts c ports) where
+module _ (c : Config) (n : IsNested c) (scopes : List ScopeKept) (ports : List Ports) (hs : AreAllScopes c scopes) (hp : ArePorts c ports) where
   -- a wrong use in a body, of its ports, or in the whole text
   abbrev pub IsWrongSomewhere : TokenFault → Type 0
   IsWrongSomewhere w =
-      Among (IsCompoundFaultOfBody c.bodies scope_elements arguments written_connections ports) (length c.bodies) w ⊎ IsWrongIn c.bodies scope_elements arguments written_connections ports (length c.bodies) w
+      Among (IsCompoundFaultOfBody c.bodies scopes ports) (length c.bodies) w ⊎ IsWrongIn c.bodies scopes ports (length c.bodies) w
 
   module _ (s : Scope) (v : List Statement) (a : List Scope) (st : Stands c s v a) where
-    in-to : (w : TokenFault) → IsWrongIn c.bodies scope_elements arguments written_connections ports (table_place c s) w → IsCompoundFault c w
+    in-to : (w : TokenFault) → IsWrongIn c.bodies scopes ports (table_place c s) w → IsCompoundFault c w
     in-to w h =
         let i = table_place c s in
-        let l = hl s v a st in let r = ha s v a st in let j = hj s v a st in
+        let r = hs s v a st in let ls = r.0.elements.items in
         elim h [
-          | inl x ↦
-              call-to c s v a st l.0.items l.2 r.0 r.2 x.place w
-              (subst (λ y. IsWrongCall c.bodies l.0.items y x.place w) (ap list_or_empty r.1) (subst (λ y. IsWrongCall c.bodies y (list_or_empty (slice_get arguments i)) x.place w) (ap items_of l.1) x.is))
+          | inl x ↦ call-to c s v a st ls r.2.elements r.2.arguments x.place w (subst (λ y. IsWrongCall c.bodies y x.place w) (ap elements_by r.1) x.is)
           | inr x ↦
-              written_connection-to c s v a st l.0.items l.2 ports hp j.0 j.2 x.place w
-              (subst (λ y. IsWrongWrittenConnection l.0.items ports y x.place w) (ap list_or_empty j.1) (subst (λ y. IsWrongWrittenConnection y ports (list_or_empty (slice_get written_connections i)) x.place w) (ap items_of l.1) x.is))
+              written_connection-to c s v a st ls r.2.elements ports hp r.0.connections r.2.connections x.place w
+              (subst (λ y. IsWrongWrittenConnection ls ports y x.place w) (ap connections_by r.1) (subst (λ y. IsWrongWrittenConnection y ports (connections_by (slice_get scopes i)) x.place w) (ap elements_by r.1) x.is))
         ]
 
-    placed-in : (w : TokenFault) → IsWrongIn c.bodies scope_elements arguments written_connections ports (table_place c s) w → IsWrongSomewhere w
+    placed-in : (w : TokenFault) → IsWrongIn c.bodies scopes ports (table_place c s) w → IsWrongSomewhere w
     placed-in w h = by_scope s refl h
       where
-        by_scope : (t : Scope) → s ≡ t → IsWrongIn c.bodies scope_elements arguments written_connections ports (table_place c t) w → IsWrongSomewhere w
+        by_scope : (t : Scope) → s ≡ t → IsWrongIn c.bodies scopes ports (table_place c t) w → IsWrongSomewhere w
         by_scope whole e k = inr k
         by_scope (inside b) e k = inl (record { place = b; within = inside-within c n s v a st b e; is = inl k })
 
-    calls-in : (w : TokenFault) → ((args : List (List Span)) (ls : List ScopeElementKept) → map (scope_element_of c.text) ls ≡ elements_of_scope c s v → AreArgumentsOf (elements_of_scope c s v) args →
-        Among (IsWrongCall c.bodies ls args) (length ls) w) → IsWrongSomewhere w
+    calls-in : (w : TokenFault) → ((ls : List ScopeElementKept) → map (scope_element_of c.text) ls ≡ elements_of_scope c s v → All (HasArguments c.text) ls → Among (IsWrongCall c.bodies ls) (length ls) w) → IsWrongSomewhere w
     calls-in w f =
-        let i = table_place c s in
-        let l = hl s v a st in let r = ha s v a st in
-        placed-in w
-        (inl (subst (λ x. Among (IsWrongCall c.bodies x (list_or_empty (slice_get arguments i))) (length x) w) (sym (ap items_of l.1))
-        (subst (λ x. Among (IsWrongCall c.bodies l.0.items x) (length l.0.items) w) (sym (ap list_or_empty r.1)) (f r.0 l.0.items l.2 r.2))))
+        let r = hs s v a st in
+        placed-in w (inl (subst (λ x. Among (IsWrongCall c.bodies x) (length x) w) (sym (ap elements_by r.1)) (f r.0.elements.items r.2.elements r.2.arguments)))
 
     written_connections-in : (w : TokenFault) → ((ls : List ScopeElementKept) → map (scope_element_of c.text) ls ≡ elements_of_scope c s v → (ks : List ConnectionKept) → AreWrittenConnections (elements_of_scope c s v) ks (scope_connections c s v) →
         Among (IsWrongWrittenConnection ls ports ks) (length ks) w) → IsWrongSomewhere w
     written_connections-in w f =
-        let i = table_place c s in
-        let l = hl s v a st in let j = hj s v a st in
+        let r = hs s v a st in let here = slice_get scopes (table_place c s) in
         placed-in w
-        (inr (subst (λ x. Among (IsWrongWrittenConnection x ports (list_or_empty (slice_get written_connections i))) (length (list_or_empty (slice_get written_connections i))) w) (sym (ap items_of l.1))
-        (subst (λ x. Among (IsWrongWrittenConnection l.0.items ports x) (length x) w) (sym (ap list_or_empty j.1)) (f l.0.items l.2 j.0 j.2))))
+        (inr (subst (λ x. Among (IsWrongWrittenConnection x ports (connections_by here)) (length (connections_by here)) w) (sym (ap elements_by r.1))
+        (subst (λ x. Among (IsWrongWrittenConnection r.0.elements.items ports x) (length x) w) (sym (ap connections_by r.1)) (f r.0.elements.items r.2.elements r.0.connections r.2.connections))))
 
   gap-to : (b : ℕ) → b < length c.bodies → (w : TokenFault) → gap_at c.bodies ports b ≡ Some w → IsCompoundFault c w
   gap-to b l w h =
@@ -363,7 +340,7 @@ module _ (c : Config) (n : IsNested c) (scope_elements : List (Vec ScopeElementK
   wrong-somewhere k p (formal_twice b v a front back f st e x) l = absurd (omega (arith, l))
   wrong-somewhere k p (wrong_parameters s v a front back q b spans st e r m read other) l =
       calls-in s v a st (token_fault kind.WrongParameters (first_token c q.element.head))
-      (λ args ls same h. call-from c s v a st ls same args h front back q b spans e r m read other)
+      (λ ls same h. call-from c s v a st ls same h front back q b spans e r m read other)
   wrong-somewhere k p (no_output s v a j b st i r m x) l =
       written_connections-in s v a st (token_fault kind.CompoundPort j.from.first)
       (λ ls same ks hk. written_connection-from c s v a st ls same ports hp ks hk j i j.from.first
@@ -386,13 +363,13 @@ module _ (c : Config) (n : IsNested c) (scope_elements : List (Vec ScopeElementK
       gap-from b (inside-within c n (inside b) v a st b refl) (inr (record { port = q; below = x; unused = y }))
 
   pub compound_fault-least : (bs : List Body) (ps qs : List Ports) (len : ℕ) (x y o : Option TokenFault) → bs ≡ c.bodies → ps ≡ ports → qs ≡ ports → len ≡ length c.bodies →
-      IsLeast (Among (IsCompoundFaultOfBody bs scope_elements arguments written_connections ps) (length bs)) x → IsLeast (IsWrongIn bs scope_elements arguments written_connections qs len) y → o ≡ first_of x y → IsLeast (IsCompoundFault c) o
+      IsLeast (Among (IsCompoundFaultOfBody bs scopes ps) (length bs)) x → IsLeast (IsWrongIn bs scopes qs len) y → o ≡ first_of x y → IsLeast (IsCompoundFault c) o
   compound_fault-least bs ps qs len x y o eb ep eq el h k e =
-      let h1 = subst (λ z. IsLeast (Among (IsCompoundFaultOfBody z scope_elements arguments written_connections ps) (length z)) x) eb h in
-      let h2 = subst (λ z. IsLeast (Among (IsCompoundFaultOfBody c.bodies scope_elements arguments written_connections z) (length c.bodies)) x) ep h1 in
-      let k1 = subst (λ z. IsLeast (IsWrongIn z scope_elements arguments written_connections qs len) y) eb k in
-      let k2 = subst (λ z. IsLeast (IsWrongIn c.bodies scope_elements arguments written_connections z len) y) eq k1 in
-      let k3 = subst (λ z. IsLeast (IsWrongIn c.bodies scope_elements arguments written_connections ports z) y) el k2 in
+      let h1 = subst (λ z. IsLeast (Among (IsCompoundFaultOfBody z scopes ps) (length z)) x) eb h in
+      let h2 = subst (λ z. IsLeast (Among (IsCompoundFaultOfBody c.bodies scopes z) (length c.bodies)) x) ep h1 in
+      let k1 = subst (λ z. IsLeast (IsWrongIn z scopes qs len) y) eb k in
+      let k2 = subst (λ z. IsLeast (IsWrongIn c.bodies scopes z len) y) eq k1 in
+      let k3 = subst (λ z. IsLeast (IsWrongIn c.bodies scopes ports z) y) el k2 in
       subst (IsLeast (IsCompoundFault c)) (sym e)
       (least-same IsWrongSomewhere (IsCompoundFault c) (first_of x y) somewhere-to (λ w m. wrong-somewhere w.kind w.span m.wrong m.kind)
-      (least-first_of (Among (IsCompoundFaultOfBody c.bodies scope_elements arguments written_connections ports) (length c.bodies)) (IsWrongIn c.bodies scope_elements arguments written_connections ports (length c.bodies)) x y h2 k3))
+      (least-first_of (Among (IsCompoundFaultOfBody c.bodies scopes ports) (length c.bodies)) (IsWrongIn c.bodies scopes ports (length c.bodies)) x y h2 k3))

@@ -2,6 +2,7 @@
 use Rattle.std.proofs.Common.{◌≡◌, inl, inr, ℕ, zero, suc, ◌<◌, List, [], ◌∷◌, ◌++◌, map, reverse, length, Some, refl, ap, subst, arith, Contains}
 use Rattle.std.specs.List.{slice_get}
 use Rattle.std.proofs.lemmas.List.{reverse-append}
+use Rattle.std.proofs.lemmas.Option.{same_Some}
 use Rattle.std.proofs.lemmas.List.Elements.{Contains-append_cases}
 use Rattle.click_scopes.proofs.OfBodies.OneBodyPlace.{contains-nil, contains-cons}
 
@@ -78,3 +79,9 @@ at-place (y ∷ xs) (suc i) x e =
     before-next : {X : Type 0} (y : X) (xs zs : List X) (i : ℕ) → ((k : ℕ) → k < i → slice_get xs k ≡ slice_get zs k) → (k : ℕ) → k < suc i → slice_get (y ∷ xs) k ≡ slice_get (y ∷ zs) k
     before-next y xs zs i h zero l = refl
     before-next y xs zs i h (suc k) l = h k (omega (arith, l))
+
+-- a part of a list of images is the image of a part
+pub map-there : {X Y : Type 0} (f : X → Y) (xs : List X) (i : ℕ) (y : Y) → slice_get (map f xs) i ≡ Some y → (x : X) × (slice_get xs i ≡ Some x) × (f x ≡ y)
+map-there f [] i y h = absurd (cc h)
+map-there f (x ∷ xs) zero y h = (x, refl, same_Some (f x) y h)
+map-there f (x ∷ xs) (suc i) y h = map-there f xs i y h

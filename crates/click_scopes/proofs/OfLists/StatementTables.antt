@@ -15,8 +15,8 @@ use Rattle.click_scopes.specs.Elements.{Placed, place, placed}
 use Rattle.click_scopes.specs.kept.Tables.{meaning_by, IsBelow, IsShown, Shows, AreWritten, IsEntry, IsMore}
 use Rattle.click_scopes.specs.kept.Standing.{kept_link, kept_name, kept_elements, nested_body, Each, IsNestedBody, AreNestedBodies}
 use Rattle.click_scopes.specs.declared.classes.ClassEntry.{ClassEntry}
-use Rattle.click_scopes.specs.declared.scopes.WrittenElement.{WrittenElement}
-use Rattle.click_scopes.specs.declared.scopes.NestedBody.{NestedBody}
+use Rattle.click_scopes.specs.declared.written_scopes.WrittenElement.{WrittenElement}
+use Rattle.click_scopes.specs.declared.written_scopes.NestedBody.{NestedBody}
 use Rattle.click_scopes.proofs.OfNames.WordMeanings.{shown-below}
 
 pub slice_get-more : {X : Type 0} (xs ys : List X) (i : ℕ) (x : X) → slice_get xs i ≡ Some x → slice_get (xs ++ ys) i ≡ Some x

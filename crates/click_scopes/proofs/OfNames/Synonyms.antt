@@ -15,7 +15,7 @@ use Rattle.click_scopes.specs.kept.Tables.{meaning_by, Shows, IsEntry, IsMore}
 use Rattle.click_scopes.specs.kept.Scoped.{ports_of, ports_in}
 use Rattle.click_scopes.specs.kept.Standing.{kept_link, kept_name, kept_elements, written_ports, IsDefined, HasSynonym, IsSynonymAmong, AddsSynonyms}
 use Rattle.click_scopes.specs.declared.classes.ClassEntry.{ClassEntry}
-use Rattle.click_scopes.specs.declared.scopes.WrittenElement.{WrittenElement}
+use Rattle.click_scopes.specs.declared.written_scopes.WrittenElement.{WrittenElement}
 use Rattle.click_scopes.proofs.OfLists.StatementTables.{slice_get-more, slice_get-last}
 
 ports-links : (top : Option ℕ) (ls : List Link) → written_ports (map (λ l. kept_link top l) ls) ≡ map (λ (l : Link). Some (port_number l.from, port_number l.to)) ls

@@ -1,23 +1,11 @@
--- The arguments of each scope's compounds, as the code keeps them.
-use Rattle.std.specs.Prelude.{◌≡◌, ℕ, List, slice_get, Some}
-use Rattle.click_text.specs.declared.syntax.Span.{Span}
-use Rattle.click_text.specs.declared.syntax.Statement.{Statement}
-use Rattle.click_text.specs.declared.syntax.Config.{Config}
+-- The arguments of compounds' elements, as the code keeps them.
+use Rattle.std.specs.Prelude.{◌≡◌, ℕ, List, Some}
 use Rattle.click_text.specs.Arguments.{AreArguments}
-use Rattle.click_scopes.specs.Scopes.{Scope, Stands}
 use Rattle.click_scopes.specs.Classes.{compound}
-use Rattle.click_scopes.specs.Elements.{ScopeElement}
-use Rattle.click_scopes.specs.Faults.{elements_of_scope}
-use Rattle.click_scopes.specs.kept.Scoped.{table_place}
+use Rattle.click_scopes.specs.Elements.{string_or_empty}
+use Rattle.click_scopes.specs.kept.Tables.{meaning_by}
+use Rattle.click_scopes.specs.declared.scope_elements.ScopeElement.{ScopeElement as ScopeElementKept}
 
--- for each element that is a compound the arguments of its string
-abbrev pub AreArgumentsOf : List ScopeElement → List (List Span) → Type 0
-AreArgumentsOf ls all =
-    (i : ℕ) (l : ScopeElement) (b : ℕ) → slice_get ls i ≡ Some l → l.meaning ≡ Some (compound b) →
-    (spans : List Span) × (slice_get all i ≡ Some spans) × AreArguments l.text spans
-
--- those of each scope, by its place in the table
-abbrev pub AreAllArguments : Config → List (List (List Span)) → Type 0
-AreAllArguments c all =
-    (s : Scope) (visible : List Statement) (enclosing : List Scope) → Stands c s visible enclosing →
-    (one : List (List Span)) × (slice_get all (table_place c s) ≡ Some one) × AreArgumentsOf (elements_of_scope c s visible) one
+-- an element that is a compound has the arguments of its string
+abbrev pub HasArguments : List ℕ → ScopeElementKept → Type 0
+HasArguments text l = (b : ℕ) → meaning_by l.class ≡ Some (compound b) → AreArguments (string_or_empty text l.text) l.arguments

@@ -1,20 +1,19 @@
 -- Wrong uses of compounds, as the code looks for them.
-use Rattle.std.specs.Prelude.{◌≡◌, ◌⊎◌, ℕ, ◌<◌, List, [], ◌∷◌, length, slice_get, slice_index_or, Bool, false, not, Contains, nat_eq, nat_lt, Option, Some, None, Vec, ◌↔◌, IsTrue}
+use Rattle.std.specs.Prelude.{◌≡◌, ◌⊎◌, ℕ, ◌<◌, List, [], ◌∷◌, length, slice_get, slice_index_or, Bool, false, not, Contains, nat_eq, nat_lt, Option, Some, None, ◌↔◌, IsTrue}
 use Rattle.std.specs.List.{list_any}
-use Rattle.std.specs.Global.{Global}
 use Rattle.click_text.specs.declared.syntax.Span.{Span}
 use Rattle.click_text.specs.declared.syntax.Body.{Body}
 use Rattle.click_text.specs.declared.syntax.Config.{Config}
 use Rattle.click_scopes.specs.Scopes.{body_formals}
 use Rattle.click_scopes.specs.Faults.{brace_by, port_count, inputs_of, outputs_of}
 use Rattle.click_scopes.specs.kept.FirstFault.{token_fault, token_fault_if, first_in}
-use Rattle.click_scopes.specs.declared.classes.ResolvedClass.{ResolvedClass}
-use Rattle.click_scopes.specs.declared.classes.ResolvedClass.TheVariants as class
+use Rattle.click_scopes.specs.kept.Lookups.{elements_by, connections_by, class_body, scope_element_body}
 use Rattle.click_scopes.specs.declared.fault.WrongUse.TheVariants as kind
 use Rattle.click_scopes.specs.declared.scope_elements.ScopeElement.{ScopeElement as ScopeElementKept}
 use Rattle.click_scopes.specs.declared.written_connections.Owner.{Owner}
 use Rattle.click_scopes.specs.declared.written_connections.Owner.TheVariants as owner
 use Rattle.click_scopes.specs.declared.written_connections.WrittenConnection.{WrittenConnection as ConnectionKept}
+use Rattle.click_scopes.specs.declared.scopes.Scope.{Scope as ScopeKept}
 use Rattle.click_scopes.specs.declared.ports.Ports.{Ports}
 use Rattle.click_scopes.specs.declared.first_fault.TokenFault.{TokenFault}
 
@@ -72,32 +71,18 @@ pub record ArePorts (c : Config) (ports : List Ports) : Type 0 where
   pub each : (b : ℕ) → IsPorts (inputs_of c b) (outputs_of c b) (ports_or (slice_get ports b))
 
 -- a compound's element with more or fewer arguments than it has parameters
-abbrev pub call_fault_by : List Body → ℕ → Option (List Span) → Span → Option TokenFault
-call_fault_by bodies b None first = None
-call_fault_by bodies b (Some spans) first = token_fault_if (not (nat_eq (length spans) (length (body_formals (slice_get bodies b))))) kind.WrongParameters first
-
-abbrev pub compound_by : Option ResolvedClass → Option ℕ
-compound_by None = None
-compound_by (Some (class.Primitive s)) = None
-compound_by (Some (class.Compound b)) = Some b
-
-abbrev pub call_fault_of : List Body → Option ℕ → Option (List Span) → Span → Option TokenFault
+abbrev pub call_fault_of : List Body → Option ℕ → List Span → Span → Option TokenFault
 call_fault_of bodies None spans first = None
-call_fault_of bodies (Some b) spans first = call_fault_by bodies b spans first
+call_fault_of bodies (Some b) spans first = token_fault_if (not (nat_eq (length spans) (length (body_formals (slice_get bodies b))))) kind.WrongParameters first
 
-abbrev pub call_fault_at : List Body → ScopeElementKept → Option (List Span) → Option TokenFault
-call_fault_at bodies l spans = call_fault_of bodies (compound_by l.class) spans (first_in bodies l.head)
+abbrev pub call_fault_at : List Body → ScopeElementKept → Option TokenFault
+call_fault_at bodies l = call_fault_of bodies (class_body l.class) l.arguments (first_in bodies l.head)
 
 -- the element at that place among these has a wrong number of arguments
-pub record IsWrongCall (bodies : List Body) (ls : List ScopeElementKept) (arguments : List (List Span)) (place : ℕ) (w : TokenFault) : Type 0 where
+pub record IsWrongCall (bodies : List Body) (ls : List ScopeElementKept) (place : ℕ) (w : TokenFault) : Type 0 where
   pub element : ScopeElementKept
   pub there : slice_get ls place ≡ Some element
-  pub is : call_fault_at bodies element (slice_get arguments place) ≡ Some w
-
--- the compound that the element at a place is
-abbrev pub compound_in : Option ScopeElementKept → Option ℕ
-compound_in None = None
-compound_in (Some l) = compound_by l.class
+  pub is : call_fault_at bodies element ≡ Some w
 
 abbrev pub outputs_by : List Ports → Option ℕ → Option ℕ
 outputs_by ports None = None
@@ -115,12 +100,12 @@ lacking (Some n) port first = token_fault_if (not (nat_lt port n)) kind.Compound
 abbrev pub source_by : List ScopeElementKept → List Ports → Owner → ℕ → Span → Option TokenFault
 source_by ls ports owner.Input port first = None
 source_by ls ports owner.Output port first = Some (token_fault kind.CompoundPort first)
-source_by ls ports (owner.Element i) port first = lacking (outputs_by ports (compound_in (slice_get ls i))) port first
+source_by ls ports (owner.Element i) port first = lacking (outputs_by ports (scope_element_body (slice_get ls i))) port first
 
 abbrev pub target_by : List ScopeElementKept → List Ports → Owner → ℕ → Span → Option TokenFault
 target_by ls ports owner.Input port first = Some (token_fault kind.CompoundPort first)
 target_by ls ports owner.Output port first = None
-target_by ls ports (owner.Element i) port first = lacking (inputs_by ports (compound_in (slice_get ls i))) port first
+target_by ls ports (owner.Element i) port first = lacking (inputs_by ports (scope_element_body (slice_get ls i))) port first
 
 -- an end of the connection at that place is wrong
 pub record IsWrongWrittenConnection (ls : List ScopeElementKept) (ports : List Ports) (ks : List ConnectionKept) (place : ℕ) (w : TokenFault) : Type 0 where
@@ -128,24 +113,16 @@ pub record IsWrongWrittenConnection (ls : List ScopeElementKept) (ports : List P
   pub there : slice_get ks place ≡ Some written_connection
   pub is : (source_by ls ports written_connection.from.owner written_connection.out_port written_connection.from.first ≡ Some w) ⊎ (target_by ls ports written_connection.to.owner written_connection.in_port written_connection.to.first ≡ Some w)
 
-abbrev pub list_or_empty : {X : Type 0} → Option (List X) → List X
-list_or_empty None = []
-list_or_empty (Some xs) = xs
-
-abbrev pub items_of : {X : Type 0} → Option (Vec X Global) → List X
-items_of None = []
-items_of (Some v) = v.items
-
 -- a wrong use in the scope at that place
-abbrev pub IsWrongIn : List Body → List (Vec ScopeElementKept Global) → List (List (List Span)) → List (List ConnectionKept) → List Ports → ℕ → TokenFault → Type 0
-IsWrongIn bodies scope_elements arguments written_connections ports place w =
-    let ls = items_of (slice_get scope_elements place) in
-    let ks = list_or_empty (slice_get written_connections place) in
-    Among (IsWrongCall bodies ls (list_or_empty (slice_get arguments place))) (length ls) w ⊎ Among (IsWrongWrittenConnection ls ports ks) (length ks) w
+abbrev pub IsWrongIn : List Body → List ScopeKept → List Ports → ℕ → TokenFault → Type 0
+IsWrongIn bodies scopes ports place w =
+    let ls = elements_by (slice_get scopes place) in
+    let ks = connections_by (slice_get scopes place) in
+    Among (IsWrongCall bodies ls) (length ls) w ⊎ Among (IsWrongWrittenConnection ls ports ks) (length ks) w
 
 abbrev pub gap_at : List Body → List Ports → ℕ → Option TokenFault
 gap_at bodies ports b = token_fault_if ((ports_or (slice_get ports b)).gap) kind.CompoundPort (brace_by (slice_get bodies b))
 
 -- a wrong use in the body at that place, or of its ports
-abbrev pub IsCompoundFaultOfBody : List Body → List (Vec ScopeElementKept Global) → List (List (List Span)) → List (List ConnectionKept) → List Ports → ℕ → TokenFault → Type 0
-IsCompoundFaultOfBody bodies scope_elements arguments written_connections ports place w = IsWrongIn bodies scope_elements arguments written_connections ports place w ⊎ (gap_at bodies ports place ≡ Some w)
+abbrev pub IsCompoundFaultOfBody : List Body → List ScopeKept → List Ports → ℕ → TokenFault → Type 0
+IsCompoundFaultOfBody bodies scopes ports place w = IsWrongIn bodies scopes ports place w ⊎ (gap_at bodies ports place ≡ Some w)

@@ -9,7 +9,7 @@ use Rattle.click_scopes.specs.Faults.{ScopeNames, written_end, number_behind, is
 use Rattle.click_scopes.specs.kept.Tables.{elements_of, numbers_from}
 use Rattle.click_scopes.specs.kept.Scoped.{ports_in}
 use Rattle.click_scopes.specs.kept.WrittenConnections.{IsEndKept, AreWrittenConnections}
-use Rattle.click_scopes.specs.declared.scopes.WrittenElement.{WrittenElement}
+use Rattle.click_scopes.specs.declared.written_scopes.WrittenElement.{WrittenElement}
 use Rattle.click_scopes.specs.declared.written_connections.End.{End as EndKept}
 use Rattle.click_scopes.specs.declared.written_connections.WrittenConnection.{WrittenConnection as ConnectionKept}
 

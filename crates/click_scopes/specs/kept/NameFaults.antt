@@ -1,28 +1,28 @@
 -- Wrong names, classes and declarations in the places of the table, and the first of them.
-use Rattle.std.specs.Prelude.{◌≡◌, ◌⊎◌, ℕ, ◌<◌, List, length, slice_get, nat_lt, Option, Some, None, Vec}
-use Rattle.std.specs.Global.{Global}
+use Rattle.std.specs.Prelude.{◌≡◌, ◌⊎◌, ℕ, ◌<◌, List, length, slice_get, nat_lt, Option, Some, None}
 use Rattle.click_text.specs.declared.syntax.Span.{Span}
 use Rattle.click_text.specs.declared.syntax.Config.{Config}
 use Rattle.click_scopes.specs.Scopes.{inside, formals_of}
 use Rattle.click_scopes.specs.kept.FirstFault.{token_fault, IsWrongScopeElement, IsWrongFormal}
-use Rattle.click_scopes.specs.declared.scope_elements.ScopeElement.{ScopeElement as ScopeElementKept}
+use Rattle.click_scopes.specs.kept.Lookups.{elements_by}
+use Rattle.click_scopes.specs.declared.scopes.Scope.{Scope as ScopeKept}
 use Rattle.click_scopes.specs.declared.classes.ResolvedClass.{ResolvedClass}
 use Rattle.click_scopes.specs.declared.classes.ClassEntry.{ClassEntry}
 use Rattle.click_scopes.specs.declared.fault.WrongUse.TheVariants as kind
 use Rattle.click_scopes.specs.declared.first_fault.TokenFault.{TokenFault}
 
 -- An element of the scope at that place has a wrong name, class or declaration.
-pub record IsWrongAt (c : Config) (all : List (Vec ScopeElementKept Global)) (place : ℕ) (w : TokenFault) : Type 0 where
-  pub elements : Vec ScopeElementKept Global
-  pub there : slice_get all place ≡ Some elements
-  pub is : IsWrongScopeElement c.text c.bodies (nat_lt place (length c.bodies)) elements.items (length elements.items) w
+abbrev pub IsWrongAt : Config → List ScopeKept → ℕ → TokenFault → Type 0
+IsWrongAt c all place w =
+    let ls = elements_by (slice_get all place) in
+    IsWrongScopeElement c.text c.bodies (nat_lt place (length c.bodies)) ls (length ls) w
 
 -- An element of the body at that place is wrong, or one of its parameters.
-abbrev pub IsWrongWithin : Config → List (Vec ScopeElementKept Global) → ℕ → TokenFault → Type 0
+abbrev pub IsWrongWithin : Config → List ScopeKept → ℕ → TokenFault → Type 0
 IsWrongWithin c all b w = IsWrongAt c all b w ⊎ IsWrongFormal c.text (formals_of c (inside b)) (length (formals_of c (inside b))) w
 
 -- Something is wrong in one of the first of the bodies.
-pub record IsNameFaultWithin (c : Config) (all : List (Vec ScopeElementKept Global)) (end : ℕ) (w : TokenFault) : Type 0 where
+pub record IsNameFaultWithin (c : Config) (all : List ScopeKept) (end : ℕ) (w : TokenFault) : Type 0 where
   pub place : ℕ
   pub within : place < end
   pub is : IsWrongWithin c all place w

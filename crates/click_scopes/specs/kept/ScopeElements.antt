@@ -1,29 +1,21 @@
 -- The elements of each scope, as the code keeps them.
-use Rattle.std.specs.Prelude.{◌≡◌, ℕ, List, map, filter_map, slice_get, Bool, Option, Some, None, Vec}
-use Rattle.std.specs.Global.{Global}
+use Rattle.std.specs.Prelude.{◌≡◌, ℕ, List, map, filter_map, Bool, Option, Some, None}
 use Rattle.click_text.specs.declared.syntax.Span.{Span}
 use Rattle.click_text.specs.declared.syntax.Element.{Element}
 use Rattle.click_text.specs.declared.syntax.Statement.{Statement}
 use Rattle.click_text.specs.declared.syntax.Config.{Config}
-use Rattle.click_scopes.specs.Scopes.{Scope, is_body, Stands}
+use Rattle.click_scopes.specs.Scopes.{Scope, is_body}
 use Rattle.click_scopes.specs.Elements.{Placed, Role, pseudo, refers, makes, role, declared_names, scope_elements_from}
-use Rattle.click_scopes.specs.Faults.{scope_placed, scope_declared, elements_of_scope}
+use Rattle.click_scopes.specs.Faults.{scope_placed, scope_declared}
 use Rattle.click_scopes.specs.kept.Tables.{AreWritten, elements_of, names_declared, scope_element_of}
-use Rattle.click_scopes.specs.kept.Scoped.{table_place}
 use Rattle.click_scopes.specs.declared.classes.ClassEntry.{ClassEntry}
-use Rattle.click_scopes.specs.declared.scopes.WrittenElement.{WrittenElement}
+use Rattle.click_scopes.specs.declared.written_scopes.WrittenElement.{WrittenElement}
 use Rattle.click_scopes.specs.declared.scope_elements.ScopeElement.{ScopeElement as ScopeElementKept}
 
 -- the elements of a scope that is written so
 abbrev pub AreScopeElementsOf : List ℕ → List ClassEntry → Bool → List WrittenElement → List ScopeElementKept → Type 0
 AreScopeElementsOf text entries in_body ws ls =
     (ps : List Placed) → AreWritten text entries ws ps → map (scope_element_of text) ls ≡ scope_elements_from text in_body (declared_names text ps) 0 ps
-
--- the elements of each scope, by its place in the table
-abbrev pub AreAllScopeElements : Config → List (Vec ScopeElementKept Global) → Type 0
-AreAllScopeElements c all =
-    (s : Scope) (visible : List Statement) (enclosing : List Scope) → Stands c s visible enclosing →
-    (ls : Vec ScopeElementKept Global) × (slice_get all (table_place c s) ≡ Some ls) × (map (scope_element_of c.text) ls.items ≡ elements_of_scope c s visible)
 
 -- the configuration string of an element that makes one: None where none is written
 abbrev pub string_where_made : Role → Option Span → Option (Option Span)
@@ -47,9 +39,3 @@ AreStringsOf text in_body ws ls = strings_of ls ≡ strings_made text in_body (n
 
 abbrev pub scope_strings : Config → Scope → List Statement → List (Option Span)
 scope_strings c s visible = strings_made c.text (is_body s) (scope_declared c s visible) (map (λ (p : Placed). p.element) (scope_placed c s visible))
-
--- the configuration strings of the elements of each scope, by its place in the table
-abbrev pub AreAllStrings : Config → List (Vec ScopeElementKept Global) → Type 0
-AreAllStrings c all =
-    (s : Scope) (visible : List Statement) (enclosing : List Scope) → Stands c s visible enclosing →
-    (ls : Vec ScopeElementKept Global) × (slice_get all (table_place c s) ≡ Some ls) × (strings_of ls.items ≡ scope_strings c s visible)

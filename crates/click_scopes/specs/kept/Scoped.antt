@@ -1,4 +1,4 @@
--- The table of the scopes of a configuration.
+-- The scopes of a configuration as they are written, in a table.
 use Rattle.std.specs.Prelude.{◌≡◌, ℕ, List, [], ◌∷◌, ◌++◌, reverse, length, map, flat_map, slice_get, Option, Some, None}
 use Rattle.click_text.specs.declared.syntax.Span.{Span}
 use Rattle.click_text.specs.declared.syntax.Link.{Link}
@@ -7,13 +7,13 @@ use Rattle.click_text.specs.declared.syntax.Statement.TheVariants as statement
 use Rattle.click_text.specs.Spans.{bytes_at}
 use Rattle.click_scopes.specs.Classes.{Meaning, meaning}
 use Rattle.click_scopes.specs.Faults.{port_number}
-use Rattle.click_scopes.specs.declared.scopes.WrittenElement.{WrittenElement}
+use Rattle.click_scopes.specs.declared.written_scopes.WrittenElement.{WrittenElement}
 use Rattle.click_text.specs.declared.syntax.Config.{Config}
 use Rattle.click_scopes.specs.Scopes.{Scope, whole, inside, statements_of, Stands}
 use Rattle.click_scopes.specs.Elements.{placed}
 use Rattle.click_scopes.specs.kept.Tables.{AreWritten, meaning_by}
 use Rattle.click_scopes.specs.declared.classes.ClassEntry.{ClassEntry}
-use Rattle.click_scopes.specs.declared.scopes.Scope.{Scope as ScopeKept}
+use Rattle.click_scopes.specs.declared.written_scopes.WrittenScope.{WrittenScope}
 
 -- the place of a scope in the table: that of its body, or the one after all bodies
 abbrev pub table_place : Config → Scope → ℕ
@@ -35,17 +35,17 @@ ports_of (statement.Requirement t) = []
 abbrev pub ports_in : List Statement → List (Option (ℕ × ℕ))
 ports_in ss = flat_map ports_of ss
 
--- A scope as the code keeps it.
-pub record IsScope (c : Config) (entries : List ClassEntry) (s : Scope) (visible : List Statement) (enclosing : List Scope) (k : ScopeKept) : Type 0 where
+-- A scope as it is written.
+pub record IsWrittenScope (c : Config) (entries : List ClassEntry) (s : Scope) (visible : List Statement) (enclosing : List Scope) (k : WrittenScope) : Type 0 where
   pub written : AreWritten c.text entries k.written.items (placed visible (statements_of c s))
   pub ports : map (λ (w : WrittenElement). w.ports) k.written.items ≡ ports_in (statements_of c s)
   pub outer : k.outer ≡ outer_of c enclosing
 
 -- each scope is in the table
-abbrev pub AreScopes : Config → List ClassEntry → List ScopeKept → Type 0
-AreScopes c entries ks =
+abbrev pub AreWrittenScopes : Config → List ClassEntry → List WrittenScope → Type 0
+AreWrittenScopes c entries ks =
     (s : Scope) (visible : List Statement) (enclosing : List Scope) → Stands c s visible enclosing →
-    (k : ScopeKept) × (slice_get ks (table_place c s) ≡ Some k) × IsScope c entries s visible enclosing k
+    (k : WrittenScope) × (slice_get ks (table_place c s) ≡ Some k) × IsWrittenScope c entries s visible enclosing k
 
 -- A synonym of a scope, and what its class means.
 pub record IsSynonym (c : Config) (original : Span) (m : Option Meaning) : Type 0 where

@@ -12,8 +12,8 @@ use Rattle.click_text.specs.Grammar.{element}
 use Rattle.click_text.specs.Spans.{bytes_at}
 use Rattle.click_scopes.specs.Classes.{Meaning, meaning}
 use Rattle.click_scopes.specs.Faults.{port_number}
-use Rattle.click_scopes.specs.declared.scopes.WrittenElement.{WrittenElement}
-use Rattle.click_scopes.specs.declared.scopes.NestedBody.{NestedBody}
+use Rattle.click_scopes.specs.declared.written_scopes.WrittenElement.{WrittenElement}
+use Rattle.click_scopes.specs.declared.written_scopes.NestedBody.{NestedBody}
 use Rattle.click_scopes.specs.declared.classes.ClassEntry.{ClassEntry}
 use Rattle.click_scopes.specs.Scopes.{bodies_in}
 use Rattle.click_scopes.specs.kept.Nesting.{direct}

@@ -7,7 +7,7 @@ use Rattle.click_text.specs.Spans.{bytes_at}
 use Rattle.click_text.specs.declared.syntax.Element.{Element}
 use Rattle.click_scopes.specs.Classes.{Meaning, primitive, compound, meaning}
 use Rattle.click_scopes.specs.Elements.{Placed, Role, pseudo, refers, makes, role, count_with, head_name, ScopeElement, string_or_empty}
-use Rattle.click_scopes.specs.declared.scopes.WrittenElement.{WrittenElement}
+use Rattle.click_scopes.specs.declared.written_scopes.WrittenElement.{WrittenElement}
 use Rattle.click_scopes.specs.declared.scope_elements.Role.{Role as RoleKept}
 use Rattle.click_scopes.specs.declared.scope_elements.Role.TheVariants as kept
 use Rattle.click_scopes.specs.declared.scope_elements.ScopeElement.{ScopeElement as ScopeElementKept}

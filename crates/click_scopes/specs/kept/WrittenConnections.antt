@@ -1,11 +1,7 @@
 -- The connections of each scope, as the code keeps them.
 use Rattle.std.specs.Prelude.{◌≡◌, ◌≢◌, List, [], ◌∷◌, slice_get, Some}
-use Rattle.click_text.specs.declared.syntax.Statement.{Statement}
-use Rattle.click_text.specs.declared.syntax.Config.{Config}
-use Rattle.click_scopes.specs.Scopes.{Scope, Stands}
 use Rattle.click_scopes.specs.Elements.{ScopeElement, pseudo, input_name, output_name}
-use Rattle.click_scopes.specs.Faults.{End, WrittenConnection, elements_of_scope, scope_connections}
-use Rattle.click_scopes.specs.kept.Scoped.{table_place}
+use Rattle.click_scopes.specs.Faults.{End, WrittenConnection}
 use Rattle.click_scopes.specs.declared.written_connections.Owner.{Owner}
 use Rattle.click_scopes.specs.declared.written_connections.Owner.TheVariants as owner
 use Rattle.click_scopes.specs.declared.written_connections.End.{End as EndKept}
@@ -33,9 +29,3 @@ AreWrittenConnections ls [] [] = Unit {0}
 AreWrittenConnections ls [] (j ∷ js) = ⊥
 AreWrittenConnections ls (k ∷ ks) [] = ⊥
 AreWrittenConnections ls (k ∷ ks) (j ∷ js) = IsWrittenConnection ls k j × AreWrittenConnections ls ks js
-
--- the connections of each scope as written, by its place in the table
-abbrev pub AreAllWrittenConnections : Config → List (List ConnectionKept) → Type 0
-AreAllWrittenConnections c all =
-    (s : Scope) (visible : List Statement) (enclosing : List Scope) → Stands c s visible enclosing →
-    (ks : List ConnectionKept) × (slice_get all (table_place c s) ≡ Some ks) × AreWrittenConnections (elements_of_scope c s visible) ks (scope_connections c s visible)

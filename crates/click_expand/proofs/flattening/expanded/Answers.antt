@@ -1,14 +1,6 @@
-use Rattle.std.proofs.Common.{sym, subst}
-use Rattle.click_scopes.specs.kept.ScopeElements.{AreAllScopeElements}
 use Rattle.click_expand.specs.Flat.{much_text}
 use Rattle.click_expand.proofs.OfAnswers.FormOrFault.{match-none, match-some, more-connections, joined-up}
 use Rattle.click_expand.proofs.flattening.expanded.Goals as goal
-
-pub elements_of-requires-clause-scope_elements : goal.elements_of-requires-clause-scope_elements
-elements_of-requires-clause-scope_elements c = subst (AreAllScopeElements c.args.config.now) (sym c.as_slice-scope_elements.ensures.value) c.requires.tables.scope_elements
-
-pub connections_of-requires-clause-scope_elements : goal.connections_of-requires-clause-scope_elements
-connections_of-requires-clause-scope_elements c = subst (AreAllScopeElements c.args.config.now) (sym c.as_slice-scope_elements.ensures.value) c.requires.tables.scope_elements
 
 pub returns-in_default : goal.returns-in_default
 returns-in_default c = λ primitive_elements known paths used few short. much_text (match-none c.in_ok-elements.field-0 _ _ c.in_default.is (c.in_ok-elements.ensures primitive_elements known used))

@@ -1,11 +1,7 @@
-use Rattle.std.proofs.Common.{inl, inr, sym, subst, ◌∙◌}
-use Rattle.click_scopes.specs.kept.ScopeElements.{AreAllScopeElements}
+use Rattle.std.proofs.Common.{inl, inr, subst, ◌∙◌}
 use Rattle.click_expand.specs.kept.Answered.{IsExpanded, IsExpandedOr, IsRefusedOf}
 use Rattle.click_expand.proofs.OfAnswers.FlatForms.{too-many-elements, too-many-paths, counted, too-many, answered, refused-by}
 use Rattle.click_expand.proofs.flattening.sound_flat.Goals as goal
-
-pub size_of-requires-clause-scope_elements : goal.size_of-requires-clause-scope_elements
-size_of-requires-clause-scope_elements c = subst (AreAllScopeElements c.args.config.now) (sym c.as_slice-scope_elements.ensures.value) c.requires.tables.scope_elements
 
 pub returns-then-size-gt-MOST_ELEMENTS-clause-err :
     goal.returns-then-size-gt-MOST_ELEMENTS-clause-err
@@ -14,9 +10,6 @@ returns-then-size-gt-MOST_ELEMENTS-clause-err c =
       | inl l ↦ too-many-elements c.args.config.now c.requires.nested c.requires.sound c.in_ok-size.size c.in_ok-size.ensures l
       | inr p ↦ too-many-paths c.args.config.now c.requires.nested c.requires.sound c.in_ok-size.size c.in_ok-size.ensures p.1
     ]
-
-pub instances_of-requires-clause-scope_elements : goal.instances_of-requires-clause-scope_elements
-instances_of-requires-clause-scope_elements c = subst (AreAllScopeElements c.args.config.now) (sym c.as_slice-scope_elements.ensures.value) c.requires.tables.scope_elements
 
 pub instances_of-requires-clause-counted : goal.instances_of-requires-clause-counted
 instances_of-requires-clause-counted c =
@@ -35,9 +28,6 @@ returns-in_default-clause-err c =
     let u = c.in_ok-instances.ensures k.primitive_elements c.in_ok-size.size.paths k.are in
     too-many c.args.config.now k.primitive_elements c.in_ok-size.size.paths c.requires.sound k.are
     (subst (IsExpandedOr c.args.config.now k.primitive_elements c.in_ok-size.size.paths) c.in_default.is (c.in_ok-flat.ensures k.primitive_elements u.0 c.in_ok-size.size.paths u.1 k.few c.if-size-gt-MOST_PATHS.false))
-
-pub refused_of-requires-clause-scope_elements : goal.refused_of-requires-clause-scope_elements
-refused_of-requires-clause-scope_elements c = subst (AreAllScopeElements c.args.config.now) (sym c.as_slice-scope_elements.ensures.value) c.requires.tables.scope_elements
 
 pub returns-in-Some-2-clause-err : goal.returns-in-Some-2-clause-err
 returns-in-Some-2-clause-err c =

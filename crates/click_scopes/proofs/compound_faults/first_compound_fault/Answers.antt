@@ -5,12 +5,12 @@ use Rattle.click_scopes.proofs.compound_faults.first_compound_fault.Goals as goa
 
 pub returns : goal.returns
 returns c =
-    compound_fault-least c.args.config.now c.requires.nested c.args.scope_elements.now c.args.arguments.now c.args.written_connections.now c.in_ok-ports.ports.items c.requires.scope_elements c.requires.arguments c.requires.joined
+    compound_fault-least c.args.config.now c.requires.nested c.args.scopes.now.scopes.items c.in_ok-ports.ports.items c.requires.scopes.all
     c.in_ok-ports.ensures c.as_slice-bodies.result.now c.as_slice.result.now c.as_slice-2.result.now _ c.in_bodies-inside.result c.in_scope-enclosing.result c.first_of.result
     c.as_slice-bodies.ensures c.as_slice.ensures.value c.as_slice-2.ensures.value (ap length c.as_slice-bodies.ensures) c.in_bodies-inside.ensures c.in_scope-enclosing.ensures c.first_of.ensures
 
 pub in_bodies-inside-requires : goal.in_bodies-inside-requires
-in_bodies-inside-requires c = subst AreShort (sym c.as_slice-bodies.ensures) c.requires.short
+in_bodies-inside-requires c = subst AreShort (sym c.as_slice-bodies.ensures) c.requires.scopes.short
 
 pub in_scope-enclosing-requires : goal.in_scope-enclosing-requires
-in_scope-enclosing-requires c = subst AreShort (sym c.as_slice-bodies.ensures) c.requires.short
+in_scope-enclosing-requires c = subst AreShort (sym c.as_slice-bodies.ensures) c.requires.scopes.short

@@ -8,7 +8,7 @@ use Rattle.click_scopes.proofs.name_faults.in_body.Goals as goal
 
 pub returns : goal.returns
 returns c =
-    let config = c.args.config.now in let all = c.args.scope_elements.now in let place = c.args.place in
+    let config = c.args.config.now in let all = c.args.scopes.now.scopes.items in let place = c.args.place in
     let a = c.in_ok-elements.elements in let b = c.in_ok-parameters.parameters in let text = c.as_slice-text.result.now in
     let fs = c.formals_at-formals.result.now in
     let same : fs ≡ formals_of config (inside place) = c.formals_at-formals.ensures ∙ ap (λ bs. body_formals (slice_get bs place)) c.as_slice.ensures in

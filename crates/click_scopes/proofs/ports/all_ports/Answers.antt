@@ -9,8 +9,8 @@ loop-place-init c = counted-first c.args.config.now c.new-ports.result.items c.n
 pub loop-place-preserved : goal.loop-place-preserved
 loop-place-preserved c =
     counted-next c.args.config.now c.loop-place.ports.items c.push.new.self.items c.loop-place.place c.ports_by.result
-    (body-ports c.args.config.now c.requires.nested c.args.written_connections.now c.requires.joined c.loop-place.place c.ports_by.result
-    (let t = c.loop-place-test.true in let e = c.len-place-end.ensures in omega (arith, t, e)) (subst (λ ks. IsPorts (inputs_kept ks) (outputs_kept ks) c.ports_by.result) c.written_connections_at.ensures c.ports_by.ensures))
+    (body-ports c.args.config.now c.requires.nested c.args.scopes.now.scopes.items c.requires.scopes.all c.loop-place.place c.ports_by.result
+    (let t = c.loop-place-test.true in let e = c.len-place-end.ensures in omega (arith, t, e)) (subst (λ ks. IsPorts (inputs_kept ks) (outputs_kept ks) c.ports_by.result) c.connections_at.ensures c.ports_by.ensures))
     c.in_ok-push.ensures.items c.loop-place.invariant
 
 pub returns : goal.returns

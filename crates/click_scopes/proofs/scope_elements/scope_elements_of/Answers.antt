@@ -1,5 +1,7 @@
-use Rattle.std.proofs.Common.{◌≡◌, ◌+◌, ◌∷◌, ◌++◌, [], length, drop, sym, ap, ◌∙◌, refl, rules}
+use Rattle.std.proofs.Common.{◌≡◌, ◌+◌, ◌∷◌, ◌++◌, [], All, length, drop, sym, ap, ◌∙◌, refl, rules, subst}
+use Rattle.std.proofs.lemmas.List.Elements.{All-nil, All-push}
 use Rattle.click_scopes.specs.kept.Tables.{role_kept}
+use Rattle.click_scopes.specs.kept.CompoundArguments.{HasArguments}
 use Rattle.click_scopes.proofs.OfElements.StatementElements.{with_left, made-more, made-other, made-all, kept-makes, strings_left, strings-makes, strings-other, strings-all}
 use Rattle.click_scopes.proofs.scope_elements.scope_elements_of.Goals as goal
 use Rattle.click_scopes.proofs.scope_elements.scope_elements_of.Goals.{in-Makes+in_ok-scope_element+in_ok-push, in_default}
@@ -22,6 +24,7 @@ loop-one-preserved c =
             strings = v.strings
                 ∙ strings-makes text b D ls l ws i _ _ c.loop-one-test.true refl m w.in_ok-scope_element.ensures.string
                 ∙ ap (λ x. strings_left text b D x (drop (i + 1) ws)) (sym is);
+            arguments = subst (All (HasArguments text)) (sym is) (All-push (HasArguments text) ls l v.arguments w.in_ok-scope_element.ensures.arguments);
           }
       | in_default w ↦
           let k = λ (e : role_kept c.role_of.result ≡ _). w.in_default.not-Makes (kept-makes c.role_of.result e) in
@@ -34,6 +37,7 @@ loop-one-preserved c =
             strings = v.strings
                 ∙ strings-other text b D ls ws i _ _ (role_kept c.role_of.result) c.loop-one-test.true refl (sym c.role_of.ensures) k
                 ∙ ap (λ x. strings_left text b D x (drop (i + 1) ws)) (sym same);
+            arguments = subst (All (HasArguments text)) (sym same) v.arguments;
           }
     ]
 
@@ -43,6 +47,7 @@ loop-one-init c =
     record {
       scope_elements = λ ps h. ap (λ x. with_left text b D x ps) (sym c.new-scope_elements.ensures.items);
       strings = ap (λ x. strings_left text b D x c.args.written.now) (sym c.new-scope_elements.ensures.items);
+      arguments = subst (All (HasArguments text)) (sym c.new-scope_elements.ensures.items) (All-nil (HasArguments text));
     }
 
 pub returns : goal.returns
@@ -50,4 +55,5 @@ returns c = record {
   scope_elements = λ ps h.
       sym (c.loop-one.invariant.scope_elements ps h ∙ made-all c.args.text.now c.args.in_body c.args.declared.now c.args.entries.now c.args.written.now ps h c.loop-one.scope_elements.items c.loop-one.one-index c.loop-one-test.false);
   strings = sym (c.loop-one.invariant.strings ∙ strings-all c.args.text.now c.args.in_body c.args.declared.now c.loop-one.scope_elements.items c.args.written.now c.loop-one.one-index c.loop-one-test.false);
+  arguments = c.loop-one.invariant.arguments;
 }

@@ -1,6 +1,6 @@
 use Rattle.std.proofs.Common.{length, ap, ◌∙◌, subst}
 use Rattle.std.proofs.lemmas.List.{length-map}
-use Rattle.click_scopes.specs.declared.scopes.WrittenElement.{WrittenElement}
+use Rattle.click_scopes.specs.declared.written_scopes.WrittenElement.{WrittenElement}
 use Rattle.click_scopes.specs.kept.Tables.{elements_of, names_declared, numbers_from}
 use Rattle.click_scopes.specs.Elements.{has_name}
 use Rattle.click_scopes.specs.kept.ConnectionEnds.{AreDeclared}

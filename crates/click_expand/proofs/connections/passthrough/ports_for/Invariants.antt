@@ -1,7 +1,8 @@
 use Rattle.std.proofs.Common.{ℕ, List, take}
+use Rattle.click_scopes.specs.kept.Lookups.{body_at}
 use Rattle.click_expand.specs.declared.connections.connection_index.ScopePort.{ScopePort}
-use Rattle.click_expand.specs.kept.Passthrough.{body_at, AreShortened, AreStoodFor}
+use Rattle.click_expand.specs.kept.Passthrough.{AreShortened, AreStoodFor}
 use Rattle.click_expand.proofs.connections.passthrough.ports_for.Given as goal
 
 abbrev pub invariant-loop-end : goal.invariant-loop-end
-invariant-loop-end l = (all short : ℕ → ScopePort → List ScopePort) → AreShortened all (body_at l.scope_elements) short l.done → AreStoodFor all (body_at l.scope_elements) short l.scope (take l.end-index l.ends) l.ports.keys
+invariant-loop-end l = (all short : ℕ → ScopePort → List ScopePort) → AreShortened all (body_at l.scopes.scopes.items) short l.done → AreStoodFor all (body_at l.scopes.scopes.items) short l.scope (take l.end-index l.ends) l.ports.keys

@@ -2,15 +2,16 @@ use Rattle.std.proofs.Common.{◌≡◌, ◌+◌, List, None, sym, ap, subst, �
 use Rattle.std.specs.List.{slice_get}
 use Rattle.std.specs.Option.{option_map}
 use Rattle.std.specs.Map.Iter.{deref_pair}
+use Rattle.click_scopes.specs.kept.Lookups.{body_at}
 use Rattle.click_expand.specs.declared.connections.connection_index.ScopePort.{ScopePort}
-use Rattle.click_expand.specs.kept.Passthrough.{body_at, AreStoodFor}
+use Rattle.click_expand.specs.kept.Passthrough.{AreStoodFor}
 use Rattle.click_expand.proofs.OfConnections.PortStandIns.{Reduces, changed-by, reduces-more, reduces-past, reduces-all}
 use Rattle.click_expand.proofs.connections.passthrough.with_stand_ins.Goals as goal
 use Rattle.click_expand.proofs.connections.passthrough.with_stand_ins.Goals.{in-Some+in_ok-ports+in_ok-insert+in-Some-1, in-Some+in_ok-ports+in_ok-insert+in-None-1, in_default}
 
 pub loop-at-preserved : goal.loop-at-preserved
 loop-at-preserved c = λ ends short known.
-    let body = body_at c.args.scope_elements.now in let s = c.args.scope in let raw = c.args.index.now.ends.entries in let i = c.loop-at.at in let old = c.loop-at.ends.entries in
+    let body = body_at c.args.scopes.now.scopes.items in let s = c.args.scope in let raw = c.args.index.now.ends.entries in let i = c.loop-at.at in let old = c.loop-at.ends.entries in
     let before = c.loop-at.invariant ends short known in
     elim c.match-get_index.branch [
       | in-Some+in_ok-ports+in_ok-insert+in-Some-1 w ↦
@@ -32,5 +33,5 @@ loop-at-preserved c = λ ends short known.
 
 pub returns : goal.returns
 returns c = λ ends short known is.
-    reduces-all ends (body_at c.args.scope_elements.now) short c.args.scope c.args.index.now.ends.entries c.loop-at.at c.loop-at.ends.entries
+    reduces-all ends (body_at c.args.scopes.now.scopes.items) short c.args.scope c.args.index.now.ends.entries c.loop-at.at c.loop-at.ends.entries
     (let n = c.len-at-end.ensures.len in let t = c.loop-at-test.false in omega (arith, n, t)) (c.loop-at.invariant ends short known) is

@@ -16,7 +16,7 @@ returns-then-len-gt-MOST_CONNECTIONS c = λ primitive_elements known are.
     λ k h. subst (λ (us : List Instance). Connects us indices k) c.as_slice.ensures.value (subst (λ (xs : List ConnectionIndex). Connects c.as_slice.result.now xs k) c.as_slice-2.ensures.value (c.in_ok-found.ensures.sound k h)) in (
       ordered,
       c.in_order-all.ensures.order,
-      ordered-sound c.args.config.now c.requires.nested c.requires.sound c.args.scope_elements.now c.requires.scope_elements c.args.written_connections.now c.requires.joined instances c.args.instances.now.primitive_elements.items
+      ordered-sound c.args.config.now c.requires.nested c.requires.sound c.args.scopes.now.scopes.items c.requires.scopes.all instances c.args.instances.now.primitive_elements.items
           c.in_ok-indices.ensures.0 indices c.in_ok-indices.ensures.1 c.in_ok-indices.ensures.2 c.in_ok-indices.ensures.3 found ordered
           c.in_order-all.ensures.order alike found_sound known primitive_elements are,
       (let n = c.len.ensures in let t = c.if-len-gt-MOST_CONNECTIONS.true in omega (arith, n, t)),
@@ -33,7 +33,7 @@ returns c = λ primitive_elements known are.
     λ few k h. c.in_ok-found.ensures.all few k
     (subst (λ (us : List Instance). Connects us c.as_slice-2.result.now k) (sym c.as_slice.ensures.value) (subst (λ (xs : List ConnectionIndex). Connects instances xs k) (sym c.as_slice-2.ensures.value) h)) in
     let few : length ordered ≤ most_connections = let n = c.len.ensures in let t = c.if-len-gt-MOST_CONNECTIONS.false in omega (arith, n, t) in (
-      ordered-all c.args.config.now c.requires.nested c.requires.sound c.args.scope_elements.now c.requires.scope_elements c.args.written_connections.now c.requires.joined instances c.args.instances.now.primitive_elements.items
+      ordered-all c.args.config.now c.requires.nested c.requires.sound c.args.scopes.now.scopes.items c.requires.scopes.all instances c.args.instances.now.primitive_elements.items
           c.in_ok-indices.ensures.0 indices c.in_ok-indices.ensures.1 c.in_ok-indices.ensures.2 c.in_ok-indices.ensures.3 found ordered
           c.in_order-all.ensures.order alike found_sound known primitive_elements are c.as_slice-3.ensures.unique found_all few,
       few,

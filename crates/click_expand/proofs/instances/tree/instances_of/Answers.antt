@@ -1,7 +1,7 @@
 use Rattle.std.proofs.Common.{◌≡◌, ◌<◌, ℕ, List, [], ◌∷◌, ◌++◌, Bool, true, None, sym, ap, ◌∙◌, subst}
 use Rattle.click_text.specs.declared.syntax.Config.{Config}
 use Rattle.click_expand.specs.Instances.{PrimitiveElement, PrimitiveElementsOf}
-use Rattle.click_expand.specs.kept.InstanceWalk.{instance_without_parts, IsWalkStep}
+use Rattle.click_expand.specs.kept.InstanceWalk.{instance_without_parts}
 use Rattle.click_expand.specs.declared.instances.tree.Instance.{Instance}
 use Rattle.click_expand.specs.declared.instances.tree.Walk.{Walk}
 use Rattle.click_expand.proofs.OfInstances.Frames.{Walking, at-within, walking-first}
@@ -29,7 +29,7 @@ step-requires-clause-there c =
 
 pub step-requires-clause-inward : goal.step-requires-clause-inward
 step-requires-clause-inward c =
-    inward c.args.config.now c.requires.nested c.args.scopes.now.scopes.items c.args.scopes.now.entries.items c.requires.scoped c.loop-more.walk c.requires.counted.0 c.args.paths
+    inward c.args.config.now c.requires.nested c.args.scopes.now.scopes.items c.requires.scopes.all c.loop-more.walk c.requires.counted.0 c.args.paths
     (walking-here c.args.config.now c.loop-more.more c.loop-more.walk c.requires.counted.0 c.args.paths c.loop-more-test.true (c.loop-more.invariant c.requires.counted.0 c.args.paths c.requires.counted.1))
 
 step-here : (c : In_ok-more) (primitive_elements : List PrimitiveElement) (n : ℕ) → PrimitiveElementsOf c.args.config.now primitive_elements n →
@@ -37,9 +37,7 @@ step-here : (c : In_ok-more) (primitive_elements : List PrimitiveElement) (n : �
 step-here c primitive_elements n h =
     let config = c.args.config.now in
     let w = walking-here config c.loop-more.more c.loop-more.walk primitive_elements n c.loop-more-test.true (c.loop-more.invariant primitive_elements n h) in
-    stepped config c.requires.nested c.args.scopes.now.scopes.items c.args.scopes.now.entries.items c.requires.scoped c.loop-more.walk c.step.new.walk primitive_elements n w
-    c.args.scope_elements.now c.requires.scope_elements c.in_ok-more.more
-    (subst (λ ks. IsWalkStep ks c.args.scope_elements.now c.loop-more.walk c.step.new.walk c.in_ok-more.more) c.as_slice-scopes.ensures.value c.in_ok-more.ensures)
+    stepped config c.requires.nested c.args.scopes.now.scopes.items c.requires.scopes.all c.loop-more.walk c.step.new.walk primitive_elements n w c.in_ok-more.more c.in_ok-more.ensures
 
 pub loop-more-smaller : goal.loop-more-smaller
 loop-more-smaller c =

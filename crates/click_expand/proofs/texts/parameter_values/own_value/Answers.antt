@@ -20,7 +20,7 @@ returns-in_err-place-clause-value c places known primitive_elements x are there 
     let l1 : c.args.at < length us = omega (arith, f1) in
     let l2 : p.within < c.args.at = omega (arith, f2) in
     let formals = c.formals_at-formals.ensures ∙ ap (λ z. body_formals (slice_get z one.scope)) c.as_slice.ensures in
-    let r = own-value C us places known primitive_elements are c.args.scope_elements.now c.args.arguments.now c.requires.scope_elements c.requires.arguments c.args.at one c.index-instances-outer.result x p
+    let r = own-value C us places known primitive_elements are c.args.scopes.now.scopes.items c.requires.scopes.all c.args.at one c.index-instances-outer.result x p
     c.index-instances-at.is l1 there c.in-Some.is c.index-instances-outer.is l2 c.as_slice-text.result.now c.args.name.now c.formals_at-formals.result.now c.formal_place.result c.as_slice-text.ensures formals c.formal_place.ensures in
     subst (λ z. IsValue C known z (scope_value C x.bindings x.scope c.args.name.now)) (sym c.from_residual.ensures) (r.2 ∙ ap (option_and_then (slice_get (own_arguments x.bindings))) c.in_err-place.was)
 
@@ -35,10 +35,10 @@ returns-in_err-span-clause-value c places known primitive_elements x are there =
     let l1 : c.args.at < length us = omega (arith, f1) in
     let l2 : p.within < c.args.at = omega (arith, f2) in
     let formals = c.formals_at-formals.ensures ∙ ap (λ z. body_formals (slice_get z one.scope)) c.as_slice.ensures in
-    let r = own-value C us places known primitive_elements are c.args.scope_elements.now c.args.arguments.now c.requires.scope_elements c.requires.arguments c.args.at one c.index-instances-outer.result x p
+    let r = own-value C us places known primitive_elements are c.args.scopes.now.scopes.items c.requires.scopes.all c.args.at one c.index-instances-outer.result x p
     c.index-instances-at.is l1 there c.in-Some.is c.index-instances-outer.is l2 c.as_slice-text.result.now c.args.name.now c.formals_at-formals.result.now c.formal_place.result c.as_slice-text.ensures formals c.formal_place.ensures in
     let i = c.in_ok-place.place in
-    let past = ap (λ z. slice_get z i) (sym c.spans_at.ensures) ∙ slice_get_past c.spans_at.result.now i c.in_err-span.ensures.lookup.3 in
+    let past = ap (λ z. slice_get z i) (sym c.arguments_at.ensures) ∙ slice_get_past c.arguments_at.result.now i c.in_err-span.ensures.lookup.3 in
     subst (λ z. IsValue C known z (scope_value C x.bindings x.scope c.args.name.now)) (sym c.from_residual-in_err-span.ensures)
     (r.2 ∙ ap (option_and_then (slice_get (own_arguments x.bindings))) c.in_ok-place.was ∙ no-value C r.0.bindings (r.0.scope ∷ r.0.enclosing) _ _ (own_arguments x.bindings) i r.3 past)
 
@@ -53,12 +53,12 @@ returns-clause-value c places known primitive_elements x are there =
     let l1 : c.args.at < length us = omega (arith, f1) in
     let l2 : p.within < c.args.at = omega (arith, f2) in
     let formals = c.formals_at-formals.ensures ∙ ap (λ z. body_formals (slice_get z one.scope)) c.as_slice.ensures in
-    let r = own-value C us places known primitive_elements are c.args.scope_elements.now c.args.arguments.now c.requires.scope_elements c.requires.arguments c.args.at one c.index-instances-outer.result x p
+    let r = own-value C us places known primitive_elements are c.args.scopes.now.scopes.items c.requires.scopes.all c.args.at one c.index-instances-outer.result x p
     c.index-instances-at.is l1 there c.in-Some.is c.index-instances-outer.is l2 c.as_slice-text.result.now c.args.name.now c.formals_at-formals.result.now c.formal_place.result c.as_slice-text.ensures formals c.formal_place.ensures in
     let o = r.0 in
     let i = c.in_ok-place.place in
     let span = c.in_ok-span.span.now in
-    let at = ap (λ z. slice_get z i) (sym c.spans_at.ensures) ∙ slice_get-get_or c.spans_at.result.now i span c.in_ok-span.ensures.lookup.3.0 ∙ ap Some (sym c.in_ok-span.ensures.lookup.1) in
+    let at = ap (λ z. slice_get z i) (sym c.arguments_at.ensures) ∙ slice_get-get_or c.arguments_at.result.now i span c.in_ok-span.ensures.lookup.3.0 ∙ ap Some (sym c.in_ok-span.ensures.lookup.1) in
     let q = value-beside C o.bindings (o.scope ∷ o.enclosing) _ _ (own_arguments x.bindings) i span r.3 at in (
       q.0,
       r.2 ∙ ap (option_and_then (slice_get (own_arguments x.bindings))) c.in_ok-place.was ∙ q.1,
@@ -73,4 +73,4 @@ returns-clause-short c =
     let e = ap length c.of.ensures in
     let f = ap length c.string_at-string.ensures in
     let t = ap length c.as_slice-text.ensures in
-    omega (arith, e, f, t, bytes-short c.string_at-string.result.now c.in_ok-span.span.now, found-short text (slice_get c.args.scope_elements.now scope) c.in-Some.outer.element)
+    omega (arith, e, f, t, bytes-short c.string_at-string.result.now c.in_ok-span.span.now, found-short text (slice_get c.args.scopes.now.scopes.items scope) c.in-Some.outer.element)

@@ -5,7 +5,7 @@ use Rattle.click_scopes.specs.kept.Standing.{written_ports}
 use Rattle.click_scopes.specs.kept.Tables.{Shows, IsMore}
 use Rattle.click_scopes.proofs.OfLists.StatementTables.{Kept}
 use Rattle.click_scopes.proofs.OfNames.Synonyms.{Renamed}
-use Rattle.click_scopes.proofs.scopes.written_of.Given as goal
+use Rattle.click_scopes.proofs.written_scopes.written_of.Given as goal
 
 abbrev pub invariant-loop-statement : goal.invariant-loop-statement
 invariant-loop-statement l = record {

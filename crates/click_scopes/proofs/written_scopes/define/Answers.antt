@@ -2,7 +2,7 @@ use Rattle.std.proofs.Common.{◌≡◌, ◌∷◌, None, Some, length, sym, sub
 use Rattle.std.proofs.lemmas.List.{append-nil}
 use Rattle.click_scopes.specs.kept.Tables.{Shows}
 use Rattle.click_scopes.proofs.OfLists.StatementTables.{defined}
-use Rattle.click_scopes.proofs.scopes.define.Goals as goal
+use Rattle.click_scopes.proofs.written_scopes.define.Goals as goal
 
 pub returns-in_ok-push-in-Some-clause-shows : goal.returns-in_ok-push-in-Some-clause-shows
 returns-in_ok-push-in-Some-clause-shows c = λ visible h.

@@ -4,7 +4,7 @@ use Rattle.click_scopes.specs.kept.Scoped.{ports_in}
 use Rattle.click_scopes.specs.kept.Standing.{written_ports}
 use Rattle.click_scopes.proofs.OfLists.StatementTables.{Kept, kept-first, kept-next, more-more}
 use Rattle.click_scopes.proofs.OfNames.Synonyms.{renamed-first, renamed-next, renamed-all, ports-next, ports-all}
-use Rattle.click_scopes.proofs.scopes.written_of.Goals as goal
+use Rattle.click_scopes.proofs.written_scopes.written_of.Goals as goal
 
 pub loop-statement-preserved : goal.loop-statement-preserved
 loop-statement-preserved c =

@@ -1,7 +1,7 @@
 use Rattle.std.proofs.Common.{◌≡◌, ◌++◌, map, drop}
 use Rattle.click_scopes.specs.Scopes.{link_bodies}
 use Rattle.click_scopes.specs.kept.Standing.{nested_body}
-use Rattle.click_scopes.proofs.scopes.push_link_nested_bodies.Given as goal
+use Rattle.click_scopes.proofs.written_scopes.push_link_nested_bodies.Given as goal
 
 abbrev pub invariant-loop-link : goal.invariant-loop-link
 invariant-loop-link l = l.nested_bodies.items ++ map (nested_body l.outer l.top) (link_bodies (drop l.link-index l.links)) ≡ l.fn.nested_bodies.items ++ map (nested_body l.outer l.top) (link_bodies l.links)

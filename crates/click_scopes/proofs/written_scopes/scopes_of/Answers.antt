@@ -2,9 +2,9 @@ use Rattle.std.proofs.Common.{◌≡◌, ◌+◌, [], length, refl, sym, ap, ◌
 use Rattle.std.specs.List.{slice_get}
 use Rattle.std.proofs.lemmas.List.{length_push, nil_from_length}
 use Rattle.click_scopes.specs.Scopes.{body_statements}
-use Rattle.click_scopes.specs.kept.Scoped.{AreScopes}
+use Rattle.click_scopes.specs.kept.Scoped.{AreWrittenScopes}
 use Rattle.click_scopes.proofs.OfBodies.ScopeWalk.{walk-first, walk-next, walked-all, walked-synonyms, taken}
-use Rattle.click_scopes.proofs.scopes.scopes_of.Goals as goal
+use Rattle.click_scopes.proofs.written_scopes.scopes_of.Goals as goal
 
 pub loop-nested_body-init : goal.loop-nested_body-init
 loop-nested_body-init c =
@@ -33,7 +33,7 @@ pub returns-clause-scopes : goal.returns-clause-scopes
 returns-clause-scopes c =
     let h = c.in_default.ensures.cases in
     let none : length c.loop-nested_body.nested_bodies.items ≡ 0 = omega (arith, h.0, c.loop-nested_body.nested_bodies.ok.0) in
-    subst (AreScopes c.args.config.now c.loop-nested_body.entries.items) (sym c.reverse.ensures.items)
+    subst (AreWrittenScopes c.args.config.now c.loop-nested_body.entries.items) (sym c.reverse.ensures.items)
     (walked-all c.args.config.now c.loop-nested_body.entries.items c.loop-nested_body.nested_bodies.items c.loop-nested_body.scopes.items c.requires (nil_from_length c.loop-nested_body.nested_bodies.items none) c.loop-nested_body.invariant)
 
 pub returns-clause-synonyms : goal.returns-clause-synonyms

@@ -1,6 +1,6 @@
 use Rattle.std.proofs.Common.{◌+◌, ◌-◌, length}
 use Rattle.click_scopes.proofs.OfBodies.ScopeWalk.{Walked}
-use Rattle.click_scopes.proofs.scopes.scopes_of.Given as goal
+use Rattle.click_scopes.proofs.written_scopes.scopes_of.Given as goal
 
 abbrev pub invariant-loop-nested_body : goal.invariant-loop-nested_body
 invariant-loop-nested_body l = Walked l.config l.entries.items l.nested_bodies.items l.scopes.items

@@ -1,0 +1,362 @@
+//! The scopes of a configuration as they are written: each body by its place, and after them the whole text.
+
+ghost use Rattle.std.specs.Prelude.{◌≡◌, List, [], ◌∷◌, ◌++◌, map, slice_get, IfOk, OnOk};
+ghost use Rattle.click_text.specs.declared.syntax.Statement.{Statement as Stated};
+ghost use Rattle.click_scopes.specs.Scopes.{bodies_in, class_bodies, head_bodies, link_bodies, body_statements};
+ghost use Rattle.click_scopes.specs.Elements.{placed};
+ghost use Rattle.click_scopes.specs.Faults as faults;
+ghost use Rattle.click_scopes.specs.kept.Tables.{Shows, AreWritten, IsMore, IsEntry};
+ghost use Rattle.click_scopes.specs.kept.Nesting.{IsNested};
+ghost use Rattle.click_scopes.specs.kept.Scoped.{AreWrittenScopes, AreSynonyms, ports_in};
+ghost use Rattle.click_scopes.specs.kept.Standing.{kept_link, kept_name, kept_elements, nested_body, AreNestedBodies, written_ports, IsDefined, AddsSynonyms};
+
+use crate::classes::{ClassEntry, ResolvedClass, find};
+use click_text::syntax::{
+    Body, Chain, ClassReference, Config, Declaration, Element, Head, Link, Statement, WrittenPort,
+};
+use std::alloc::{AllocError, Global};
+
+/// An element as it is written: the last definition that is visible there, and the ports that join it to the element before it.
+#[derive(Clone, Copy)]
+pub struct WrittenElement {
+    pub element: Element,
+    pub top: Option<usize>,
+    pub ports: Option<(u8, u8)>,
+}
+
+/// A body, the place of the scope that it stands in, and the last definition that is visible there.
+#[derive(Clone, Copy)]
+pub struct NestedBody {
+    pub body: usize,
+    pub outer: usize,
+    pub top: Option<usize>,
+}
+
+/// A scope as it is written: its elements, and the place of the scope that it stands in. The whole text names itself.
+#[derive(Drop)]
+pub struct WrittenScope {
+    pub written: Vec<WrittenElement>,
+    pub outer: usize,
+}
+
+/// The scopes of a configuration, each body at its own place and the whole text after them, and the definitions of classes in them.
+#[derive(Drop)]
+pub struct WrittenScopes {
+    pub scopes: Vec<WrittenScope>,
+    pub entries: Vec<ClassEntry>,
+}
+
+/// The number of a port. One that is not written is 0.
+fn port_number(port: Option<WrittenPort>) -> u8
+    ensures { result ≡ faults.port_number port }
+{
+    match port {
+        None => 0,
+        Some(port) => port.number,
+    }
+}
+
+/// Adds the further elements of a chain.
+fn push_links(
+    written: &mut Vec<WrittenElement>,
+    links: &[Link],
+    top: Option<usize>,
+) -> Result<(), AllocError>
+    ensures { OnOk result (written.new.items ≡ written.old.items ++ map (λ l. kept_link top l) links.now) }
+{
+    for link in links {
+        written.push(WrittenElement {
+            element: link.element,
+            top,
+            ports: Some((port_number(link.from), port_number(link.to))),
+        })?;
+    }
+    Ok(())
+}
+
+/// Adds the elements of a declaration of several names.
+fn push_names(
+    written: &mut Vec<WrittenElement>,
+    declaration: &Declaration,
+    top: Option<usize>,
+) -> Result<(), AllocError>
+    ensures { OnOk result (written.new.items ≡ written.old.items ++ map (λ n. kept_name declaration.now top n) declaration.now.names) }
+{
+    for name in declaration.names.as_slice() {
+        written.push(WrittenElement {
+            element: Element {
+                head: Head::Declared(*name, declaration.class),
+                text: declaration.text,
+            },
+            top,
+            ports: None,
+        })?;
+    }
+    Ok(())
+}
+
+/// Adds the first element of a chain and the further ones.
+fn push_chain(
+    written: &mut Vec<WrittenElement>,
+    chain: &Chain,
+    top: Option<usize>,
+) -> Result<(), AllocError>
+    ensures { OnOk result (written.new.items ≡ written.old.items ++ kept_elements top (Statement.Chain chain.now)) }
+{
+    written.push(WrittenElement {
+        element: chain.first,
+        top,
+        ports: None,
+    })?;
+    push_links(written, chain.links.as_slice(), top)
+}
+
+/// Adds the elements of a statement.
+fn push_elements(
+    written: &mut Vec<WrittenElement>,
+    statement: &Statement,
+    top: Option<usize>,
+) -> Result<(), AllocError>
+    ensures { OnOk result (written.new.items ≡ written.old.items ++ kept_elements top statement.now) }
+{
+    match statement {
+        Statement::Chain(chain) => push_chain(written, chain, top),
+        Statement::Declaration(declaration) => push_names(written, declaration, top),
+        _ => Ok(()),
+    }
+}
+
+/// Adds a body that stands in a scope.
+fn push_nested_body(
+    nested_bodies: &mut Vec<NestedBody>,
+    body: usize,
+    outer: usize,
+    top: Option<usize>,
+) -> Result<(), AllocError>
+    ensures { OnOk result (nested_bodies.new.items ≡ nested_bodies.old.items ++ map (nested_body outer top) (body ∷ [])) }
+{
+    nested_bodies.push(NestedBody { body, outer, top })?;
+    Ok(())
+}
+
+fn push_class_nested_body(
+    nested_bodies: &mut Vec<NestedBody>,
+    class: ClassReference,
+    outer: usize,
+    top: Option<usize>,
+) -> Result<(), AllocError>
+    ensures { OnOk result (nested_bodies.new.items ≡ nested_bodies.old.items ++ map (nested_body outer top) (class_bodies class)) }
+{
+    match class {
+        ClassReference::Named(_) => Ok(()),
+        ClassReference::Body(body) => push_nested_body(nested_bodies, body, outer, top),
+    }
+}
+
+fn push_head_nested_body(
+    nested_bodies: &mut Vec<NestedBody>,
+    head: Head,
+    outer: usize,
+    top: Option<usize>,
+) -> Result<(), AllocError>
+    ensures { OnOk result (nested_bodies.new.items ≡ nested_bodies.old.items ++ map (nested_body outer top) (head_bodies head)) }
+{
+    match head {
+        Head::Word(_) => Ok(()),
+        Head::Declared(_, class) => push_class_nested_body(nested_bodies, class, outer, top),
+        Head::Compound(body) => push_nested_body(nested_bodies, body, outer, top),
+    }
+}
+
+fn push_link_nested_bodies(
+    nested_bodies: &mut Vec<NestedBody>,
+    links: &[Link],
+    outer: usize,
+    top: Option<usize>,
+) -> Result<(), AllocError>
+    ensures { OnOk result (nested_bodies.new.items ≡ nested_bodies.old.items ++ map (nested_body outer top) (link_bodies links.now)) }
+{
+    for link in links {
+        push_head_nested_body(nested_bodies, link.element.head, outer, top)?;
+    }
+    Ok(())
+}
+
+fn push_chain_nested_bodies(
+    nested_bodies: &mut Vec<NestedBody>,
+    chain: &Chain,
+    outer: usize,
+    top: Option<usize>,
+) -> Result<(), AllocError>
+    ensures { OnOk result (nested_bodies.new.items ≡ nested_bodies.old.items ++ map (nested_body outer top) (bodies_in (Statement.Chain chain.now))) }
+{
+    push_head_nested_body(nested_bodies, chain.first.head, outer, top)?;
+    push_link_nested_bodies(nested_bodies, chain.links.as_slice(), outer, top)
+}
+
+/// Adds the bodies that stand in a statement.
+fn push_nested_bodies(
+    nested_bodies: &mut Vec<NestedBody>,
+    statement: &Statement,
+    outer: usize,
+    top: Option<usize>,
+) -> Result<(), AllocError>
+    ensures { OnOk result (nested_bodies.new.items ≡ nested_bodies.old.items ++ map (nested_body outer top) (bodies_in statement.now)) }
+{
+    match statement {
+        Statement::Chain(chain) => push_chain_nested_bodies(nested_bodies, chain, outer, top),
+        Statement::Declaration(declaration) => {
+            push_class_nested_body(nested_bodies, declaration.class, outer, top)
+        }
+        Statement::Definition { name: _, body } => push_nested_body(
+            nested_bodies,
+            *body,
+            outer,
+            top,
+        ),
+        _ => Ok(()),
+    }
+}
+
+/// The definition that a statement makes, after those up to `top`.
+fn entry_of(
+    text: &[u8],
+    entries: &[ClassEntry],
+    statement: &Statement,
+    top: Option<usize>,
+) -> Option<ClassEntry>
+    ensures { (visible : List Stated) → Shows text.now entries.now top visible → IsEntry text.now visible top statement.now result }
+{
+    match statement {
+        Statement::Definition { name, body } => Some(ClassEntry {
+            name: *name,
+            class: Some(ResolvedClass::Compound(*body)),
+            older: top,
+            original: None,
+        }),
+        Statement::Synonym { name, class } => Some(ClassEntry {
+            name: *name,
+            class: find(text, entries, top, *class),
+            older: top,
+            original: Some(*class),
+        }),
+        _ => None,
+    }
+}
+
+/// Adds the definition that a statement makes, and says what is visible after it.
+fn define(
+    text: &[u8],
+    entries: &mut Vec<ClassEntry>,
+    statement: &Statement,
+    top: Option<usize>,
+) -> Result<Option<usize>, AllocError>
+    ensures grows { IsMore entries.old.items entries.new.items }
+    ensures shows { IfOk result (λ behind. (visible : List Stated) → Shows text.now entries.old.items top visible → Shows text.now entries.new.items behind (statement.now ∷ visible)) }
+    ensures adds { OnOk result ((visible : List Stated) → Shows text.now entries.old.items top visible → IsDefined text.now visible top statement.now entries.old.items entries.new.items) }
+{
+    match entry_of(text, entries.as_slice(), statement, top) {
+        None => Ok(top),
+        Some(entry) => {
+            let place = entries.len();
+            entries.push(entry)?;
+            Ok(Some(place))
+        }
+    }
+}
+
+/// The elements of a scope, whose definitions and bodies are added.
+fn written_of(
+    alloc: Global,
+    text: &[u8],
+    statements: &[Statement],
+    entries: &mut Vec<ClassEntry>,
+    nested_bodies: &mut Vec<NestedBody>,
+    scope: usize,
+    outside: Option<usize>,
+) -> Result<Vec<WrittenElement>, AllocError>
+    ensures grows { IsMore entries.old.items entries.new.items }
+    ensures written { IfOk result (λ ws. (visible : List Stated) → Shows text.now entries.old.items outside visible → AreWritten text.now entries.new.items ws.items (placed visible statements.now)) }
+    ensures nested_bodies { OnOk result ((visible : List Stated) → Shows text.now entries.old.items outside visible → AreNestedBodies text.now entries.new.items scope visible statements.now nested_bodies.old.items nested_bodies.new.items) }
+    ensures ports { IfOk result (λ ws. written_ports ws.items ≡ ports_in statements.now) }
+    ensures synonyms { OnOk result ((visible : List Stated) → Shows text.now entries.old.items outside visible → AddsSynonyms text.now visible statements.now entries.old.items entries.new.items) }
+{
+    let mut written = Vec::new(alloc);
+    let mut top = outside;
+    for statement in statements {
+        push_elements(&mut written, statement, top)?;
+        push_nested_bodies(nested_bodies, statement, scope, top)?;
+        top = define(text, entries, statement, top)?;
+    }
+    Ok(written)
+}
+
+/// The statements of the body at a place.
+fn statements_at(bodies: &[Body], place: usize) -> &[Statement]
+    ensures { result.now ≡ body_statements (slice_get bodies.now place) }
+{
+    match bodies.get(place) {
+        Some(body) => body.statements.as_slice(),
+        None => &[],
+    }
+}
+
+/// Adds a scope at the end.
+fn push_scope(scopes: &mut Vec<WrittenScope>, scope: WrittenScope) -> Result<(), AllocError>
+    ensures { OnOk result (scopes.new.items ≡ scopes.old.items ++ scope ∷ []) }
+{
+    scopes.push(scope)?;
+    Ok(())
+}
+
+/// The scopes of a configuration, and the definitions of classes in them.
+pub fn scopes_of(alloc: Global, config: &Config) -> Result<WrittenScopes, AllocError>
+    requires { IsNested config.now }
+    ensures scopes { IfOk result (λ r. AreWrittenScopes config.now r.entries.items r.scopes.items) }
+    ensures synonyms { IfOk result (λ r. AreSynonyms config.now r.entries.items) }
+{
+    let text = config.text.as_slice();
+    let bodies = config.bodies.as_slice();
+    let statements = config.statements.as_slice();
+    let count = bodies.len();
+    let mut entries = Vec::new(alloc);
+    let mut nested_bodies = Vec::new(alloc);
+    let mut scopes = Vec::new(alloc);
+    let written = written_of(
+        alloc,
+        text,
+        statements,
+        &mut entries,
+        &mut nested_bodies,
+        count,
+        None,
+    )?;
+    push_scope(
+        &mut scopes,
+        WrittenScope {
+            written,
+            outer: count,
+        },
+    )?;
+    while let Some(nested_body) = nested_bodies.pop() {
+        let inner = statements_at(bodies, nested_body.body);
+        let written = written_of(
+            alloc,
+            text,
+            inner,
+            &mut entries,
+            &mut nested_bodies,
+            nested_body.body,
+            nested_body.top,
+        )?;
+        push_scope(
+            &mut scopes,
+            WrittenScope {
+                written,
+                outer: nested_body.outer,
+            },
+        )?;
+    }
+    scopes.reverse();
+    Ok(WrittenScopes { scopes, entries })
+}
