@@ -1,27 +1,20 @@
 -- Rows of a table, and the list that they must be.
-use Rattle.std.proofs.Common.{◌≡◌, ℕ, ◌<◌, ◌≤◌, ◌+◌, zero, suc, List, [], ◌∷◌, map, length, take, get_or, Bool, true, false, ◌||◌, ◌&&◌, Some, slice_get, option_map, refl, sym, ◌∙◌, ap, arith, rules}
-use Rattle.std.specs.Prelude.{IsTrue}
+use Rattle.std.proofs.Common.{◌≡◌, ℕ, ◌<◌, ◌≤◌, ◌+◌, List, [], ◌∷◌, ◌++◌, map, length, take, drop, get_or, Bool, true, false, ◌||◌, ◌&&◌, Some, refl, sym, ◌∙◌, ap, arith}
+use Rattle.std.proofs.lemmas.List.{drop_more, append_cancel_left, take_all}
+use Rattle.std.proofs.lemmas.List.Folds.{list_any-append, list_any_at}
 use Rattle.std.specs.List.{list_any}
 use Rattle.std.specs.Str.{bytes_eq}
+use Rattle.std.specs.Prelude.{IsTrue}
 use Rattle.std.proofs.lemmas.Slice.Eq.{bytes_eq-Decides}
-use Rattle.std.proofs.lemmas.Option.{slice_get-map, slice_get-get_or}
 use Rattle.click_base.specs.Classes.{name as class_name}
 use Rattle.click_base.specs.declared.class.Class.{Class}
+use Rattle.click_base.specs.declared.class.Class.TheVariants as class
 use Rattle.click_base.proofs.ClassNames.{named}
-use Rattle.click_handlers.specs.Names.{HandlerName, of_class, is_named, read_names, write_names}
+use Rattle.click_handlers.specs.Names.{HandlerName, of_class, is_named, handled, names_by, reads_of, writes_of, read_names, write_names, has_read, has_write}
 
 pub list_any_map : {A B : Type 0} (p : B → Bool) (f : A → B) (xs : List A) → list_any p (map f xs) ≡ list_any (λ x. p (f x)) xs
 list_any_map p f [] = refl
 list_any_map p f (x ∷ xs) = ap (λ b. p (f x) || b) (list_any_map p f xs)
-
--- one that passes is enough
-pub list_any_at : {A : Type 0} (p : A → Bool) (xs : List A) (i : ℕ) (d : A) → i < length xs → p (get_or xs i d) ≡ true → list_any p xs ≡ true
-list_any_at p [] i d lt is = absurd (omega arith)
-list_any_at p (x ∷ xs) zero d lt is = ap (λ b. b || list_any p xs) is
-list_any_at p (x ∷ xs) (suc i) d lt is = let e = list_any_at p xs i d (omega arith) is in or_true (p x) (list_any p xs) e where
-  or_true : (a b : Bool) → b ≡ true → (a || b) ≡ true
-  or_true true b e = refl
-  or_true false b e = e
 
 -- classes with one name are one class
 pub same_by_name : (a b : Class) → class_name a ≡ class_name b → a ≡ b
@@ -33,109 +26,152 @@ both : (a b : Bool) → (a && b) ≡ true → (a ≡ true) × (b ≡ true)
 both true b e = (refl, e)
 both false b e = cc
 
-pub same_row : (class : Class) (name : List ℕ) (r : HandlerName) → is_named class name r ≡ true → (r.class ≡ class) × (r.name ≡ name)
+pub same_row : (class : Class) (name : List ℕ) (r : HandlerName) → is_named class name r ≡ true → r ≡ of_class class name
 same_row class name r is =
     let parts = both (bytes_eq (class_name r.class) (class_name class)) (bytes_eq r.name name) is in
-    (same_by_name r.class class ((bytes_eq-Decides (class_name r.class) (class_name class)).0 parts.0), (bytes_eq-Decides r.name name).0 parts.1)
+    let c = same_by_name r.class class ((bytes_eq-Decides (class_name r.class) (class_name class)).0 parts.0) in
+    ap (λ k. of_class k r.name) c ∙ ap (λ m. of_class class m) ((bytes_eq-Decides r.name name).0 parts.1)
 
 pub is_named_itself : (class : Class) (name : List ℕ) → is_named class name (of_class class name) ≡ true
 is_named_itself class name = rw ((bytes_eq-Decides (class_name class) (class_name class)).1 refl) ((bytes_eq-Decides name name).1 refl)
 
-take_past : {A : Type 0} (n : ℕ) (xs : List A) → length xs ≤ n → take n xs ≡ xs
-take_past zero [] le = refl
-take_past zero (x ∷ xs) le = absurd (omega arith)
-take_past (suc n) [] le = refl
-take_past (suc n) (x ∷ xs) le = ap (λ ys. x ∷ ys) (take_past n xs (omega arith))
+-- the row of the next name
+pub next_row : {A B : Type 0} (f : A → HandlerName) (g : B → HandlerName) (rest others : List A) (row : A) (names : List B) (i : ℕ) (n : B) (h : HandlerName) (more : List HandlerName) (Whole : Type 0)
+    → rest ≡ row ∷ others → i < length names → h ≡ g (get_or names i n) → f row ≡ h
+    → ((map f rest ≡ map g (drop i names) ++ more → Whole) × (Whole → map f rest ≡ map g (drop i names) ++ more))
+    → (map f others ≡ map g (drop (i + 1) names) ++ more → Whole) × (Whole → map f others ≡ map g (drop (i + 1) names) ++ more)
+next_row f g rest others row names i n h more Whole is lt at same whole =
+    let split : drop i names ≡ get_or names i n ∷ drop (i + 1) names = drop_more names i n lt in
+    let here : map f rest ≡ f row ∷ map f others = ap (map f) is in
+    let there : map g (drop i names) ++ more ≡ g (get_or names i n) ∷ (map g (drop (i + 1) names) ++ more) = ap (λ l. map g l ++ more) split in
+    (λ e. whole.0 (here ∙ one_before (f row) (g (get_or names i n)) _ _ (same ∙ at) e ∙ sym there), λ w. behind_one (f row) (g (get_or names i n)) _ _ (sym here ∙ whole.1 w ∙ there)) where
+      one_before : (x y : HandlerName) (xs ys : List HandlerName) → x ≡ y → xs ≡ ys → x ∷ xs ≡ y ∷ ys
+      one_before x y xs ys e es = cc
 
--- a row that has the class and the name is one of the list
-pub found_row : {A : Type 0} (f : A → HandlerName) (rows : List A) (table : List HandlerName) (class : Class) (name : List ℕ) (i : ℕ) (x : A) → map f rows ≡ table → i < length rows → x ≡ get_or rows i x → is_named class name (f x) ≡ true → list_any (is_named class name) table ≡ true
-found_row f rows table class name i x listed lt here is =
-    ap (list_any (is_named class name)) (sym listed) ∙ list_any_map (is_named class name) f rows ∙ list_any_at (λ y. is_named class name (f y)) rows i x lt (ap (λ y. is_named class name (f y)) (sym here) ∙ is)
+      behind_one : (x y : HandlerName) (xs ys : List HandlerName) → x ∷ xs ≡ y ∷ ys → xs ≡ ys
+      behind_one x y xs ys e = cc
 
-pub no_row : {A : Type 0} (f : A → HandlerName) (rows : List A) (table : List HandlerName) (class : Class) (name : List ℕ) (n : ℕ) → map f rows ≡ table → length rows ≤ n → list_any (λ x. is_named class name (f x)) (take n rows) ≡ false → list_any (is_named class name) table ≡ false
-no_row f rows table class name n listed le none =
-    ap (list_any (is_named class name)) (sym listed) ∙ list_any_map (is_named class name) f rows ∙ ap (list_any (λ x. is_named class name (f x))) (sym (take_past n rows le)) ∙ none
+-- a row that is another's
+pub other_row : {A B : Type 0} (f : A → HandlerName) (g : B → HandlerName) (rest others : List A) (row : A) (names : List B) (i : ℕ) (n : B) (h : HandlerName) (more : List HandlerName)
+    → rest ≡ row ∷ others → i < length names → h ≡ g (get_or names i n) → is_named h.class h.name (f row) ≡ false
+    → map f rest ≡ map g (drop i names) ++ more → ⊥
+other_row f g rest others row names i n h more is lt at isnt e =
+    let split : drop i names ≡ get_or names i n ∷ drop (i + 1) names = drop_more names i n lt in
+    let heads : f row ∷ map f others ≡ g (get_or names i n) ∷ (map g (drop (i + 1) names) ++ more) = sym (ap (map f) is) ∙ e ∙ ap (λ l. map g l ++ more) split in
+    let same : f row ≡ h = first_one (f row) (g (get_or names i n)) _ _ heads ∙ sym at in
+    let yes : is_named h.class h.name (f row) ≡ true = ap (is_named h.class h.name) same ∙ is_named_itself h.class h.name in
+    cc where
+      first_one : (x y : HandlerName) (xs ys : List HandlerName) → x ∷ xs ≡ y ∷ ys → x ≡ y
+      first_one x y xs ys e = cc
 
-pub same_by_gets : {A : Type 0} (xs ys : List A) → length xs ≡ length ys → ((k : ℕ) → k < length ys → slice_get xs k ≡ slice_get ys k) → xs ≡ ys
-same_by_gets [] [] len same = refl
-same_by_gets [] (y ∷ ys) len same = absurd (omega (arith, len))
-same_by_gets (x ∷ xs) [] len same = absurd (omega (arith, len))
-same_by_gets (x ∷ xs) (y ∷ ys) len same =
-    let head : Some x ≡ Some y = same 0 (omega arith) in
-    let tail : xs ≡ ys = same_by_gets xs ys (omega (arith, len)) (λ k lt. same (suc k) (omega arith)) in cc
+-- no row where a name is to come
+pub no_next_row : {A B : Type 0} (f : A → HandlerName) (g : B → HandlerName) (rest : List A) (names : List B) (i : ℕ) (n : B) (more : List HandlerName)
+    → length rest ≡ 0 → i < length names → map f rest ≡ map g (drop i names) ++ more → ⊥
+no_next_row f g rest names i n more is lt e =
+    let split : drop i names ≡ get_or names i n ∷ drop (i + 1) names = drop_more names i n lt in
+    let heads : [] ≡ g (get_or names i n) ∷ (map g (drop (i + 1) names) ++ more) = sym (ap (map f) (empty rest is)) ∙ e ∙ ap (λ l. map g l ++ more) split in
+    cc where
+      empty : {A : Type 0} (xs : List A) → length xs ≡ 0 → xs ≡ []
+      empty [] e = refl
+      empty (x ∷ xs) e = absurd (omega (arith, e))
 
--- the row at a place, once its class and name were compared
-pub got_row : {A : Type 0} (f : A → HandlerName) (rows : List A) (i : ℕ) (x : A) (class : Class) (name : List ℕ) → i < length rows → x ≡ get_or rows i x → is_named class name (f x) ≡ true → slice_get (map f rows) i ≡ Some (of_class class name)
-got_row f rows i x class name lt here is =
-    let same = same_row class name (f x) is in
-    let eta : f x ≡ of_class class name = row_parts (f x) class name same.0 same.1 in
-    slice_get-map f rows i ∙ ap (option_map f) (slice_get-get_or rows i x lt ∙ ap Some (sym here)) ∙ ap Some eta where
-      row_parts : (r : HandlerName) (class : Class) (name : List ℕ) → r.class ≡ class → r.name ≡ name → r ≡ of_class class name
-      row_parts r class name c n = ap (λ k. of_class k r.name) c ∙ ap (λ m. of_class class m) n
+-- the classes up to one have the handlers of those before it, and its own
+pub next_class : (names_of : Class → List (List ℕ)) (cs : List Class) (i : ℕ) (d c : Class) → i < length cs → c ≡ get_or cs i d
+    → names_by names_of (drop i cs) ≡ map (of_class c) (names_of c) ++ names_by names_of (drop (i + 1) cs)
+next_class names_of cs i d c lt at = ap (names_by names_of) (drop_more cs i d lt ∙ ap (λ x. x ∷ drop (i + 1) cs) (sym at))
 
-pub other_row : {A : Type 0} (f : A → HandlerName) (rows : List A) (table : List HandlerName) (i : ℕ) (x : A) (class : Class) (name : List ℕ) → i < length rows → x ≡ get_or rows i x → slice_get table i ≡ Some (of_class class name) → is_named class name (f x) ≡ false → map f rows ≡ table → ⊥
-other_row f rows table i x class name lt here at isnt listed =
-    let got : Some (f x) ≡ Some (of_class class name) = sym (slice_get-map f rows i ∙ ap (option_map f) (slice_get-get_or rows i x lt ∙ ap Some (sym here))) ∙ ap (λ t. slice_get t i) listed ∙ at in
-    let fx : f x ≡ of_class class name = cc in
-    let yes : is_named class name (f x) ≡ true = ap (is_named class name) fx ∙ is_named_itself class name in
-    cc
+-- by a class's names, whether a list has a handler of it
+any_of : (names_of : Class → List (List ℕ)) (class : Class) (handler : List ℕ) (cs : List Class)
+    → list_any (is_named class handler) (names_by names_of cs) ≡ (list_any (λ c. bytes_eq (class_name c) (class_name class)) cs && list_any (λ n. bytes_eq n handler) (names_of class))
+any_of names_of class handler [] = refl
+any_of names_of class handler (c ∷ cs) =
+    list_any-append (is_named class handler) (map (of_class c) (names_of c)) (names_by names_of cs)
+    ∙ ap (λ b. b || list_any (is_named class handler) (names_by names_of cs)) (list_any_map (is_named class handler) (of_class c) (names_of c))
+    ∙ ap (λ b. list_any (λ n. is_named class handler (of_class c n)) (names_of c) || b) (any_of names_of class handler cs)
+    ∙ go (bytes_eq (class_name c) (class_name class)) refl where
+      own : (xs : List (List ℕ)) (b : Bool) → bytes_eq (class_name c) (class_name class) ≡ b → list_any (λ n. is_named class handler (of_class c n)) xs ≡ (b && list_any (λ n. bytes_eq n handler) xs)
+      own [] true e = refl
+      own [] false e = refl
+      own (x ∷ xs) true e = rw (e, own xs true e) refl
+      own (x ∷ xs) false e = rw (e, own xs false e) refl
 
-pub read_names_len : length read_names ≡ 31
+      or_itself : (a b : Bool) → (b || (a && b)) ≡ b
+      or_itself true true = refl
+      or_itself true false = refl
+      or_itself false true = refl
+      or_itself false false = refl
+
+      go : (b : Bool) → bytes_eq (class_name c) (class_name class) ≡ b
+          → (list_any (λ n. is_named class handler (of_class c n)) (names_of c) || (list_any (λ c. bytes_eq (class_name c) (class_name class)) cs && list_any (λ n. bytes_eq n handler) (names_of class)))
+          ≡ ((bytes_eq (class_name c) (class_name class) || list_any (λ c. bytes_eq (class_name c) (class_name class)) cs) && list_any (λ n. bytes_eq n handler) (names_of class))
+      go true e =
+          let same : c ≡ class = same_by_name c class ((bytes_eq-Decides (class_name c) (class_name class)).0 e) in
+          rw (own (names_of c) true e, e, same) (or_itself (list_any (λ c. bytes_eq (class_name c) (class_name class)) cs) (list_any (λ n. bytes_eq n handler) (names_of class)))
+      go false e = rw (own (names_of c) false e, e) refl
+
+-- a class that is not among those with handlers has no names, by computing it for each class
+handled_reads : (class : Class) (handler : List ℕ) → (list_any (λ c. bytes_eq (class_name c) (class_name class)) handled && has_read class handler) ≡ has_read class handler
+unfolding reads_of
+handled_reads class.Queue handler = refl
+handled_reads _ handler = refl
+
+handled_writes : (class : Class) (handler : List ℕ) → (list_any (λ c. bytes_eq (class_name c) (class_name class)) handled && has_write class handler) ≡ has_write class handler
+unfolding writes_of
+handled_writes class.Queue handler = refl
+handled_writes _ handler = refl
+
+pub read_listed : (class : Class) (handler : List ℕ) → list_any (is_named class handler) read_names ≡ has_read class handler
 unfolding read_names
-read_names_len = refl
+read_listed class handler = any_of reads_of class handler handled ∙ handled_reads class handler
 
-pub write_names_len : length write_names ≡ 27
+pub write_listed : (class : Class) (handler : List ℕ) → list_any (is_named class handler) write_names ≡ has_write class handler
 unfolding write_names
-write_names_len = refl
+write_listed class handler = any_of writes_of class handler handled ∙ handled_writes class handler
 
-pub length_mapped : {A B : Type 0} (f : A → B) (xs : List A) → length (map f xs) ≡ length xs
-length_mapped f [] = refl
-length_mapped f (x ∷ xs) = ap suc (length_mapped f xs)
+-- among names that are lent
+pub among : {B : Type 0} (g : B → List ℕ) (xs : List B) (names : List (List ℕ)) (handler : List ℕ) → map g xs ≡ names → list_any (λ n. bytes_eq (g n) handler) xs ≡ list_any (λ n. bytes_eq n handler) names
+among g xs names handler e = sym (list_any_map (λ n. bytes_eq n handler) g xs) ∙ ap (list_any (λ n. bytes_eq n handler)) e
 
 pub never : (P : Type 0) → (P → ⊥) → (IsTrue false → P) × (P → IsTrue false)
 never P isnt = (λ h. absurd (no_false h), λ p. absurd (isnt p)) where
   no_false : IsTrue false → ⊥
   no_false h = cc
 
-pub always : (P : Type 0) → P → (IsTrue true → P) × (P → IsTrue true)
-always P p = (λ _. p, λ _. search rules)
+-- a class's names, as they are lent
+lent : {B : Type 0} (v : B → List ℕ) (class : Class) (xs : List B) (names : List (List ℕ)) → map v xs ≡ names → map (λ n. of_class class (v n)) xs ≡ map (of_class class) names
+lent {B = B} v class xs names e = each xs ∙ ap (map (of_class class)) e where
+  each : (ys : List B) → map (λ n. of_class class (v n)) ys ≡ map (of_class class) (map v ys)
+  each [] = refl
+  each (y ∷ ys) = ap (λ l. of_class class (v y) ∷ l) (each ys)
 
--- lists of other lengths are not one
-pub other_length : {A : Type 0} (f : A → HandlerName) (rows : List A) (table : List HandlerName) (n : ℕ) → length table ≡ n → (length rows ≡ n → ⊥) → map f rows ≡ table → ⊥
-other_length f rows table n len ne listed = ne (sym (length_mapped f rows) ∙ ap length listed ∙ len)
+-- the rows of the next class's names, and those behind them
+pub behind_class : {A B : Type 0} (f : A → HandlerName) (v : B → List ℕ) (names_of : Class → List (List ℕ)) (cs : List Class) (rest others : List A) (xs : List B) (i : ℕ) (d c : Class) (Whole : Type 0)
+    → i < length cs → c ≡ get_or cs i d → map v xs ≡ names_of c → map f rest ≡ map (λ n. of_class c (v n)) xs ++ map f others
+    → ((map f rest ≡ names_by names_of (drop i cs) → Whole) × (Whole → map f rest ≡ names_by names_of (drop i cs)))
+    → (map f others ≡ names_by names_of (drop (i + 1) cs) → Whole) × (Whole → map f others ≡ names_by names_of (drop (i + 1) cs))
+behind_class f v names_of cs rest others xs i d c Whole lt at named is whole =
+    let split : map f rest ≡ map (of_class c) (names_of c) ++ map f others = is ∙ ap (λ l. l ++ map f others) (lent v c xs (names_of c) named) in
+    let all : names_by names_of (drop i cs) ≡ map (of_class c) (names_of c) ++ names_by names_of (drop (i + 1) cs) = next_class names_of cs i d c lt at in (
+      λ e. whole.0 (split ∙ ap (λ l. map (of_class c) (names_of c) ++ l) e ∙ sym all),
+      λ w. append_cancel_left (map (of_class c) (names_of c)) (map f others) (names_by names_of (drop (i + 1) cs)) (sym split ∙ whole.1 w ∙ all),
+    )
 
-pub listed_all : {A : Type 0} (f : A → HandlerName) (rows : List A) (table : List HandlerName) (n : ℕ) → length table ≡ n → length rows ≡ n → ((k : ℕ) → k < n → slice_get (map f rows) k ≡ slice_get table k) → map f rows ≡ table
-listed_all f rows table n len same each = same_by_gets (map f rows) table (length_mapped f rows ∙ same ∙ sym len) (λ k lt. each k (omega (arith, len)))
+pub not_behind_class : {A B : Type 0} (f : A → HandlerName) (v : B → List ℕ) (names_of : Class → List (List ℕ)) (cs : List Class) (rest : List A) (xs : List B) (i : ℕ) (d c : Class)
+    → i < length cs → c ≡ get_or cs i d → map v xs ≡ names_of c → map f rest ≡ names_by names_of (drop i cs)
+    → map f rest ≡ map (λ n. of_class c (v n)) xs ++ names_by names_of (drop (i + 1) cs)
+not_behind_class f v names_of cs rest xs i d c lt at named e =
+    e ∙ next_class names_of cs i d c lt at ∙ ap (λ l. l ++ names_by names_of (drop (i + 1) cs)) (sym (lent v c xs (names_of c) named))
 
--- one of the list that passes, by its place, is enough
-pub found_at : (p : HandlerName → Bool) (xs : List HandlerName) (i : ℕ) (x : HandlerName) → slice_get xs i ≡ Some x → p x ≡ true → list_any p xs ≡ true
-found_at p [] i x here is = absurd (let h = here in cc)
-found_at p (y ∷ ys) zero x here is = let same : y ≡ x = cc in ap (λ b. b || list_any p ys) (ap p same ∙ is)
-found_at p (y ∷ ys) (suc i) x here is = or_true (p y) (list_any p ys) (found_at p ys i x here is) where
-  or_true : (a b : Bool) → b ≡ true → (a || b) ≡ true
-  or_true true b e = refl
-  or_true false b e = e
+-- a row that has the class and the name is one of the list
+pub found_row : {A : Type 0} (f : A → HandlerName) (rows : List A) (all : List HandlerName) (class : Class) (name : List ℕ) (i : ℕ) (x : A) → map f rows ≡ all
+    → i < length rows → x ≡ get_or rows i x → is_named class name (f x) ≡ true → list_any (is_named class name) all ≡ true
+found_row f rows all class name i x whole lt here is =
+    ap (list_any (is_named class name)) (sym whole) ∙ list_any_map (is_named class name) f rows
+    ∙ list_any_at (λ r. is_named class name (f r)) rows i x lt (ap (λ r. is_named class name (f r)) (sym here) ∙ is)
 
--- one more that does not pass
-none_more : (p : HandlerName → Bool) (xs : List HandlerName) (i : ℕ) (x : HandlerName) → slice_get xs i ≡ Some x → list_any p (take i xs) ≡ false → p x ≡ false → list_any p (take (suc i) xs) ≡ false
-none_more p [] i x here none isnt = absurd (let h = here in cc)
-none_more p (y ∷ ys) zero x here none isnt = let same : y ≡ x = cc in ap (λ b. b || false) (ap p same ∙ isnt)
-none_more p (y ∷ ys) (suc i) x here none isnt =
-    let parts = or_false (p y) (list_any p (take i ys)) none in both_false (p y) (list_any p (take (suc i) ys)) parts.0 (none_more p ys i x here parts.1 isnt) where
-      or_false : (a b : Bool) → (a || b) ≡ false → (a ≡ false) × (b ≡ false)
-      or_false true b e = absurd (let h = e in cc)
-      or_false false b e = (refl, e)
-
-      both_false : (a b : Bool) → a ≡ false → b ≡ false → (a || b) ≡ false
-      both_false true b e f = e
-      both_false false b e f = f
-
-suc_is : (i : ℕ) → suc i ≡ i + 1
-suc_is i = omega arith
-
-pub none_next : (p : HandlerName → Bool) (xs : List HandlerName) (i : ℕ) (x : HandlerName) → slice_get xs i ≡ Some x → list_any p (take i xs) ≡ false → p x ≡ false → list_any p (take (i + 1) xs) ≡ false
-none_next p xs i x here none isnt = ap (λ k. list_any p (take k xs)) (sym (suc_is i)) ∙ none_more p xs i x here none isnt
-
--- none of the whole list passes
-pub none_all : (p : HandlerName → Bool) (xs : List HandlerName) (n : ℕ) → length xs ≤ n → list_any p (take n xs) ≡ false → list_any p xs ≡ false
-none_all p xs n le none = ap (list_any p) (sym (take_past n xs le)) ∙ none
+-- none has it, and none of the list
+pub no_row : {A : Type 0} (f : A → HandlerName) (rows : List A) (all : List HandlerName) (class : Class) (name : List ℕ) (n : ℕ) → map f rows ≡ all
+    → length rows ≤ n → list_any (λ r. is_named class name (f r)) (take n rows) ≡ false → list_any (is_named class name) all ≡ false
+no_row f rows all class name n whole le none =
+    ap (list_any (is_named class name)) (sym whole) ∙ list_any_map (is_named class name) f rows
+    ∙ ap (list_any (λ x. is_named class name (f x))) (sym (take_all n rows le)) ∙ none

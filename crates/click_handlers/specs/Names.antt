@@ -1,5 +1,5 @@
 -- Which handlers each class has, in order (Click element reference).
-use Rattle.std.specs.Prelude.{ℕ, List, [], ◌∷◌, ◌++◌, map, codes, Bool, ◌&&◌, slice_get, position, unwrap_or}
+use Rattle.std.specs.Prelude.{ℕ, List, [], ◌∷◌, map, flat_map, codes, Bool, ◌&&◌, slice_get, position, unwrap_or}
 use Rattle.std.specs.List.{list_any}
 use Rattle.std.specs.Str.{bytes_eq}
 use Rattle.click_base.specs.Classes.{name}
@@ -35,34 +35,53 @@ queue_reads = codes "length" ∷ codes "highwater_length" ∷ codes "drops" ∷ 
 abbrev pub queue_writes : List (List ℕ)
 queue_writes = codes "capacity" ∷ codes "reset_counts" ∷ codes "reset" ∷ []
 
--- the handlers that can be read, class by class
-unfoldable pub read_names : List HandlerName
-read_names =
-    map (of_class class.Queue) queue_reads
-    ++ map (of_class class.FrontDropQueue) queue_reads
-    ++ of_class class.Counter (codes "count") ∷ of_class class.Counter (codes "byte_count")
-    ∷ of_class class.Switch (codes "switch") ∷ of_class class.PullSwitch (codes "switch")
-    ∷ (map (of_class class.Suppressor) active_names
-    ++ of_class class.InfiniteSource (codes "active") ∷ of_class class.InfiniteSource (codes "count")
-    ∷ of_class class.StaticIPLookup (codes "lookup") ∷ [])
+-- what elements of a class can be asked, in order
+unfoldable pub reads_of : Class → List (List ℕ)
+reads_of class.Queue = queue_reads
+reads_of class.FrontDropQueue = queue_reads
+reads_of class.Counter = codes "count" ∷ codes "byte_count" ∷ []
+reads_of class.Switch = codes "switch" ∷ []
+reads_of class.PullSwitch = codes "switch" ∷ []
+reads_of class.Suppressor = active_names
+reads_of class.StaticIPLookup = codes "lookup" ∷ []
+reads_of class.InfiniteSource = codes "active" ∷ codes "count" ∷ []
+reads_of _ = []
 
--- the handlers that can be written
+-- what they can be told
+unfoldable pub writes_of : Class → List (List ℕ)
+writes_of class.Queue = queue_writes
+writes_of class.FrontDropQueue = queue_writes
+writes_of class.Counter = codes "reset_counts" ∷ []
+writes_of class.Switch = codes "switch" ∷ []
+writes_of class.PullSwitch = codes "switch" ∷ []
+writes_of class.Suppressor = active_names
+writes_of class.InfiniteSource = codes "active" ∷ codes "reset" ∷ []
+writes_of _ = []
+
+-- the handlers of these classes, one class after another, by the names that each has
+abbrev pub names_by : (Class → List (List ℕ)) → List Class → List HandlerName
+names_by names_of cs = flat_map (λ c. map (of_class c) (names_of c)) cs
+
+-- the classes whose elements have handlers, in the order in which a table has them
+abbrev pub handled : List Class
+handled =
+    class.Queue ∷ class.FrontDropQueue ∷ class.Counter ∷ class.Switch ∷ class.PullSwitch ∷ class.Suppressor ∷ class.InfiniteSource ∷
+    class.StaticIPLookup ∷ []
+
+-- all handlers that can be read, and that can be written
+unfoldable pub read_names : List HandlerName
+read_names = names_by reads_of handled
+
 unfoldable pub write_names : List HandlerName
-write_names =
-    map (of_class class.Queue) queue_writes
-    ++ map (of_class class.FrontDropQueue) queue_writes
-    ++ of_class class.Counter (codes "reset_counts")
-    ∷ of_class class.Switch (codes "switch") ∷ of_class class.PullSwitch (codes "switch")
-    ∷ (map (of_class class.Suppressor) active_names
-    ++ of_class class.InfiniteSource (codes "active") ∷ of_class class.InfiniteSource (codes "reset") ∷ [])
+write_names = names_by writes_of handled
 
 -- the handler is this class's of this name; a class has one name
 abbrev pub is_named : Class → List ℕ → HandlerName → Bool
 is_named class handler h = bytes_eq (name h.class) (name class) && bytes_eq h.name handler
 
--- elements of the class can be asked that, or told that
+-- elements of the class can be asked that, or told that: the name is one of the class's
 abbrev pub has_read : Class → List ℕ → Bool
-has_read class handler = list_any (is_named class handler) read_names
+has_read class handler = list_any (λ n. bytes_eq n handler) (reads_of class)
 
 abbrev pub has_write : Class → List ℕ → Bool
-has_write class handler = list_any (is_named class handler) write_names
+has_write class handler = list_any (λ n. bytes_eq n handler) (writes_of class)

@@ -1,17 +1,25 @@
 //! What holds of the definitions of handlers.
 
 ghost use Rattle.std.specs.Prelude.{◌≡◌, ◌+◌, ◌<◌, ◌≤◌, ◌^◌, ℕ, List, Bool, Ok, Option, length, codes, decimal, take, IsSome};
+ghost use Rattle.std.specs.List.{list_any};
+ghost use Rattle.click_base.specs.declared.class.Class.{Class};
 ghost use Rattle.click_classes.specs.Fitting.{FitsPorts};
 ghost use Rattle.click_classes.specs.Queues.{Queued, queue_of, IsSound};
 ghost use Rattle.click_classes.specs.State.{class};
 ghost use Rattle.click_classes.specs.Values.{decimal_number, truth};
 ghost use Rattle.click_classes.specs.declared.state.State.TheVariants as state;
-ghost use Rattle.click_handlers.specs.Names.{active_name};
+ghost use Rattle.click_handlers.specs.Names.{active_name, has_read, has_write, is_named, read_names, write_names};
 ghost use Rattle.click_base.specs.declared.class.Class.TheVariants as is;
 ghost use Rattle.click_engine.specs.declared.run_state.Element.{Element};
 ghost use Rattle.click_base.specs.Blanks.{trimmed};
 ghost use Rattle.click_handlers.specs.Reads.{read_value, port_text, truth_text};
 ghost use Rattle.click_handlers.specs.Writes.{write_value, resized, written_port};
+
+/// Among the handlers of all classes, those of a class are what its elements can be asked, or told.
+pub fn all_handlers_are_those_of_the_classes()
+    ensures reads { (of : Class) (handler : List ℕ) → list_any (is_named of handler) read_names ≡ has_read of handler }
+    ensures writes { (of : Class) (handler : List ℕ) → list_any (is_named of handler) write_names ≡ has_write of handler }
+{}
 
 /// A queue's capacity that was written is read back.
 pub fn written_capacity_is_read()

@@ -14,7 +14,7 @@ mod texts;
 mod written;
 
 pub use fault::{HandlerFault, TableFault};
-pub use names::{READS, WRITES, has_read, has_write, read_name, write_name};
+pub use names::{has_read, has_write, reads_of, writes_of};
 pub use rows::{ReadCall, ReadRow, WriteCall, WriteRow};
 pub use standard::{TakesRows, TakesTable, with_counted_table, with_rows, with_table};
 pub use table::Table;

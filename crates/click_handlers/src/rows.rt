@@ -1,17 +1,37 @@
 //! Rows: handlers' calls, stored with the promise of what they answer.
 
 ghost use Rattle.std.specs.Prelude.{◌≡◌, ◌++◌, ◌∷◌, [], map, OnOk};
-ghost use Rattle.click_handlers.specs.Names.{of_class};
+ghost use Rattle.click_handlers.specs.Names.{of_class, reads_of, writes_of};
 ghost use Rattle.click_classes.specs.State.{class};
 ghost use Rattle.click_handlers.specs.Answers.{IsReadAnswer, AnswersReads, IsWriteAnswer, AnswersWrites};
 ghost use Rattle.click_handlers.specs.Reads.{read_value};
 ghost use Rattle.click_handlers.specs.Writes.{write_value};
 
 use crate::fault::HandlerFault;
+use crate::names::{reads_of, writes_of};
 use crate::written::Written;
 use click_base::Class;
 use click_engine::Element;
 use std::alloc::{AllocError, Global};
+
+/// What a table sees of a row: which handler it is, and which names a class has in such rows.
+pub(crate) trait Listed {
+    ghost use Rattle.std.specs.Prelude.{◌≡◌, ℕ, List, map};
+    ghost use Rattle.click_base.specs.declared.class.Class.{Class};
+    ghost use Rattle.click_handlers.specs.Names.{HandlerName, is_named};
+
+    ghost handler: { Self → HandlerName };
+
+    ghost names: { Class → List (List ℕ) };
+
+    /// Whether it is the row of the class and the name.
+    fn is_of(&self, class: Class, name: &[u8]) -> bool
+        ensures { result ≡ is_named class name.now (handler self.now) };
+
+    /// The names of a class, in order.
+    fn names_of(class: Class) -> &'static [&'static [u8]]
+        ensures { map (λ n. n.now) result.now ≡ names class };
+}
 
 /// A call that reads: it lends the element and a text.
 pub type ReadCall = Box<dyn Fn(Global, &Element, &[u8]) -> Result<Vec<u8>, HandlerFault> + Send>;
@@ -46,6 +66,22 @@ impl ReadRow {
         ensures { IsReadAnswer (read_value self.now.name.items element.now text.now) result }
     {
         read_through(&self.call, alloc, element, text)
+    }
+}
+
+impl Listed for ReadRow {
+    ghost handler = { λ r. of_class r.class r.name.items };
+
+    ghost names = { reads_of };
+
+    fn is_of(&self, class: Class, name: &[u8]) -> bool {
+        self.class == class && self.name.as_slice() == name
+    }
+
+    fn names_of(class: Class) -> &'static [&'static [u8]]
+        ensures { map (λ n. n.now) result.now ≡ reads_of class }
+    {
+        reads_of(class)
     }
 }
 
@@ -90,6 +126,22 @@ impl WriteRow {
         ensures { IsWriteAnswer self.now.name.items element text.now result }
     {
         write_through(&self.call, alloc, element, text)
+    }
+}
+
+impl Listed for WriteRow {
+    ghost handler = { λ r. of_class r.class r.name.items };
+
+    ghost names = { writes_of };
+
+    fn is_of(&self, class: Class, name: &[u8]) -> bool {
+        self.class == class && self.name.as_slice() == name
+    }
+
+    fn names_of(class: Class) -> &'static [&'static [u8]]
+        ensures { map (λ n. n.now) result.now ≡ writes_of class }
+    {
+        writes_of(class)
     }
 }
 

@@ -1,11 +1,12 @@
 //! The table of all handlers.
 
-ghost use Rattle.std.specs.Prelude.{◌≡◌, map, IsOk, IsTrue, ◌↔◌, is_some, IfSome};
-ghost use Rattle.click_handlers.specs.Names.{of_class, is_named, read_names, write_names, has_read, has_write};
+ghost use Rattle.std.specs.Prelude.{◌≡◌, ◌++◌, List, map, IsOk, IsTrue, ◌↔◌, is_some, IfSome, IfNone};
+ghost use Rattle.std.specs.List.{list_any};
+ghost use Rattle.click_handlers.specs.Names.{HandlerName, of_class, is_named, handled, names_by, read_names, write_names, has_read, has_write};
 
 use crate::fault::TableFault;
-use crate::names::{READS, WRITES, read_name, write_name};
-use crate::rows::{ReadRow, WriteRow};
+use crate::names::HANDLED;
+use crate::rows::{Listed, ReadRow, WriteRow};
 use click_base::Class;
 
 /// The rows of all handlers, in their order.
@@ -17,59 +18,58 @@ pub struct Table {
     ghost writes_listed: { map (λ r. of_class r.class r.name.items) writes.items ≡ write_names },
 }
 
-/// Whether a row is that of the class and the name.
-fn is_read_row(row: &ReadRow, class: Class, name: &[u8]) -> bool
-    ensures { result ≡ is_named class name.now (of_class row.now.class row.now.name.items) }
+/// The rows behind those of a class's names, which have to come first.
+fn behind<'a, R: Listed>(rows: &'a [R], class: Class, names: &[&[u8]]) -> Option<&'a [R]>
+    ensures some { IfSome result (λ rest. map R.handler rows.now ≡ map (λ n. of_class class n.now) names.now ++ map R.handler rest.now) }
+    ensures none { IfNone result ((more : List HandlerName) → map R.handler rows.now ≡ map (λ n. of_class class n.now) names.now ++ more → ⊥) }
 {
-    row.class == class && row.name.as_slice() == name
-}
-
-/// Whether a row is that of the class and the name.
-fn is_write_row(row: &WriteRow, class: Class, name: &[u8]) -> bool
-    ensures { result ≡ is_named class name.now (of_class row.now.class row.now.name.items) }
-{
-    row.class == class && row.name.as_slice() == name
-}
-
-/// Whether the rows are those of the list.
-fn are_reads(rows: &[ReadRow]) -> bool
-    ensures { IsTrue result ↔ (map (λ r. of_class r.class r.name.items) rows.now ≡ read_names) }
-{
-    if rows.len() != READS {
-        return false;
+    let mut rest = rows;
+    for name in names {
+        let (row, others) = rest.split_first()?;
+        if !row.is_of(class, name) {
+            return None;
+        }
+        rest = others;
     }
-    for (at, row) in rows.iter().enumerate() {
-        let (class, name) = read_name(at);
-        if !is_read_row(row, class, name) {
-            return false;
+    Some(rest)
+}
+
+/// Whether the rows are the handlers of the classes in their order.
+fn are_listed<R: Listed>(rows: &[R]) -> bool
+    ensures { IsTrue result ↔ (map R.handler rows.now ≡ names_by R.names handled) }
+{
+    let mut rest = rows;
+    for class in HANDLED {
+        match behind(rest, class, R::names_of(class)) {
+            Some(others) => rest = others,
+            None => return false,
         }
     }
-    true
+    rest.is_empty()
 }
 
-/// Whether the rows are those of the list.
-fn are_writes(rows: &[WriteRow]) -> bool
-    ensures { IsTrue result ↔ (map (λ r. of_class r.class r.name.items) rows.now ≡ write_names) }
+/// The row of a class's handler of that name.
+fn row_of<'a, R: Listed>(rows: &'a [R], class: Class, name: &[u8]) -> Option<&'a R>
+    requires { map R.handler rows.now ≡ names_by R.names handled }
+    ensures there { is_some result ≡ list_any (is_named class name.now) (names_by R.names handled) }
+    ensures row { IfSome result (λ r. R.handler r.now ≡ of_class class name.now) }
 {
-    if rows.len() != WRITES {
-        return false;
-    }
-    for (at, row) in rows.iter().enumerate() {
-        let (class, name) = write_name(at);
-        if !is_write_row(row, class, name) {
-            return false;
+    for row in rows {
+        if row.is_of(class, name) {
+            return Some(row);
         }
     }
-    true
+    None
 }
 
 impl Table {
     /// The table of these rows, which have to be the handlers of the classes in their order.
+    #[tactic(auto, unfolding(crate::specs::Names::read_names, crate::specs::Names::write_names))]
     pub fn new(reads: Vec<ReadRow>, writes: Vec<WriteRow>) -> Result<Table, TableFault>
         ensures { IsOk result ↔ ((map (λ r. of_class r.class r.name.items) reads.items ≡ read_names)
             × (map (λ r. of_class r.class r.name.items) writes.items ≡ write_names)) }
     {
-        if are_reads(&reads) && are_writes(&writes) {
+        if are_listed(&reads) && are_listed(&writes) {
             Ok(Table { reads, writes })
         } else {
             Err(TableFault::WrongRows)
@@ -85,28 +85,20 @@ impl Table {
     }
 
     /// The row of a class's read handler.
+    #[tactic(auto, unfolding(crate::specs::Names::read_names))]
     pub fn read(&self, class: Class, name: &[u8]) -> Option<&ReadRow>
         ensures there { is_some result ≡ has_read class name.now }
         ensures row { IfSome result (λ r. (r.now.class ≡ class) × (r.now.name.items ≡ name.now)) }
     {
-        for row in &self.reads {
-            if is_read_row(row, class, name) {
-                return Some(row);
-            }
-        }
-        None
+        row_of(&self.reads, class, name)
     }
 
     /// The row of a class's write handler.
+    #[tactic(auto, unfolding(crate::specs::Names::write_names))]
     pub fn write(&self, class: Class, name: &[u8]) -> Option<&WriteRow>
         ensures there { is_some result ≡ has_write class name.now }
         ensures row { IfSome result (λ r. (r.now.class ≡ class) × (r.now.name.items ≡ name.now)) }
     {
-        for row in &self.writes {
-            if is_write_row(row, class, name) {
-                return Some(row);
-            }
-        }
-        None
+        row_of(&self.writes, class, name)
     }
 }

@@ -1,6 +1,5 @@
 mod CommandCalls
 pub mod FieldSequences
-pub mod HandlerNames
 mod Hosts
 pub mod OpenedNet
 mod QueryPairs

@@ -7,12 +7,12 @@ use Rattle.click_draw.specs.declared.drawing.Drawing.{Drawing}
 use Rattle.click_draw.specs.declared.drawing.Figure.{Figure}
 use Rattle.click_expand.specs.declared.flat.Flat.{Flat}
 use Rattle.click_expand.specs.declared.flat.FlatElement.{FlatElement}
-use Rattle.click_handlers.specs.Names.{read_names, write_names}
+use Rattle.click_handlers.specs.Names.{reads_of, writes_of}
 use Rattle.click_router.specs.declared.call.Reply.TheVariants.{Value, Done}
 use Rattle.click_control.specs.declared.command.Answer.{Answer}
 use Rattle.click_control.specs.declared.command.Answer.TheVariants.{Replied}
 use Rattle.click_control.specs.declared.command.Command.{Command}
-use Rattle.click_page.specs.Form.{bytes_data, connection_data, element_data, elements_data, flat_data, handlers_of, port_data}
+use Rattle.click_page.specs.Form.{bytes_data, connection_data, element_data, elements_data, flat_data, port_data}
 use Rattle.click_page.specs.Saying.{entries_of, entry_of}
 
 map-whole : {X : Type 0} (f : X → Data) → ((x : X) → has_float (f x) ≡ false) → (xs : List X) → items_have_float (items_of (map f xs)) ≡ false
@@ -24,8 +24,8 @@ element-whole e f =
     rw (
       map-whole port_data (λ m. refl) f.look.inputs,
       map-whole port_data (λ m. refl) f.look.outputs,
-      map-whole bytes_data (λ b. refl) (handlers_of f.look.class read_names),
-      map-whole bytes_data (λ b. refl) (handlers_of f.look.class write_names),
+      map-whole bytes_data (λ b. refl) (reads_of f.look.class),
+      map-whole bytes_data (λ b. refl) (writes_of f.look.class),
     ) refl
 
 elements-whole : (es : List FlatElement) (fs : List Figure) → items_have_float (items_of (elements_data es fs)) ≡ false

@@ -1,12 +1,10 @@
 -- The running configuration's flat form, as JSON.
-use Rattle.std.specs.Prelude.{◌≡◌, ℕ, List, [], ◌∷◌, map, filter, codes, encode_utf8_all}
-use Rattle.std.specs.Str.{bytes_eq}
+use Rattle.std.specs.Prelude.{◌≡◌, ℕ, List, [], ◌∷◌, map, codes, encode_utf8_all}
 use Rattle.serde_json.specs.Data.{Data, no_members, member, string, boolean, number, array, object, unsigned}
 use Rattle.serde_json.specs.View.{items_of}
 use Rattle.serde_json.specs.Written.{compact_text}
 use Rattle.click_base.specs.Classes.{name}
-use Rattle.click_base.specs.declared.class.Class.{Class}
-use Rattle.click_handlers.specs.Names.{HandlerName, read_names, write_names}
+use Rattle.click_handlers.specs.Names.{reads_of, writes_of}
 use Rattle.click_draw.specs.declared.drawing.Figure.{Figure}
 use Rattle.click_draw.specs.declared.drawing.Mark.{Mark}
 use Rattle.click_draw.specs.declared.drawing.Drawing.{Drawing}
@@ -32,10 +30,6 @@ number_data n = number (unsigned n)
 abbrev pub port_data : Mark → Data
 port_data m = object (member (codes "agnostic") (boolean m.agnostic) (member (codes "pull") (boolean m.pull) no_members))
 
--- the names of a class's handlers among these
-abbrev pub handlers_of : Class → List HandlerName → List (List ℕ)
-handlers_of class names = map (λ h. h.name) (filter (λ h. bytes_eq (name h.class) (name class)) names)
-
 -- an element: its class, name and text, its ports, and the handlers that can be read and written
 abbrev pub element_data : FlatElement → Figure → Data
 element_data e f = object (
@@ -43,9 +37,9 @@ element_data e f = object (
     member (codes "inputs") (list_data (map port_data f.look.inputs)) (
     member (codes "name") (bytes_data e.name) (
     member (codes "outputs") (list_data (map port_data f.look.outputs)) (
-    member (codes "reads") (list_data (map bytes_data (handlers_of f.look.class read_names))) (
+    member (codes "reads") (list_data (map bytes_data (reads_of f.look.class))) (
     member (codes "text") (bytes_data e.text) (
-    member (codes "writes") (list_data (map bytes_data (handlers_of f.look.class write_names))) no_members)))))))
+    member (codes "writes") (list_data (map bytes_data (writes_of f.look.class))) no_members)))))))
 
 -- the elements, each with its figure
 abbrev pub elements_data : List FlatElement → List Figure → List Data

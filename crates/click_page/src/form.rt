@@ -1,20 +1,18 @@
 //! The flat form of a configuration, as JSON.
 
-ghost use Rattle.std.specs.Prelude.{◌≡◌, ◌≤◌, ◌∷◌, [], ◌++◌, map, length, IfOk, IfErr, OnOk};
-ghost use Rattle.std.specs.Str.{bytes_eq};
+ghost use Rattle.std.specs.Prelude.{◌≡◌, ◌≤◌, map, length, IfOk, IfErr};
 ghost use Rattle.serde_json.specs.View.{view};
-ghost use Rattle.click_base.specs.Classes.{name};
-ghost use Rattle.click_handlers.specs.Names.{of_class, read_names, write_names};
+ghost use Rattle.click_handlers.specs.Names.{reads_of, writes_of};
 ghost use Rattle.click_router.specs.Opened.{IsFirstFault, IsMemoryOr};
 ghost use Rattle.click_page.specs.Drawn.{IsFormNet};
-ghost use Rattle.click_page.specs.Form.{IsFlatText, IsFormText, bytes_data, connection_data, element_data, elements_data, flat_data, handlers_of, list_data, port_data};
+ghost use Rattle.click_page.specs.Form.{IsFlatText, IsFormText, bytes_data, connection_data, element_data, elements_data, flat_data, list_data, port_data};
 
 use crate::picture::resolved;
 use crate::values::{json_text, push, text_value};
 use click_base::Class;
 use click_draw::{Drawing, Figure, Mark, layout};
 use click_expand::{Connection, Flat, FlatElement};
-use click_handlers::{READS, WRITES, read_name, write_name};
+use click_handlers::{reads_of, writes_of};
 use click_ports::Net;
 use click_router::{ConfigFault, prepare};
 use serde_json::{Value, json};
@@ -38,51 +36,29 @@ fn ports_value(alloc: Global, marks: &[Mark]) -> Result<Value, AllocError>
     Ok(Value::from(values))
 }
 
-/// Whether a handler is the class's.
-fn is_of(class: Class, of: Class) -> bool
-    ensures { result ≡ bytes_eq (name of) (name class) }
+/// The names of handlers as values.
+fn names_value(alloc: Global, names: &[&[u8]]) -> Result<Value, AllocError>
+    ensures { IfOk result (λ value. view value ≡ list_data (map bytes_data (map (λ n. n.now) names.now))) }
 {
-    of.name() == class.name()
-}
-
-/// Adds a handler's name, if the handler is the class's.
-fn push_if_of(
-    alloc: Global,
-    names: &mut Vec<Value>,
-    class: Class,
-    of: Class,
-    name: &[u8],
-) -> Result<(), AllocError>
-    ensures { OnOk result (map view names.new.items ≡ map view names.old.items ++ map bytes_data (handlers_of class (of_class of name.now ∷ []))) }
-{
-    if is_of(class, of) {
-        push(names, text_value(alloc, name)?)?;
+    let mut values = Vec::new(alloc);
+    for name in names {
+        push(&mut values, text_value(alloc, name)?)?;
     }
-    Ok(())
+    Ok(Value::from(values))
 }
 
 /// The handlers of a class that can be read, as values.
 fn reads_value(alloc: Global, class: Class) -> Result<Value, AllocError>
-    ensures { IfOk result (λ value. view value ≡ list_data (map bytes_data (handlers_of class read_names))) }
+    ensures { IfOk result (λ value. view value ≡ list_data (map bytes_data (reads_of class))) }
 {
-    let mut names = Vec::new(alloc);
-    for at in 0..READS {
-        let (of, name) = read_name(at);
-        push_if_of(alloc, &mut names, class, of, name)?;
-    }
-    Ok(Value::from(names))
+    names_value(alloc, reads_of(class))
 }
 
 /// The handlers of a class that can be written, as values.
 fn writes_value(alloc: Global, class: Class) -> Result<Value, AllocError>
-    ensures { IfOk result (λ value. view value ≡ list_data (map bytes_data (handlers_of class write_names))) }
+    ensures { IfOk result (λ value. view value ≡ list_data (map bytes_data (writes_of class))) }
 {
-    let mut names = Vec::new(alloc);
-    for at in 0..WRITES {
-        let (of, name) = write_name(at);
-        push_if_of(alloc, &mut names, class, of, name)?;
-    }
-    Ok(Value::from(names))
+    names_value(alloc, writes_of(class))
 }
 
 /// An element as a value.

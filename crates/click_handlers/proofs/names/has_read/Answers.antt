@@ -1,13 +1,6 @@
-use Rattle.std.proofs.Common.{sym, ◌∙◌, arith}
-use Rattle.click_handlers.specs.Names.{is_named, read_names}
-use Rattle.click_handlers.proofs.RowLists.{found_at, none_next, none_all, read_names_len}
+use Rattle.std.proofs.Common.{◌∙◌}
+use Rattle.click_handlers.proofs.RowLists.{among}
 use Rattle.click_handlers.proofs.names.has_read.Goals as goal
 
-pub returns-then-is_named : goal.returns-then-is_named
-returns-then-is_named c = sym (found_at (is_named c.args.class c.args.name.now) read_names c.loop-at.at _ c.read_name-of.ensures (sym c.is_named.ensures ∙ c.if-is_named.true))
-
-pub loop-at-preserved : goal.loop-at-preserved
-loop-at-preserved c = none_next (is_named c.args.class c.args.name.now) read_names c.loop-at.at _ c.read_name-of.ensures c.loop-at.invariant (sym c.is_named.ensures ∙ c.if-is_named.false)
-
 pub returns : goal.returns
-returns c = sym (none_all (is_named c.args.class c.args.name.now) read_names c.loop-at.at (omega (arith, read_names_len, c.loop-at-test.false)) c.loop-at.invariant)
+returns c = c.is_among.ensures ∙ among (λ n. n.now) c.reads_of.result.now _ c.args.name.now c.reads_of.ensures

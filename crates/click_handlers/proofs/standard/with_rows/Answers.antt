@@ -1,6 +1,6 @@
 use Rattle.std.proofs.Common.{map, ap, arith}
-use Rattle.click_handlers.specs.Names.{of_class}
-use Rattle.click_handlers.proofs.RowNames.{one_more, first_reads, first_writes, active_read, active_write, all_reads, all_writes}
+use Rattle.click_handlers.specs.Names.{of_class, reads_of, writes_of}
+use Rattle.click_handlers.proofs.RowNames.{one_more, port_more, all_reads, all_writes}
 use Rattle.click_handlers.proofs.BoxedCalls.{told_row, told_closure, of_queue, of_front_drop_queue}
 use Rattle.click_handlers.proofs.standard.with_rows.OwnLists.{own-1, own-2, at-1-1, at-1-2, at-1-3, at-1-4, at-1-5, at-1-6, at-1-7, at-1-8, at-1-9, at-1-10, at-1-11, at-1-12, at-2-1, at-2-2, at-2-3, at-2-4, at-2-5, at-2-6, at-2-7, at-2-8, at-2-9}
 use Rattle.click_handlers.proofs.standard.with_rows.Goals as goal
@@ -96,16 +96,18 @@ pub new-write_again-requires : goal.new-write_again-requires
 new-write_again-requires g c alloc element text is = told_row own-2 {at = at-2-1} c.into_dyn_box-in_ok-new-30.ensures.1 _ _ (of_queue element.state is) (λ r p. rw c.in_ok-write_name.ensures.items p.2)
 
 pub loop-port-init : goal.loop-port-init
-loop-port-init g c = first_reads _ (one_more _ c.in_ok-add_read-12.ensures (one_more _ c.in_ok-add_read-11.ensures (one_more _ c.in_ok-add_read-10.ensures (one_more _ c.in_ok-add_read-9.ensures (one_more _ c.in_ok-add_read-8.ensures (one_more _ c.in_ok-add_read-7.ensures (one_more _ c.in_ok-add_read-6.ensures (one_more _ c.in_ok-add_read-5.ensures (one_more _ c.in_ok-add_read-4.ensures (one_more _ c.in_ok-add_read-3.ensures (one_more _ c.in_ok-add_read-2.ensures (one_more _ c.in_ok-add_read.ensures (ap (map (λ r. of_class r.class r.name.items)) c.new-reads.ensures.items)))))))))))))
+unfolding reads_of
+loop-port-init g c = (one_more _ c.in_ok-add_read-12.ensures (one_more _ c.in_ok-add_read-11.ensures (one_more _ c.in_ok-add_read-10.ensures (one_more _ c.in_ok-add_read-9.ensures (one_more _ c.in_ok-add_read-8.ensures (one_more _ c.in_ok-add_read-7.ensures (one_more _ c.in_ok-add_read-6.ensures (one_more _ c.in_ok-add_read-5.ensures (one_more _ c.in_ok-add_read-4.ensures (one_more _ c.in_ok-add_read-3.ensures (one_more _ c.in_ok-add_read-2.ensures (one_more _ c.in_ok-add_read.ensures (ap (map (λ r. of_class r.class r.name.items)) c.new-reads.ensures.items)))))))))))))
 
 pub loop-port-preserved : goal.loop-port-preserved
-loop-port-preserved g c = active_read c.loop-port.port _ _ _ c.loop-port-test.true c.loop-port.invariant c.in_ok-add_read-13.ensures c.active_name.ensures
+loop-port-preserved g c = port_more reads_of c.loop-port.port _ _ _ c.loop-port-test.true c.loop-port.invariant c.in_ok-add_read-13.ensures c.active_name.ensures
 
 pub loop-port-2-init : goal.loop-port-2-init
-loop-port-2-init g c = first_writes _ (one_more _ c.in_ok-add_write-9.ensures (one_more _ c.in_ok-add_write-8.ensures (one_more _ c.in_ok-add_write-7.ensures (one_more _ c.in_ok-add_write-6.ensures (one_more _ c.in_ok-add_write-5.ensures (one_more _ c.in_ok-add_write-4.ensures (one_more _ c.in_ok-add_write-3.ensures (one_more _ c.in_ok-add_write-2.ensures (one_more _ c.in_ok-add_write.ensures (ap (map (λ r. of_class r.class r.name.items)) c.new-writes.ensures.items))))))))))
+unfolding writes_of
+loop-port-2-init g c = (one_more _ c.in_ok-add_write-9.ensures (one_more _ c.in_ok-add_write-8.ensures (one_more _ c.in_ok-add_write-7.ensures (one_more _ c.in_ok-add_write-6.ensures (one_more _ c.in_ok-add_write-5.ensures (one_more _ c.in_ok-add_write-4.ensures (one_more _ c.in_ok-add_write-3.ensures (one_more _ c.in_ok-add_write-2.ensures (one_more _ c.in_ok-add_write.ensures (ap (map (λ r. of_class r.class r.name.items)) c.new-writes.ensures.items))))))))))
 
 pub loop-port-2-preserved : goal.loop-port-2-preserved
-loop-port-2-preserved g c = active_write c.loop-port-2.port _ _ _ c.loop-port-2-test.true c.loop-port-2.invariant c.in_ok-add_write-10.ensures c.active_name-in-loop-port-2.ensures
+loop-port-2-preserved g c = port_more writes_of c.loop-port-2.port _ _ _ c.loop-port-2-test.true c.loop-port-2.invariant c.in_ok-add_write-10.ensures c.active_name-in-loop-port-2.ensures
 
 pub take_rows-requires-clause-reads : goal.take_rows-requires-clause-reads
 take_rows-requires-clause-reads g c = all_reads c.loop-port.port _ (omega (arith, c.loop-port.auto.port-end, c.loop-port-test.false)) (one_more _ c.in_ok-add_read-16.ensures (one_more _ c.in_ok-add_read-15.ensures (one_more _ c.in_ok-add_read-14.ensures (c.loop-port.invariant))))

@@ -1,10 +1,8 @@
-use Rattle.std.proofs.Common.{sym, ◌∙◌}
-use Rattle.click_handlers.specs.Names.{of_class}
-use Rattle.click_handlers.proofs.RowLists.{found_row, no_row}
+use Rattle.std.proofs.Common.{◌∙◌}
+use Rattle.click_handlers.specs.Names.{read_names}
+use Rattle.click_handlers.proofs.RowLists.{read_listed}
 use Rattle.click_handlers.proofs.table.Table.read.Goals as goal
 
-pub returns-then-is_read_row-clause-there : goal.returns-then-is_read_row-clause-there
-returns-then-is_read_row-clause-there g c = sym (found_row (λ r. of_class r.class r.name.items) c.deref-row-items.result.now _ c.args.class c.args.name.now c.loop-row.row-index c.row-item.result (rw c.deref-row-items.ensures.value c.args.self.now.reads_listed) c.loop-row-test.true c.row-item.is (sym c.is_read_row.ensures ∙ c.if-is_read_row.true))
-
 pub returns-clause-there : goal.returns-clause-there
-returns-clause-there g c = sym (no_row (λ r. of_class r.class r.name.items) c.deref-row-items.result.now _ c.args.class c.args.name.now c.loop-row.row-index (rw c.deref-row-items.ensures.value c.args.self.now.reads_listed) c.loop-row-test.false c.loop-row.invariant)
+unfolding read_names
+returns-clause-there g c = c.row_of.ensures.there ∙ read_listed c.args.class c.args.name.now
