@@ -10,8 +10,10 @@ use Rattle.click_desk.proofs.SeatedEntries.{new_once, same_once}
 use Rattle.click_desk.specs.SeatStates.{DeskName, SeatState, new_seat, seats_below}
 use Rattle.click_control.specs.Peers.{Input, Output}
 use Rattle.click_workers.specs.declared.session.SessionEnd.{SessionEnd}
+use Rattle.click_workers.specs.declared.work.Outcome.{Outcome}
+use Rattle.click_workers.specs.declared.work.Outcome.TheVariants as outcome
 use Rattle.click_workers.specs.Seats.{IsOf}
-use Rattle.click_workers.specs.Work.{Attends, AttendedInTurn, DrivesFor, DroveFor, InTurn, SideBySide, Ready, Worked, numbers_below}
+use Rattle.click_workers.specs.Work.{Attends, AttendedInTurn, CameOf, DrivesFor, DroveFor, InTurn, SideBySide, Ready, Worked, drives_of, ends_of, numbers_below}
 
 snoc-inj : (xs ys : List SeatState) (x y : SeatState) → xs ++ x ∷ [] ≡ ys ++ y ∷ [] → (xs ≡ ys) × (x ≡ y)
 snoc-inj [] [] x y e = (refl, cc)
@@ -193,3 +195,25 @@ module _ (attends : SeatState → SessionEnd → Type 0) (drives : SeatState →
       (subst (λ k. Worked attends drives sessions n k ended' drivers') (sym b)
       (subst (λ k. Worked attends drives sessions n seats k drivers') (sym c)
       (subst (λ k. Worked attends drives sessions n seats ended k) (sym d) w)))
+
+  -- what came of one seat more
+  pub worked-more : (sessions m : ℕ) (seats : List SeatState) (ended : List SessionEnd) (drivers : List Bool) (s : SeatState) (o : Outcome)
+      → Worked attends drives sessions m seats ended drivers → s.number ≡ m → CameOf attends drives sessions s o
+      → Worked attends drives sessions (suc m) (seats ++ s ∷ []) (ended ++ ends_of o) (drivers ++ drives_of o)
+  worked-more sessions m seats ended drivers s (outcome.Attended e) w is came =
+      worked-as sessions _ _ _ _ _ _ _ _ refl refl refl (append-nil drivers) (worked-session attends drives sessions m seats ended drivers s e w (omega (arith, came.0, is)) is came.1)
+  worked-more sessions m seats ended drivers s (outcome.Drove all) w is came =
+      worked-as sessions _ _ _ _ _ _ _ _ refl refl (append-nil ended) refl (worked-driver attends drives sessions m seats ended drivers s all w (omega (arith, came.0, is)) is came.1)
+
+  -- there is room for it
+  pub room-for-more : (sessions m : ℕ) (seats : List SeatState) (ended : List SessionEnd) (drivers : List Bool) (s : SeatState) (o : Outcome) (e d : ℕ)
+      → Worked attends drives sessions m seats ended drivers → s.number ≡ m → CameOf attends drives sessions s o → min (suc m) sessions ≤ e → suc m - sessions ≤ d
+      → (length ended + length (ends_of o) ≤ e) × (length drivers + length (drives_of o) ≤ d)
+  room-for-more sessions m seats ended drivers s (outcome.Attended x) e d w is came ended_room drivers_room =
+      let many = ended-many sessions m seats ended drivers w in
+      let drove = drivers-many sessions m seats ended drivers w in
+      (omega (arith, many, came.0, is, ended_room), omega (arith, drove, came.0, is, drivers_room))
+  room-for-more sessions m seats ended drivers s (outcome.Drove all) e d w is came ended_room drivers_room =
+      let many = ended-many sessions m seats ended drivers w in
+      let drove = drivers-many sessions m seats ended drivers w in
+      (omega (arith, many, came.0, is, ended_room), omega (arith, drove, came.0, is, drivers_room))

@@ -1,5 +1,5 @@
 -- What sessions and drivers did to their seats.
-use Rattle.std.specs.Prelude.{◌≡◌, ◌⊎◌, ◌↔◌, ℕ, zero, suc, ◌+◌, ◌≤◌, ◌-◌, List, [], ◌∷◌, ◌++◌, length, map, min, Bool, true, false, Option, Some, None}
+use Rattle.std.specs.Prelude.{◌≡◌, ◌⊎◌, ◌↔◌, ℕ, zero, suc, ◌+◌, ◌≤◌, ◌<◌, ◌-◌, List, [], ◌∷◌, ◌++◌, length, map, min, Bool, true, false, Option, Some, None}
 use Rattle.std.specs.List.{All}
 use Rattle.click_rings.specs.Feeds.{FeedName}
 use Rattle.click_router.specs.declared.call.Call.TheVariants as call
@@ -9,9 +9,11 @@ use Rattle.click_desk.specs.SeatStates.{DeskName, SeatState, IsRefused, new_seat
 use Rattle.click_control.specs.Peers.{Input, Output}
 use Rattle.click_control.specs.Serving.{Turned, WentThrough, most_reads}
 use Rattle.click_workers.specs.Gates.{Place, place, AsksGate, TellsGate}
-use Rattle.click_workers.specs.Seats.{SameSeat, SeatServes}
+use Rattle.click_workers.specs.Seats.{IsOf, SameSeat, SeatServes}
 use Rattle.click_workers.specs.declared.session.SessionEnd.{SessionEnd}
 use Rattle.click_workers.specs.declared.session.SessionEnd.TheVariants as end
+use Rattle.click_workers.specs.declared.work.Outcome.{Outcome}
+use Rattle.click_workers.specs.declared.work.Outcome.TheVariants as outcome
 
 -- Why a driver stops ahead of this Round, and what it did to its seat: the gate refused the turn, and the seat is as it was; or the gate gave it, and the desk refused
 -- the call.
@@ -73,6 +75,25 @@ DrivesFor gives told gate who None s all = (rounds : ℕ) × Drives gives told g
 -- by the number of its seat
 abbrev pub DroveFor : {G : Type 0} → (G → ℕ → ℕ → Bool → Type 0) → (G → ℕ → ℕ → Type 0) → G → Option ℕ → SeatState → Bool → Type 0
 DroveFor gives told gate rounds s all = DrivesFor gives told gate (suc s.number) rounds s all
+
+-- What came of one seat, by its number: of the sessions of a place, where it is below so many, or else of a driver.
+abbrev pub CameOf : (SeatState → SessionEnd → Type 0) → (SeatState → Bool → Type 0) → ℕ → SeatState → Outcome → Type 0
+CameOf attends drives sessions s (outcome.Attended e) = (s.number < sessions) × attends s e
+CameOf attends drives sessions s (outcome.Drove all) = (sessions ≤ s.number) × drives s all
+
+-- of that, the end of a session
+abbrev pub ends_of : Outcome → List SessionEnd
+ends_of (outcome.Attended e) = e ∷ []
+ends_of (outcome.Drove all) = []
+
+-- and what a driver said
+abbrev pub drives_of : Outcome → List Bool
+drives_of (outcome.Attended e) = []
+drives_of (outcome.Drove all) = all ∷ []
+
+-- seats that were of this desk, with some feeds, are of it with the same feeds
+abbrev pub StayOf : DeskName → List SeatState → List SeatState → Type 0
+StayOf desk old new = (feeds : List FeedName) → All (IsOf desk feeds) old → All (IsOf desk feeds) new
 
 abbrev pub SideBySide : {X Y : Type 0} → (X → Y → Type 0) → List X → List Y → Type 0
 SideBySide R [] [] = Unit {0}

@@ -13,11 +13,11 @@ mod listening;
 mod opening;
 mod pause;
 mod places;
-mod run_limits;
 mod run_seats;
 mod runs;
 mod seat_group;
 mod seat_port;
+mod service;
 mod session;
 mod work;
 

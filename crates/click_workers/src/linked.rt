@@ -3,7 +3,7 @@
 ghost use Rattle.std.specs.Prelude.{◌≡◌, ◌<◌, ◌≤◌, ◌+◌, ◌++◌, ◌∷◌, List, ℕ, [], true, None, IfOk, IfErr, length, map, option_map, vec_len, vec_capacity};
 ghost use Rattle.std.specs.List.{All, AllZip};
 ghost use Rattle.std.specs.Thread.{IsSend, IsSync};
-ghost use Rattle.click_rings.specs.Feeds.{FeedName, RingName, have_distinct_devices, name_of};
+ghost use Rattle.click_rings.specs.Feeds.{RingName, have_distinct_devices, name_of};
 ghost use Rattle.click_links.specs.Fates.{Receives};
 ghost use Rattle.click_links.specs.Forwarding.{Forwards, sent_by, gifts_by};
 ghost use Rattle.click_links.specs.Turns.{names_of};
@@ -11,7 +11,7 @@ ghost use Rattle.click_workers.specs.Beside.{BesideWork};
 ghost use Rattle.click_workers.specs.Linked.{calls_in, AreQuietFrom, ForwardsBeside, HasRing, IsSettled, LinkedHeadline, LinkedWork, LinkRan, IsTrueOpening};
 ghost use Rattle.click_workers.specs.Runs.{HeadlineWith, IsOpenedFor};
 ghost use Rattle.click_workers.specs.Seats.{IsOf, SameSeat};
-ghost use Rattle.click_workers.specs.Work.{AttendedInTurn, DroveFor, Ready, SideBySide, Worked, numbers_below};
+ghost use Rattle.click_workers.specs.Work.{AttendedInTurn, DroveFor, Ready, SideBySide, StayOf, Worked, numbers_below};
 
 use crate::beside::{Beside, NothingBeside};
 use crate::clients::Clients;
@@ -21,6 +21,7 @@ use crate::opening::Opening;
 use crate::run_seats::{OpenedRun, RunSeats, begin, finish, serve_beside};
 use crate::runs::AllRan;
 use crate::seat_group::SeatGroup;
+use crate::service::Service;
 use crate::session::SessionEnd;
 use click_base::sequence::Sequence;
 use click_desk::{Book, Desk, OpenFault, Seat};
@@ -88,32 +89,25 @@ fn serve_linked<
     wires: LinkParts<L, S>,
     beside: B,
     run_seats: RunSeats<T, (Seat<T>, B::Seats)>,
-) -> (RunSeats<T, B::Seats>, B::Done, Linked<T, L, S>)
+) -> (Linked<T, L, S>, (RunSeats<T, B::Seats>, B::Done))
     requires ready { Ready desk.now clients.places (vec_len run_seats.work.seats) run_seats.work.seats.items run_seats.work.ended.items run_seats.work.drivers.items (vec_capacity run_seats.work.ended) (vec_capacity run_seats.work.drivers) }
     requires turns { 0 < clients.turns }
     requires forwarder { run_seats.beside.0.desk ≡ desk.now }
     requires of { All (λ s. s.desk ≡ desk.now) (B.Seats.sittings run_seats.beside.1) }
     requires devices { vec_len wires.receivers ≤ length wires.devices.now }
-    ensures desk { (feeds : List FeedName) → All (IsOf desk.now feeds) run_seats.work.seats.items → All (IsOf desk.now feeds) result.0.work.seats.items }
+    ensures desk { StayOf desk.now run_seats.work.seats.items result.1.0.work.seats.items }
     ensures worked { Worked (AttendedInTurn D.lets_in D.Reader.input D.Writer.output G.gives G.told clients.entry.door.now clients.entry.gate.now clients.entry.readonly clients.entry.turns)
-        (DroveFor G.gives G.told clients.entry.gate.now None) clients.entry.places (vec_len run_seats.work.seats) result.0.work.seats.items result.0.work.ended.items result.0.work.drivers.items }
-    ensures room { vec_capacity run_seats.work.seats ≤ vec_capacity result.0.work.seats }
-    ensures beside { AllZip SameSeat (B.Seats.sittings run_seats.beside.1) (B.Seats.sittings result.0.beside) }
-    ensures does { B.does beside run_seats.beside.1 result.0.beside result.1 }
-    ensures receives { AllZip (λ old new. (new.device ≡ old.device) × Receives (L.came old.link) (L.came new.link) old.intake new.intake new.received.dropped) wires.entry.receivers.items result.2.links.items }
-    ensures same { SameSeat run_seats.beside.0 result.2.seat }
-    ensures forwards { Forwards (names_of wires.entry.devices.now) run_seats.beside.0.calls result.2.seat.calls (S.tried wires.entry.sender) (S.tried result.2.sender) }
+        (DroveFor G.gives G.told clients.entry.gate.now None) clients.entry.places (vec_len run_seats.work.seats) result.1.0.work.seats.items result.1.0.work.ended.items result.1.0.work.drivers.items }
+    ensures room { vec_capacity run_seats.work.seats ≤ vec_capacity result.1.0.work.seats }
+    ensures beside { AllZip SameSeat (B.Seats.sittings run_seats.beside.1) (B.Seats.sittings result.1.0.beside) }
+    ensures does { B.does beside run_seats.beside.1 result.1.0.beside result.1.1 }
+    ensures receives { AllZip (λ old new. (new.device ≡ old.device) × Receives (L.came old.link) (L.came new.link) old.intake new.intake new.received.dropped) wires.entry.receivers.items result.0.links.items }
+    ensures same { SameSeat run_seats.beside.0 result.0.seat }
+    ensures forwards { Forwards (names_of wires.entry.devices.now) run_seats.beside.0.calls result.0.seat.calls (S.tried wires.entry.sender) (S.tried result.0.sender) }
 {
-    let stop = AtomicBool::new(false);
-    let stop = &stop;
-    let Clients {
-        door,
-        gate,
-        readonly,
-        places,
-        workers,
-        turns,
-    } = clients;
+    let stop = &AtomicBool::new(false);
+    let service = &Service::of(alloc, &clients, None);
+    let Clients { door, gate, .. } = clients;
     let LinkParts {
         devices,
         receivers,
@@ -123,7 +117,11 @@ fn serve_linked<
         work,
         beside: (forwarder, seats),
     } = run_seats;
-    let (linked, (run_seats, done)) = thread::join(
+    let run_seats = RunSeats {
+        work,
+        beside: seats,
+    };
+    thread::join(
         rt,
         move || -> Linked<T, L, S>
             requires { IsSync R.row × IsSend L.row × IsSend S.row × IsSend T.row × (forwarder.desk ≡ desk.now) × (vec_len receivers ≤ length devices.now) }
@@ -132,31 +130,19 @@ fn serve_linked<
                 × Forwards (names_of devices.entry.now) forwarder.calls result.seat.calls (S.tried sender) (S.tried result.sender) }
         { run_links(rt, alloc, desk, forwarder, devices, receivers, sender, stop) },
         move || -> (RunSeats<T, B::Seats>, B::Done)
-            requires { IsSync R.row × IsSync D.row × IsSync G.row × IsSend T.row × IsSend B.row × Ready desk.now places (vec_len work.seats) work.seats.items work.ended.items work.drivers.items (vec_capacity work.ended) (vec_capacity work.drivers) × (0 < turns) × All (λ s. s.desk ≡ desk.now) (B.Seats.sittings seats) }
-            ensures { ((feeds : List FeedName) → All (IsOf desk.entry.now feeds) work.seats.items → All (IsOf desk.entry.now feeds) result.0.work.seats.items)
-                × Worked (AttendedInTurn D.lets_in D.Reader.input D.Writer.output G.gives G.told door.entry.now gate.entry.now readonly turns) (DroveFor G.gives G.told gate.entry.now None)
-                places (vec_len work.seats) result.0.work.seats.items result.0.work.ended.items result.0.work.drivers.items
-                × (vec_capacity work.seats ≤ vec_capacity result.0.work.seats)
-                × AllZip SameSeat (B.Seats.sittings seats) (B.Seats.sittings result.0.beside) × B.does beside seats result.0.beside result.1 }
+            requires { IsSync R.row × IsSync D.row × IsSync G.row × IsSend T.row × IsSend B.row × Ready desk.now service.now.sessions (vec_len run_seats.work.seats) run_seats.work.seats.items run_seats.work.ended.items run_seats.work.drivers.items
+                (vec_capacity run_seats.work.ended) (vec_capacity run_seats.work.drivers) × (0 < service.now.turns) × All (λ s. s.desk ≡ desk.now) (B.Seats.sittings run_seats.beside) }
+            ensures { StayOf desk.entry.now run_seats.work.seats.items result.0.work.seats.items
+                × Worked (AttendedInTurn D.lets_in D.Reader.input D.Writer.output G.gives G.told door.entry.now gate.entry.now service.entry.now.readonly service.entry.now.turns)
+                (DroveFor G.gives G.told gate.entry.now service.entry.now.rounds) service.entry.now.sessions (vec_len run_seats.work.seats) result.0.work.seats.items result.0.work.ended.items result.0.work.drivers.items
+                × (vec_capacity run_seats.work.seats ≤ vec_capacity result.0.work.seats)
+                × AllZip SameSeat (B.Seats.sittings run_seats.beside) (B.Seats.sittings result.0.beside) × B.does beside run_seats.beside result.0.beside result.1 }
         {
-            let clients = Clients {
-                door,
-                gate,
-                readonly,
-                places,
-                workers,
-                turns,
-            };
-            let run_seats = RunSeats {
-                work,
-                beside: seats,
-            };
-            let served = serve_beside(rt, alloc, desk, clients, None, beside, run_seats);
+            let served = serve_beside(rt, desk, door, gate, service, beside, run_seats);
             stop.store(true, Ordering::SeqCst);
             served
         },
-    );
-    (run_seats, done, linked)
+    )
 }
 
 /// Settles the feed of a device: the packets of it that did not enter, where there is memory to tell them.
@@ -363,7 +349,7 @@ pub fn run_linked_beside<
         receivers,
         sender,
     };
-    let (run_seats, done, linked) = serve_linked(
+    let (linked, (run_seats, done)) = serve_linked(
         rt, alloc, &desk, clients, wires, beside, run_seats,
     );
     let ran = close_and_settle(rt, alloc, desk, run_seats, linked, ends);
@@ -388,26 +374,19 @@ pub fn run_linked<
     table: T,
     text: &[u8],
     clients: Clients<D, G>,
-    devices: &[Device],
-    links: Links<L>,
-    sender: S,
+    linking: LinkSetup<L, S>,
 ) -> Result<LinkedRan<T, L, S>, OpenFault>
     requires many { (0 < clients.places + clients.workers) × (clients.places + clients.workers < 256) }
     requires turns { 0 < clients.turns }
-    requires devices { names_of devices.now ≡ map (λ r. r.device) links.receivers.items }
-    ensures headline { IfOk result (λ ran. LinkedHeadline (names_of devices.now) text.now (clients.entry.places + clients.entry.workers + 1) ran.book) }
+    requires devices { names_of linking.devices.now ≡ map (λ r. r.device) linking.links.receivers.items }
+    ensures headline { IfOk result (λ ran. LinkedHeadline (names_of linking.entry.devices.now) text.now (clients.entry.places + clients.entry.workers + 1) ran.book) }
     ensures worked { IfOk result (λ ran. LinkedWork (AttendedInTurn D.lets_in D.Reader.input D.Writer.output G.gives G.told clients.entry.door.now clients.entry.gate.now clients.entry.readonly clients.entry.turns)
-        (DroveFor G.gives G.told clients.entry.gate.now None) clients.entry.places clients.entry.workers (names_of devices.now) (S.tried sender) (S.tried ran.sender) ran.book.seats ran.ended.items ran.drivers.items) }
-    ensures sent { IfOk result (λ ran. (device : List ℕ) → sent_by device (S.tried ran.sender) ≡ sent_by device (S.tried sender) ++ gifts_by device (calls_in ran.book.entries)) }
+        (DroveFor G.gives G.told clients.entry.gate.now None) clients.entry.places clients.entry.workers (names_of linking.entry.devices.now) (S.tried linking.entry.sender) (S.tried ran.sender) ran.book.seats ran.ended.items ran.drivers.items) }
+    ensures sent { IfOk result (λ ran. (device : List ℕ) → sent_by device (S.tried ran.sender) ≡ sent_by device (S.tried linking.entry.sender) ++ gifts_by device (calls_in ran.book.entries)) }
     ensures links { IfOk result (λ ran. SideBySide (λ r e. (e.device ≡ r.device) × LinkRan ran.book.entries r.device (L.came r.link) (L.came e.link) e.received.dropped (option_map (λ l. l.items) e.left))
-        links.receivers.items ran.links.items) }
-    ensures config { IfErr result (IsTrueOpening (clients.entry.places + clients.entry.workers + 1) (names_of devices.now) text.now) }
+        linking.entry.links.receivers.items ran.links.items) }
+    ensures config { IfErr result (IsTrueOpening (clients.entry.places + clients.entry.workers + 1) (names_of linking.entry.devices.now) text.now) }
 {
-    let linking = LinkSetup {
-        devices,
-        links,
-        sender,
-    };
     match run_linked_beside(rt, alloc, table, text, clients, linking, NothingBeside) {
         Ok((ran, ())) => Ok(ran),
         Err(fault) => Err(fault),

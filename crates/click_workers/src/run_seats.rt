@@ -8,18 +8,16 @@ ghost use Rattle.click_desk.specs.Openings.{IsViewFault};
 ghost use Rattle.click_workers.specs.Beside.{seats_from};
 ghost use Rattle.click_workers.specs.Runs.{HeadlineWith, IsChecked, IsOpenedFor, views_for};
 ghost use Rattle.click_workers.specs.Seats.{IsOf, SameSeat};
-ghost use Rattle.click_workers.specs.Work.{AttendedInTurn, DroveFor, Ready, Worked, numbers_below};
+ghost use Rattle.click_workers.specs.Work.{AttendedInTurn, DroveFor, Ready, StayOf, Worked, numbers_below};
 
 use crate::beside::Beside;
 use crate::checking::{Asked, close_and_check};
-use crate::clients::Clients;
 use crate::door::Door;
 use crate::gate::Gate;
 use crate::opening::{Opened, Opening, open_with};
-use crate::places::Places;
-use crate::run_limits::RunLimits;
 use crate::runs::AllRan;
 use crate::seat_group::SeatGroup;
+use crate::service::Service;
 use crate::work::{Work, work_all};
 use click_desk::{Desk, OpenFault};
 use click_rings::Inlet;
@@ -104,36 +102,24 @@ pub(crate) fn serve_beside<
     R: Threads + Wait + Sync,
 >(
     rt: &R,
-    alloc: Global,
     desk: &Desk<T, &R>,
-    clients: Clients<D, G>,
-    rounds: Option<u64>,
+    door: &D,
+    gate: &G,
+    service: &Service,
     beside: B,
     run_seats: RunSeats<T, B::Seats>,
 ) -> (RunSeats<T, B::Seats>, B::Done)
-    requires ready { Ready desk.now clients.places (vec_len run_seats.work.seats) run_seats.work.seats.items run_seats.work.ended.items run_seats.work.drivers.items (vec_capacity run_seats.work.ended) (vec_capacity run_seats.work.drivers) }
-    requires turns { 0 < clients.turns }
+    requires ready { Ready desk.now service.now.sessions (vec_len run_seats.work.seats) run_seats.work.seats.items run_seats.work.ended.items run_seats.work.drivers.items (vec_capacity run_seats.work.ended) (vec_capacity run_seats.work.drivers) }
+    requires turns { 0 < service.now.turns }
     requires of { All (λ s. s.desk ≡ desk.now) (B.Seats.sittings run_seats.beside) }
-    ensures desk { (feeds : List FeedName) → All (IsOf desk.now feeds) run_seats.work.seats.items → All (IsOf desk.now feeds) result.0.work.seats.items }
-    ensures worked { Worked (AttendedInTurn D.lets_in D.Reader.input D.Writer.output G.gives G.told clients.entry.door.now clients.entry.gate.now clients.entry.readonly clients.entry.turns)
-        (DroveFor G.gives G.told clients.entry.gate.now rounds) clients.entry.places (vec_len run_seats.work.seats) result.0.work.seats.items result.0.work.ended.items result.0.work.drivers.items }
+    ensures desk { StayOf desk.now run_seats.work.seats.items result.0.work.seats.items }
+    ensures worked { Worked (AttendedInTurn D.lets_in D.Reader.input D.Writer.output G.gives G.told door.now gate.now service.now.readonly service.now.turns)
+        (DroveFor G.gives G.told gate.now service.now.rounds) service.now.sessions (vec_len run_seats.work.seats) result.0.work.seats.items result.0.work.ended.items result.0.work.drivers.items }
     ensures room { vec_capacity run_seats.work.seats ≤ vec_capacity result.0.work.seats }
     ensures same { AllZip SameSeat (B.Seats.sittings run_seats.beside) (B.Seats.sittings result.0.beside) }
     ensures does { B.does beside run_seats.beside result.0.beside result.1 }
 {
-    let stop = AtomicBool::new(false);
-    let stop = &stop;
-    let places = Places::new(clients.places);
-    let places = &places;
-    let Clients {
-        door,
-        gate,
-        readonly,
-        places: sessions,
-        workers: _,
-        turns,
-    } = clients;
-    let run_limits = RunLimits { turns, rounds };
+    let stop = &AtomicBool::new(false);
     let RunSeats {
         work,
         beside: seats,
@@ -143,17 +129,15 @@ pub(crate) fn serve_beside<
         move || -> (B::Done, B::Seats)
             requires { IsSync R.row × IsSend T.row × IsSend B.row × All (λ s. s.desk ≡ desk.now) (B.Seats.sittings seats) }
             ensures { AllZip SameSeat (B.Seats.sittings seats) (B.Seats.sittings result.1) × B.does beside seats result.1 result.0 }
-        { beside.work(rt, alloc, desk, seats, stop) },
+        { beside.work(rt, service.alloc, desk, seats, stop) },
         move || -> Work<T>
-            requires { IsSync R.row × IsSync D.row × IsSync G.row × IsSend T.row × Ready desk.now sessions (vec_len work.seats) work.seats.items work.ended.items work.drivers.items (vec_capacity work.ended) (vec_capacity work.drivers) × (0 < run_limits.turns) }
-            ensures { ((feeds : List FeedName) → All (IsOf desk.entry.now feeds) work.seats.items → All (IsOf desk.entry.now feeds) result.seats.items)
-                × Worked (AttendedInTurn D.lets_in D.Reader.input D.Writer.output G.gives G.told door.entry.now gate.entry.now readonly run_limits.turns) (DroveFor G.gives G.told gate.entry.now run_limits.rounds)
-                sessions (vec_len work.seats) result.seats.items result.ended.items result.drivers.items
+            requires { IsSync R.row × IsSync D.row × IsSync G.row × IsSend T.row × Ready desk.now service.now.sessions (vec_len work.seats) work.seats.items work.ended.items work.drivers.items (vec_capacity work.ended) (vec_capacity work.drivers) × (0 < service.now.turns) }
+            ensures { StayOf desk.entry.now work.seats.items result.seats.items
+                × Worked (AttendedInTurn D.lets_in D.Reader.input D.Writer.output G.gives G.told door.entry.now gate.entry.now service.entry.now.readonly service.entry.now.turns)
+                (DroveFor G.gives G.told gate.entry.now service.entry.now.rounds) service.entry.now.sessions (vec_len work.seats) result.seats.items result.ended.items result.drivers.items
                 × (vec_capacity work.seats ≤ vec_capacity result.seats) }
         {
-            let done = work_all(
-                rt, alloc, desk, readonly, door, gate, sessions, run_limits, places, work,
-            );
+            let done = work_all(rt, desk, door, gate, service, work);
             stop.store(true, Ordering::SeqCst);
             done
         },

@@ -7,15 +7,17 @@ ghost use Rattle.click_workers.specs.Work.{Attended, AttendedInTurn, Drove, Drov
 ghost use Rattle.click_workers.specs.Runs.{Headline, HeadlineFor, IsOpenedFor, IsOpenedWith, DriversRound, RanOver, IsChecked, IsTrueFault, IsNoClose, IsViewAsked, IsLate};
 
 use crate::beside::{Beside, NothingBeside};
-use crate::checking::{Asked, close_and_check};
+use crate::checking::close_and_check;
 use crate::clients::Clients;
 use crate::door::Door;
 use crate::gate::Gate;
 use crate::opening::{Opened, Opening, open_with};
 use crate::run_seats::{OpenedRun, begin, finish, serve_beside};
+use crate::seat_port::SeatPort;
+use crate::service::Service;
 use crate::session::{SessionEnd, serve_alone};
 use click_control::{Ended, ServeFault, Sink, Source};
-use click_desk::{Book, Desk, OpenFault, Seat};
+use click_desk::{Book, OpenFault};
 use click_router::{Check, ConfigFault, Handlers};
 use std::alloc::Global;
 use std::sync::Wait;
@@ -109,24 +111,28 @@ fn open_one<'a, 'b, T: Drop, R: Wait>(
 fn serve_and_close<T: Handlers + Drop, S: Source, W: Sink, R: Wait>(
     rt: &R,
     alloc: Global,
-    desk: Desk<T, &R>,
-    mut seats: Vec<Seat<T>>,
+    opened: Opened<T, R>,
     reader: &mut S,
     writer: &mut W,
     readonly: bool,
-    asked: Option<Asked>,
 ) -> Ran<T>
-    requires many { desk.options.seats ≡ 1 }
-    requires seats { seats.items ≡ seats_below desk [] 1 }
-    requires view { IfSome asked (λ a. a.view.board ≡ desk.options.origin) }
-    ensures headline { (text : List ℕ) → IsOpenedWith text 1 desk.entry → Headline text 1 result.book }
-    ensures served { (text : List ℕ) → IsOpenedWith text 1 desk.entry → RanOver text readonly result.book (S.input reader.old) (S.input reader.new) (W.output writer.old) (W.output writer.new) result.ended }
-    ensures checked { IsChecked (option_map (λ a. a.name.now) asked.entry) result.book result.checked }
+    requires many { opened.desk.options.seats ≡ 1 }
+    requires seats { opened.seats.items ≡ seats_below opened.desk [] 1 }
+    requires view { IfSome opened.asked (λ a. a.view.board ≡ opened.desk.options.origin) }
+    ensures headline { (text : List ℕ) → IsOpenedWith text 1 opened.entry.desk → Headline text 1 result.book }
+    ensures served { (text : List ℕ) → IsOpenedWith text 1 opened.entry.desk → RanOver text readonly result.book (S.input reader.old) (S.input reader.new) (W.output writer.old) (W.output writer.new) result.ended }
+    ensures checked { IsChecked (option_map (λ a. a.name.now) opened.entry.asked) result.book result.checked }
 {
+    let Opened {
+        desk,
+        mut seats,
+        asked,
+    } = opened;
     let Some(seat) = seats.pop() else {
         unreachable!()
     };
-    let (ended, seat) = serve_alone(rt, alloc, &desk, seat, reader, writer, readonly);
+    let port = SeatPort::new(rt, &desk, seat);
+    let (ended, seat) = serve_alone(alloc, port, reader, writer, readonly);
     seats.push_reserved(seat);
     let (book, checked) = close_and_check(rt, desk, seats, asked);
     Ran {
@@ -163,11 +169,10 @@ pub fn run<T: Handlers + Drop, S: Source, W: Sink, R: Wait>(
         room: Some(ROOM),
         check,
     };
-    let Opened { desk, seats, asked } = match open_one(rt, alloc, table, opening) {
-        Ok(opened) => opened,
-        Err(fault) => return Err(fault),
-    };
-    Ok(serve_and_close(rt, alloc, desk, seats, reader, writer, readonly, asked))
+    match open_one(rt, alloc, table, opening) {
+        Ok(opened) => Ok(serve_and_close(rt, alloc, opened, reader, writer, readonly)),
+        Err(fault) => Err(fault),
+    }
 }
 
 /// Runs sessions and drivers over a desk, with work beside them over seats of its own, each in a thread of its own where one can be made, and closes the desk. A history without a bound is not
@@ -220,7 +225,9 @@ pub fn run_beside<
         Ok(begun) => begun,
         Err(fault) => return Err(fault_of(fault)),
     };
-    let (run_seats, done) = serve_beside(rt, alloc, &desk, clients, rounds, beside, run_seats);
+    let service = &Service::of(alloc, &clients, rounds);
+    let Clients { door, gate, .. } = clients;
+    let (run_seats, done) = serve_beside(rt, &desk, door, gate, service, beside, run_seats);
     let all = finish(rt, desk, run_seats, asked);
     Ok(BesideRan { all, done })
 }
@@ -309,20 +316,15 @@ pub fn run_live<T: Handlers + Send + Drop, D: Door, G: Gate, R: Threads + Wait +
     alloc: Global,
     table: T,
     text: &[u8],
-    readonly: bool,
-    door: &D,
-    places: usize,
-    workers: usize,
-    turns: u64,
-    gate: &G,
+    clients: Clients<D, G>,
     check: Option<&[u8]>,
 ) -> Result<AllRan<T>, RunFault>
-    requires many { (0 < places + workers) × (places + workers ≤ 256) }
-    requires turns { 0 < turns }
-    ensures headline { IfOk result (λ ran. HeadlineFor None text.now (places + workers) ran.book) }
-    ensures worked { IfOk result (λ ran. Worked (AttendedInTurn D.lets_in D.Reader.input D.Writer.output G.gives G.told door.now gate.now readonly turns)
-        (DroveFor G.gives G.told gate.now None) places (places + workers) ran.book.seats ran.ended.items ran.drivers.items) }
-    ensures rounds { IfOk result (λ ran. DriversRound places ran.book) }
+    requires many { (0 < clients.places + clients.workers) × (clients.places + clients.workers ≤ 256) }
+    requires turns { 0 < clients.turns }
+    ensures headline { IfOk result (λ ran. HeadlineFor None text.now (clients.entry.places + clients.entry.workers) ran.book) }
+    ensures worked { IfOk result (λ ran. Worked (AttendedInTurn D.lets_in D.Reader.input D.Writer.output G.gives G.told clients.entry.door.now clients.entry.gate.now clients.entry.readonly clients.entry.turns)
+        (DroveFor G.gives G.told clients.entry.gate.now None) clients.entry.places (clients.entry.places + clients.entry.workers) ran.book.seats ran.ended.items ran.drivers.items) }
+    ensures rounds { IfOk result (λ ran. DriversRound clients.entry.places ran.book) }
     ensures checked { IfOk result (λ ran. IsChecked (option_map (λ n. n.now) check.entry) ran.book ran.checked) }
     ensures config { IfErr result (IsTrueFault text.now) }
     ensures never_close { IfErr result IsNoClose }
@@ -332,14 +334,6 @@ pub fn run_live<T: Handlers + Send + Drop, D: Door, G: Gate, R: Threads + Wait +
         text,
         room: None,
         check,
-    };
-    let clients = Clients {
-        door,
-        gate,
-        readonly,
-        places,
-        workers,
-        turns,
     };
     run_alone(rt, alloc, table, opening, clients, None)
 }

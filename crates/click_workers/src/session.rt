@@ -8,8 +8,8 @@ ghost use Rattle.click_workers.specs.Work.{Attends, InTurn};
 use crate::door::Door;
 use crate::gate::{AtGate, Gate};
 use crate::pause::Pause;
-use crate::places::Places;
 use crate::seat_port::SeatPort;
+use crate::service::Service;
 use click_control::{Ended, ServeFault, Sink, Source, Turns, serve, serve_turns};
 use click_desk::{Desk, Seat};
 use click_router::Handlers;
@@ -17,40 +17,32 @@ use std::alloc::Global;
 use std::sync::Wait;
 
 /// Serves a session over a seat of the desk: the seat's list grows by just the calls that were not refused for memory or room, with their replies.
-pub fn serve_at<T: Handlers, S: Source, W: Sink, G: Turns, R: Wait>(
-    rt: &R,
+pub fn serve_at<T: Handlers, S: Source, W: Sink, G: Turns, R: Wait, B: Wait + Drop>(
     alloc: Global,
-    desk: &Desk<T, &R>,
-    seat: Seat<T>,
+    mut port: SeatPort<T, R, B>,
     reader: &mut S,
     writer: &mut W,
     readonly: bool,
     turns: &mut G,
     reads: u32,
 ) -> (Result<Ended, ServeFault>, Seat<T>)
-    requires { seat.desk ≡ desk.now }
-    ensures { SeatServes readonly reads (WentThrough G.turn G.done turns.old turns.new) seat result.1 (S.input reader.old) (S.input reader.new)
+    ensures { SeatServes readonly reads (WentThrough G.turn G.done turns.old turns.new) port.entry result.1 (S.input reader.old) (S.input reader.new)
         (W.output writer.old) (W.output writer.new) result.0 }
 {
-    let mut port = SeatPort::new(rt, desk, seat);
     let ended = serve_turns(alloc, reader, writer, &mut port, readonly, turns, reads);
     (ended, port.into_seat())
 }
 
 /// The same with as many reads as a session may have, and turns that are all given.
-pub(crate) fn serve_alone<T: Handlers, S: Source, W: Sink, R: Wait>(
-    rt: &R,
+pub(crate) fn serve_alone<T: Handlers, S: Source, W: Sink, R: Wait, B: Wait + Drop>(
     alloc: Global,
-    desk: &Desk<T, &R>,
-    seat: Seat<T>,
+    mut port: SeatPort<T, R, B>,
     reader: &mut S,
     writer: &mut W,
     readonly: bool,
 ) -> (Result<Ended, ServeFault>, Seat<T>)
-    requires { seat.desk ≡ desk.now }
-    ensures { SeatServes readonly most_reads NoneRefused seat result.1 (S.input reader.old) (S.input reader.new) (W.output writer.old) (W.output writer.new) result.0 }
+    ensures { SeatServes readonly most_reads NoneRefused port.entry result.1 (S.input reader.old) (S.input reader.new) (W.output writer.old) (W.output writer.new) result.0 }
 {
-    let mut port = SeatPort::new(rt, desk, seat);
     let ended = serve(alloc, reader, writer, &mut port, readonly);
     (ended, port.into_seat())
 }
@@ -70,30 +62,27 @@ const MOST_READS: u32 = 4_294_967_295;
 /// Lets a session in and serves it over the seat.
 fn attend<T: Handlers, D: Door, G: Gate, R: Wait>(
     rt: &R,
-    alloc: Global,
     desk: &Desk<T, &R>,
-    seat: Seat<T>,
-    readonly: bool,
     door: &D,
     gate: &G,
+    service: &Service,
+    seat: Seat<T>,
     who: usize,
 ) -> (SessionEnd, Seat<T>)
     requires { seat.desk ≡ desk.now }
     ensures same { SameSeat seat result.1 }
-    ensures attends { Attends D.lets_in D.Reader.input D.Writer.output G.gives G.told door.now gate.now readonly who seat result.1 result.0 }
+    ensures attends { Attends D.lets_in D.Reader.input D.Writer.output G.gives G.told door.now gate.now service.now.readonly who seat result.1 result.0 }
 {
     let Some((mut reader, mut writer)) = door.enter(who) else {
         return (SessionEnd::NoEntry, seat);
     };
     let mut turns = AtGate::new(gate, who);
     let (ended, seat) = serve_at(
-        rt,
-        alloc,
-        desk,
-        seat,
+        service.alloc,
+        SeatPort::new(rt, desk, seat),
         &mut reader,
         &mut writer,
-        readonly,
+        service.readonly,
         &mut turns,
         MOST_READS,
     );
@@ -103,35 +92,32 @@ fn attend<T: Handlers, D: Door, G: Gate, R: Wait>(
 /// How long a place that nobody came in at sleeps at most, in microseconds.
 const LONGEST: u64 = 100_000;
 
-/// Lets this many sessions in, one after another, and serves each over the seat. Where one did not come in it sleeps before the next. Says how the last one ended.
+/// Lets so many sessions in, one after another, and serves each over the seat. Where one did not come in it sleeps before the next. Says how the last one ended.
 pub(crate) fn attend_in_turn<T: Handlers, D: Door, G: Gate, R: Wait>(
     rt: &R,
-    alloc: Global,
     desk: &Desk<T, &R>,
-    seat: Seat<T>,
-    readonly: bool,
     door: &D,
     gate: &G,
+    service: &Service,
+    seat: Seat<T>,
     who: usize,
-    turns: u64,
-    places: &Places,
 ) -> (SessionEnd, Seat<T>)
     requires desk { seat.desk ≡ desk.now }
-    requires some { 0 < turns }
+    requires some { 0 < service.now.turns }
     ensures same { SameSeat seat result.1 }
-    ensures attends { InTurn (Attends D.lets_in D.Reader.input D.Writer.output G.gives G.told door.now gate.now readonly who) turns seat result.1 result.0 }
+    ensures attends { InTurn (Attends D.lets_in D.Reader.input D.Writer.output G.gives G.told door.now gate.now service.now.readonly who) service.now.turns seat result.1 result.0 }
 {
     let mut pause = Pause::up_to(LONGEST);
-    let (mut last, mut seat) = attend(rt, alloc, desk, seat, readonly, door, gate, who);
-    for nth in 1..turns {
+    let (mut last, mut seat) = attend(rt, desk, door, gate, service, seat, who);
+    for nth in 1..service.turns {
         match last {
             SessionEnd::NoEntry => pause.sleep(rt),
             SessionEnd::Served(_) => pause.begin_anew(),
         }
-        let (end, left) = attend(rt, alloc, desk, seat, readonly, door, gate, who);
+        let (end, left) = attend(rt, desk, door, gate, service, seat, who);
         last = end;
         seat = left;
     }
-    places.leave();
+    service.places.leave();
     (last, seat)
 }

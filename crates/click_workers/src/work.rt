@@ -1,22 +1,18 @@
 //! Sessions and drivers, each in a thread of its own.
 
-ghost use Rattle.std.specs.Prelude.{◌≡◌, ◌≤◌, ◌<◌, ◌+◌, ◌++◌, ◌∷◌, List, [], IfSome, IfNone, vec_len, vec_capacity};
-ghost use Rattle.std.specs.List.{All};
+ghost use Rattle.std.specs.Prelude.{◌≡◌, ◌≤◌, ◌<◌, ◌+◌, ◌++◌, ◌∷◌, [], IfSome, IfNone, length, vec_len, vec_capacity};
 ghost use Rattle.std.specs.Thread.{IsSend, IsSync};
-ghost use Rattle.click_rings.specs.Feeds.{FeedName};
 ghost use Rattle.click_desk.specs.SeatStates.{new_seat};
-ghost use Rattle.click_workers.specs.Seats.{SameSeat, IsOf};
-ghost use Rattle.click_workers.specs.Work.{Attends, AttendedInTurn, DrivesFor, DroveFor, InTurn, Ready, Worked};
+ghost use Rattle.click_workers.specs.Seats.{SameSeat};
+ghost use Rattle.click_workers.specs.Work.{AttendedInTurn, CameOf, DroveFor, Ready, StayOf, Worked, drives_of, ends_of};
 
 use crate::door::Door;
 use crate::driver::drive_for;
 use crate::gate::Gate;
-use crate::places::Places;
-use crate::run_limits::RunLimits;
+use crate::service::Service;
 use crate::session::{SessionEnd, attend_in_turn};
 use click_desk::{Desk, Seat};
 use click_router::Handlers;
-use std::alloc::Global;
 use std::sync::Wait;
 use std::thread;
 use std::thread::Threads;
@@ -29,14 +25,41 @@ pub(crate) struct Work<T> {
     pub(crate) drivers: Vec<bool>,
 }
 
-/// Takes the last of the new seats.
+/// What came of one seat: how the last session of its place ended, or whether its driver made all its Rounds.
+#[derive(Drop)]
+pub(crate) enum Outcome {
+    Attended(SessionEnd),
+    Drove(bool),
+}
+
+impl<T> Work<T> {
+    /// Puts a seat behind the others, and what came of it behind what came of them.
+    fn add(&mut self, outcome: Outcome, seat: Seat<T>)
+        requires seats { vec_len self.old.seats < vec_capacity self.old.seats }
+        requires ended { vec_len self.old.ended + length (ends_of outcome) ≤ vec_capacity self.old.ended }
+        requires drivers { vec_len self.old.drivers + length (drives_of outcome) ≤ vec_capacity self.old.drivers }
+        ensures seats { self.new.seats.items ≡ self.old.seats.items ++ seat ∷ [] }
+        ensures ended { self.new.ended.items ≡ self.old.ended.items ++ ends_of outcome }
+        ensures drivers { self.new.drivers.items ≡ self.old.drivers.items ++ drives_of outcome }
+        ensures room { (vec_capacity self.old.seats ≤ vec_capacity self.new.seats) × (vec_capacity self.old.ended ≤ vec_capacity self.new.ended) × (vec_capacity self.old.drivers ≤ vec_capacity self.new.drivers) }
+    {
+        self.seats.push_reserved(seat);
+        match outcome {
+            Outcome::Attended(end) => self.ended.push_reserved(end),
+            Outcome::Drove(all) => self.drivers.push_reserved(all),
+        }
+    }
+}
+
+/// Takes the last of the new seats, with the number of its session or driver.
 fn last_of<T, B: Wait + Drop>(
     desk: &Desk<T, B>,
     sessions: usize,
     work: Work<T>,
-) -> (Option<Seat<T>>, Work<T>)
+) -> (Option<(usize, Seat<T>)>, Work<T>)
     requires { Ready desk.now sessions (vec_len work.seats) work.seats.items work.ended.items work.drivers.items (vec_capacity work.ended) (vec_capacity work.drivers) }
-    ensures some { IfSome result.0 (λ s. (s ≡ new_seat desk.now s.feeds (vec_len result.1.seats)) × (vec_len work.seats ≡ vec_len result.1.seats + 1) × (work.seats.items ≡ result.1.seats.items ++ s ∷ [])) }
+    ensures some { IfSome result.0 (λ p. (p.1 ≡ new_seat desk.now p.1.feeds p.1.number) × (p.0 ≡ p.1.number + 1) × (p.1.number ≡ vec_len result.1.seats) × (vec_len work.seats ≡ vec_len result.1.seats + 1)
+        × (work.seats.items ≡ result.1.seats.items ++ p.1 ∷ [])) }
     ensures none { IfNone result.0 ((vec_len work.seats ≡ 0) × (vec_len result.1.seats ≡ 0) × (work.seats.items ≡ result.1.seats.items)) }
     ensures ready { Ready desk.now sessions (vec_len result.1.seats) result.1.seats.items result.1.ended.items result.1.drivers.items (vec_capacity result.1.ended) (vec_capacity result.1.drivers) }
     ensures room { (vec_capacity work.seats ≡ vec_capacity result.1.seats) × (vec_capacity work.ended ≡ vec_capacity result.1.ended) × (vec_capacity work.drivers ≡ vec_capacity result.1.drivers) }
@@ -46,7 +69,10 @@ fn last_of<T, B: Wait + Drop>(
         ended,
         drivers,
     } = work;
-    let last = seats.pop();
+    let last = match seats.pop() {
+        Some(seat) => Some((seats.len() + 1, seat)),
+        None => None,
+    };
     let rest = Work {
         seats,
         ended,
@@ -55,87 +81,68 @@ fn last_of<T, B: Wait + Drop>(
     (last, rest)
 }
 
+/// The sessions of one place, or one driver, as the number is that of a place or not.
+fn work_one<T: Handlers, D: Door, G: Gate, R: Wait>(
+    rt: &R,
+    desk: &Desk<T, &R>,
+    door: &D,
+    gate: &G,
+    service: &Service,
+    seat: Seat<T>,
+    who: usize,
+) -> (Outcome, Seat<T>)
+    requires fresh { seat ≡ new_seat desk.now seat.feeds seat.number }
+    requires number { who ≡ seat.number + 1 }
+    requires some { 0 < service.now.turns }
+    ensures same { SameSeat seat result.1 }
+    ensures came { CameOf (AttendedInTurn D.lets_in D.Reader.input D.Writer.output G.gives G.told door.now gate.now service.now.readonly service.now.turns) (DroveFor G.gives G.told gate.now service.now.rounds)
+        service.now.sessions result.1 result.0 }
+{
+    if who > service.sessions {
+        let (all, seat) = drive_for(rt, desk, seat, gate, who, service.rounds, &service.places);
+        (Outcome::Drove(all), seat)
+    } else {
+        let (end, seat) = attend_in_turn(rt, desk, door, gate, service, seat, who);
+        (Outcome::Attended(end), seat)
+    }
+}
+
 /// The session or driver of each seat, one beside the rest, each in a thread of its own where one can be made.
 pub(crate) fn work_all<T: Handlers + Send + Drop, D: Door, G: Gate, R: Threads + Wait + Sync>(
     rt: &R,
-    alloc: Global,
     desk: &Desk<T, &R>,
-    readonly: bool,
     door: &D,
     gate: &G,
-    sessions: usize,
-    run_limits: RunLimits,
-    places: &Places,
+    service: &Service,
     work: Work<T>,
 ) -> Work<T>
-    requires ready { Ready desk.now sessions (vec_len work.seats) work.seats.items work.ended.items work.drivers.items (vec_capacity work.ended) (vec_capacity work.drivers) }
-    requires some { 0 < run_limits.turns }
-    ensures desk { (feeds : List FeedName) → All (IsOf desk.now feeds) work.seats.items → All (IsOf desk.now feeds) result.seats.items }
-    ensures worked { Worked (AttendedInTurn D.lets_in D.Reader.input D.Writer.output G.gives G.told door.now gate.now readonly run_limits.turns) (DroveFor G.gives G.told gate.now run_limits.rounds)
-        sessions (vec_len work.seats) result.seats.items result.ended.items result.drivers.items }
+    requires ready { Ready desk.now service.now.sessions (vec_len work.seats) work.seats.items work.ended.items work.drivers.items (vec_capacity work.ended) (vec_capacity work.drivers) }
+    requires some { 0 < service.now.turns }
+    ensures desk { StayOf desk.now work.seats.items result.seats.items }
+    ensures worked { Worked (AttendedInTurn D.lets_in D.Reader.input D.Writer.output G.gives G.told door.now gate.now service.now.readonly service.now.turns) (DroveFor G.gives G.told gate.now service.now.rounds)
+        service.now.sessions (vec_len work.seats) result.seats.items result.ended.items result.drivers.items }
     ensures room { (vec_capacity work.seats ≤ vec_capacity result.seats) × (vec_capacity work.ended ≤ vec_capacity result.ended) × (vec_capacity work.drivers ≤ vec_capacity result.drivers) }
 {
-    let (last, rest) = last_of(desk, sessions, work);
-    let Some(seat) = last else {
+    let (last, rest) = last_of(desk, service.sessions, work);
+    let Some((who, seat)) = last else {
         return rest;
     };
-    let who = rest.seats.len() + 1;
-    if who > sessions {
-        let ((all, seat), mut done) = thread::join(
-            rt,
-            move || -> (bool, Seat<T>)
-                requires { IsSync R.row × IsSync G.row × (seat.desk ≡ desk.now) × (seat.calls ≡ []) }
-                ensures { SameSeat seat result.1 × DrivesFor G.gives G.told gate.entry.now who run_limits.rounds result.1 result.0 }
-            { drive_for(rt, desk, seat, gate, who, run_limits.rounds, places) },
-            move || -> Work<T>
-                requires { IsSync R.row × IsSync D.row × IsSync G.row × IsSend T.row × Ready desk.now sessions (vec_len rest.seats) rest.seats.items rest.ended.items rest.drivers.items (vec_capacity rest.ended) (vec_capacity rest.drivers) × (0 < run_limits.turns) }
-                ensures { ((feeds : List FeedName) → All (IsOf desk.entry.now feeds) rest.seats.items → All (IsOf desk.entry.now feeds) result.seats.items)
-                    × Worked (AttendedInTurn D.lets_in D.Reader.input D.Writer.output G.gives G.told door.entry.now gate.entry.now readonly run_limits.turns) (DroveFor G.gives G.told gate.entry.now run_limits.rounds)
-                    sessions (vec_len rest.seats) result.seats.items result.ended.items result.drivers.items
-                    × (vec_capacity rest.seats ≤ vec_capacity result.seats) × (vec_capacity rest.ended ≤ vec_capacity result.ended) × (vec_capacity rest.drivers ≤ vec_capacity result.drivers) }
-            {
-                work_all(
-                    rt, alloc, desk, readonly, door, gate, sessions, run_limits, places, rest,
-                )
-            },
-        );
-        done.seats.push_reserved(seat);
-        done.drivers.push_reserved(all);
-        done
-    } else {
-        let ((end, seat), mut done) = thread::join(
-            rt,
-            move || -> (SessionEnd, Seat<T>)
-                requires { IsSync R.row × IsSync D.row × IsSync G.row × (seat.desk ≡ desk.now) × (0 < run_limits.turns) }
-                ensures { SameSeat seat result.1 × InTurn (Attends D.lets_in D.Reader.input D.Writer.output G.gives G.told door.entry.now gate.entry.now readonly who) run_limits.turns seat result.1 result.0 }
-            {
-                attend_in_turn(
-                    rt,
-                    alloc,
-                    desk,
-                    seat,
-                    readonly,
-                    door,
-                    gate,
-                    who,
-                    run_limits.turns,
-                    places,
-                )
-            },
-            move || -> Work<T>
-                requires { IsSync R.row × IsSync D.row × IsSync G.row × IsSend T.row × Ready desk.now sessions (vec_len rest.seats) rest.seats.items rest.ended.items rest.drivers.items (vec_capacity rest.ended) (vec_capacity rest.drivers) × (0 < run_limits.turns) }
-                ensures { ((feeds : List FeedName) → All (IsOf desk.entry.now feeds) rest.seats.items → All (IsOf desk.entry.now feeds) result.seats.items)
-                    × Worked (AttendedInTurn D.lets_in D.Reader.input D.Writer.output G.gives G.told door.entry.now gate.entry.now readonly run_limits.turns) (DroveFor G.gives G.told gate.entry.now run_limits.rounds)
-                    sessions (vec_len rest.seats) result.seats.items result.ended.items result.drivers.items
-                    × (vec_capacity rest.seats ≤ vec_capacity result.seats) × (vec_capacity rest.ended ≤ vec_capacity result.ended) × (vec_capacity rest.drivers ≤ vec_capacity result.drivers) }
-            {
-                work_all(
-                    rt, alloc, desk, readonly, door, gate, sessions, run_limits, places, rest,
-                )
-            },
-        );
-        done.seats.push_reserved(seat);
-        done.ended.push_reserved(end);
-        done
-    }
+    let ((outcome, seat), mut done) = thread::join(
+        rt,
+        move || -> (Outcome, Seat<T>)
+            requires { IsSync R.row × IsSync D.row × IsSync G.row × (seat ≡ new_seat desk.now seat.feeds seat.number) × (who ≡ seat.number + 1) × (0 < service.now.turns) }
+            ensures { SameSeat seat result.1
+                × CameOf (AttendedInTurn D.lets_in D.Reader.input D.Writer.output G.gives G.told door.entry.now gate.entry.now service.entry.now.readonly service.entry.now.turns)
+                (DroveFor G.gives G.told gate.entry.now service.entry.now.rounds) service.entry.now.sessions result.1 result.0 }
+        { work_one(rt, desk, door, gate, service, seat, who) },
+        move || -> Work<T>
+            requires { IsSync R.row × IsSync D.row × IsSync G.row × IsSend T.row × Ready desk.now service.now.sessions (vec_len rest.seats) rest.seats.items rest.ended.items rest.drivers.items (vec_capacity rest.ended) (vec_capacity rest.drivers) × (0 < service.now.turns) }
+            ensures { StayOf desk.entry.now rest.seats.items result.seats.items
+                × Worked (AttendedInTurn D.lets_in D.Reader.input D.Writer.output G.gives G.told door.entry.now gate.entry.now service.entry.now.readonly service.entry.now.turns)
+                (DroveFor G.gives G.told gate.entry.now service.entry.now.rounds) service.entry.now.sessions (vec_len rest.seats) result.seats.items result.ended.items result.drivers.items
+                × (vec_capacity rest.seats ≤ vec_capacity result.seats) × (vec_capacity rest.ended ≤ vec_capacity result.ended) × (vec_capacity rest.drivers ≤ vec_capacity result.drivers) }
+        { work_all(rt, desk, door, gate, service, rest) },
+    );
+    done.add(outcome, seat);
+    done
 }

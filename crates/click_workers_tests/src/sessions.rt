@@ -14,7 +14,7 @@ use click_desk::{Desk, Seat};
 use click_handlers::{Table, TakesTable, with_table};
 use click_packet::{Packet, StoredPacket};
 use click_router::{Call, Handlers, Reply};
-use click_workers::{run, serve_at};
+use click_workers::{SeatPort, run, serve_at};
 use std::alloc::Global;
 use std::process::Abort;
 use std::sync::Wait;
@@ -153,10 +153,8 @@ fn talks<T: Handlers, R: Wait>(
     let mut reader = Script::new(talk.input, size, 0);
     let mut writer = Keeper::new(alloc, size, 0);
     let (ended, seat) = serve_at(
-        rt,
         alloc,
-        desk,
-        seat,
+        SeatPort::new(rt, desk, seat),
         &mut reader,
         &mut writer,
         talk.readonly,
@@ -180,10 +178,8 @@ fn idles<T: Handlers, R: Wait>(
     let mut reader = Blanks::new();
     let mut writer = Keeper::new(alloc, 4096, 0);
     let (ended, seat) = serve_at(
-        rt,
         alloc,
-        desk,
-        seat,
+        SeatPort::new(rt, desk, seat),
         &mut reader,
         &mut writer,
         false,

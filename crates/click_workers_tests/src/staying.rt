@@ -8,7 +8,7 @@ use click_base::sequence::Sequence;
 use click_control::Ended;
 use click_handlers::{Table, TakesTable, with_table};
 use click_router::{Call, Handlers, Reply, Router};
-use click_workers::{AllRan, Door, Gate, SessionEnd, run_live};
+use click_workers::{AllRan, Clients, Door, Gate, SessionEnd, run_live};
 use std::alloc::{AllocError, Global};
 use std::sync::Wait;
 use std::sync::atomic::{AtomicU64, Ordering};
@@ -184,16 +184,15 @@ fn stays<T: Handlers + Send + Drop, R: Threads + Wait + Sync>(
         wanted: if case.workers == 0 { 0 } else { ROUNDS },
         made: AtomicU64::new(0),
     };
-    let Case {
-        places,
-        workers,
-        turns,
-        ..
-    } = case;
-    let ran = run_live(
-        rt, alloc, table, TEXT, false, &door, places, workers, turns, &gate, None,
-    );
-    let Ok(mut ran) = ran else {
+    let clients = Clients {
+        door: &door,
+        gate: &gate,
+        readonly: false,
+        places: case.places,
+        workers: case.workers,
+        turns: case.turns,
+    };
+    let Ok(mut ran) = run_live(rt, alloc, table, TEXT, clients, None) else {
         return Ok(false);
     };
     let first = door.first.load(Ordering::SeqCst);

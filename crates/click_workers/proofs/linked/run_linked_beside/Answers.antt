@@ -23,8 +23,8 @@ use Rattle.click_workers.proofs.TransmitSeats.{served-quiet, place-quiet, driver
 use Rattle.click_workers.proofs.NewSeats.{worked-as}
 use Rattle.click_workers.proofs.linked.run_linked_beside.Goals as goal
 
-pub serve_linked-run_seats-requires-clause-forwarder : goal.serve_linked-run_seats-requires-clause-forwarder
-serve_linked-run_seats-requires-clause-forwarder g c κs within =
+pub serve_linked-linked-requires-clause-forwarder : goal.serve_linked-linked-requires-clause-forwarder
+serve_linked-linked-requires-clause-forwarder g c κs within =
     let n = c.args.clients.places + c.args.clients.workers in
     let desk = c.in-Ok-begin.begun.desk in
     let feeds = c.args.linking.links.inlets.items in
@@ -32,8 +32,8 @@ serve_linked-run_seats-requires-clause-forwarder g c κs within =
     let of = subst (λ (l : List SeatState). All (IsOf desk feeds) l) (sym c.in-Ok-begin.ensures.beside) (from-of desk feeds n (1 + g.B.Seats.SeatGroup.many)) in
     (All-head (IsOf desk feeds) run_seats.beside.0 (g.B.Seats.SeatGroup.sittings run_seats.beside.1) of).0
 
-pub serve_linked-run_seats-requires-clause-of : goal.serve_linked-run_seats-requires-clause-of
-serve_linked-run_seats-requires-clause-of g c κs within =
+pub serve_linked-linked-requires-clause-of : goal.serve_linked-linked-requires-clause-of
+serve_linked-linked-requires-clause-of g c κs within =
     let n = c.args.clients.places + c.args.clients.workers in
     let desk = c.in-Ok-begin.begun.desk in
     let feeds = c.args.linking.links.inlets.items in
@@ -41,8 +41,8 @@ serve_linked-run_seats-requires-clause-of g c κs within =
     let of = subst (λ (l : List SeatState). All (IsOf desk feeds) l) (sym c.in-Ok-begin.ensures.beside) (from-of desk feeds n (1 + g.B.Seats.SeatGroup.many)) in
     λ k d below. (All-tail (IsOf desk feeds) run_seats.beside.0 (g.B.Seats.SeatGroup.sittings run_seats.beside.1) of k d below).0
 
-pub serve_linked-run_seats-requires-clause-devices : goal.serve_linked-run_seats-requires-clause-devices
-serve_linked-run_seats-requires-clause-devices g c κs within =
+pub serve_linked-linked-requires-clause-devices : goal.serve_linked-linked-requires-clause-devices
+serve_linked-linked-requires-clause-devices g c κs within =
     omega (
       arith,
       c.args.linking.links.receivers.ok.0,
@@ -57,23 +57,23 @@ close_and_settle-ran-requires-clause-of g c κs within =
     let named : List ℕ → RingName → FeedName = λ d k. record { device = d; ring = k } in
     let F : R → FeedName = λ r. record { device = r.device; ring = r.intake.feed.ring } in
     let Rel : R → R → Type 0 = λ old new. (new.device ≡ old.device) × Receives (g.L.Inbound.came old.link) (g.L.Inbound.came new.link) old.intake new.intake new.received.dropped in
-    let s = c.serve_linked-run_seats.ensures in
+    let s = c.serve_linked-linked.ensures in
     let desk = c.in-Ok-begin.begun.desk in
     let feeds = c.args.linking.links.inlets.items in
     let n = c.args.clients.places + c.args.clients.workers in
     let fed = same-map Rel F F (λ o n r. ap (λ d. named d n.intake.feed.ring) r.0 ∙ ap (λ k. named o.device k) r.1.hears.ring) _ _ s.receives ∙ sym c.args.linking.links.fed in
-    let news : List SeatState = c.serve_linked-run_seats.result.2.seat ∷ g.B.Seats.SeatGroup.sittings c.serve_linked-run_seats.result.0.beside in
+    let news : List SeatState = c.serve_linked-linked.result.0.seat ∷ g.B.Seats.SeatGroup.sittings c.serve_linked-linked.result.1.0.beside in
     let olds : List SeatState = c.in-Ok-begin.begun.run_seats.beside.0 ∷ g.B.Seats.SeatGroup.sittings c.in-Ok-begin.begun.run_seats.beside.1 in
-    let all = all-of desk feeds n (1 + g.B.Seats.SeatGroup.many) c.serve_linked-run_seats.result.0.work.seats.items olds news (s.desk feeds c.in-Ok-begin.ensures.of) c.in-Ok-begin.ensures.beside (s.same, s.beside) in
-    subst (λ (fs : List FeedName). All (IsOf desk fs) (c.serve_linked-run_seats.result.0.work.seats.items ++ news)) (sym fed) all
+    let all = all-of desk feeds n (1 + g.B.Seats.SeatGroup.many) c.serve_linked-linked.result.1.0.work.seats.items olds news (s.desk feeds c.in-Ok-begin.ensures.of) c.in-Ok-begin.ensures.beside (s.same, s.beside) in
+    subst (λ (fs : List FeedName). All (IsOf desk fs) (c.serve_linked-linked.result.1.0.work.seats.items ++ news)) (sym fed) all
 
 pub close_and_settle-ran-requires-clause-numbers : goal.close_and_settle-ran-requires-clause-numbers
 close_and_settle-ran-requires-clause-numbers g c κs within =
-    let s = c.serve_linked-run_seats.ensures in
+    let s = c.serve_linked-linked.ensures in
     let n = c.args.clients.places + c.args.clients.workers in
-    let news : List SeatState = c.serve_linked-run_seats.result.2.seat ∷ g.B.Seats.SeatGroup.sittings c.serve_linked-run_seats.result.0.beside in
+    let news : List SeatState = c.serve_linked-linked.result.0.seat ∷ g.B.Seats.SeatGroup.sittings c.serve_linked-linked.result.1.0.beside in
     let olds : List SeatState = c.in-Ok-begin.begun.run_seats.beside.0 ∷ g.B.Seats.SeatGroup.sittings c.in-Ok-begin.begun.run_seats.beside.1 in
-    all-numbers c.in-Ok-begin.begun.desk c.args.linking.links.inlets.items n (1 + g.B.Seats.SeatGroup.many) c.serve_linked-run_seats.result.0.work.seats.items olds news
+    all-numbers c.in-Ok-begin.begun.desk c.args.linking.links.inlets.items n (1 + g.B.Seats.SeatGroup.many) c.serve_linked-linked.result.1.0.work.seats.items olds news
     (s.worked.numbers ∙ ap numbers_below c.in-Ok-begin.ensures.count) c.in-Ok-begin.ensures.beside (s.same, s.beside) ∙ ap numbers_below (sym c.in-Ok-begin.ensures.desk.2)
 
 pub close_and_settle-ran-requires-clause-apart : goal.close_and_settle-ran-requires-clause-apart
@@ -82,23 +82,23 @@ close_and_settle-ran-requires-clause-apart g c κs within =
     let named : List ℕ → RingName → FeedName = λ d k. record { device = d; ring = k } in
     let F : R → FeedName = λ r. record { device = r.device; ring = r.intake.feed.ring } in
     let Rel : R → R → Type 0 = λ old new. (new.device ≡ old.device) × Receives (g.L.Inbound.came old.link) (g.L.Inbound.came new.link) old.intake new.intake new.received.dropped in
-    let fed = same-map Rel F F (λ o n r. ap (λ d. named d n.intake.feed.ring) r.0 ∙ ap (λ k. named o.device k) r.1.hears.ring) _ _ c.serve_linked-run_seats.ensures.receives ∙ sym c.args.linking.links.fed in
+    let fed = same-map Rel F F (λ o n r. ap (λ d. named d n.intake.feed.ring) r.0 ∙ ap (λ k. named o.device k) r.1.hears.ring) _ _ c.serve_linked-linked.ensures.receives ∙ sym c.args.linking.links.fed in
     ap have_distinct_devices fed ∙ c.in-Ok-begin.ensures.apart
 
 pub close_and_settle-ran-requires-clause-some : goal.close_and_settle-ran-requires-clause-some
 close_and_settle-ran-requires-clause-some g c κs within =
-    omega (arith, c.requires.many.0, c.in-Ok-begin.ensures.count, c.serve_linked-run_seats.ensures.worked.many, c.serve_linked-run_seats.result.0.work.seats.ok.0)
+    omega (arith, c.requires.many.0, c.in-Ok-begin.ensures.count, c.serve_linked-linked.ensures.worked.many, c.serve_linked-linked.result.1.0.work.seats.ok.0)
 
 pub close_and_settle-ran-requires-clause-room : goal.close_and_settle-ran-requires-clause-room
 close_and_settle-ran-requires-clause-room g c κs within =
     let n = c.args.clients.places + c.args.clients.workers in
-    let s = c.serve_linked-run_seats.ensures in
+    let s = c.serve_linked-linked.ensures in
     omega (
       arith,
       c.in-Ok-begin.ensures.room,
       s.room,
       s.worked.many,
-      c.serve_linked-run_seats.result.0.work.seats.ok.0,
+      c.serve_linked-linked.result.1.0.work.seats.ok.0,
       AllZip-long _ _ _ s.beside,
       ap length c.in-Ok-begin.ensures.beside,
       from-many c.in-Ok-begin.begun.desk c.args.linking.links.inlets.items n (1 + g.B.Seats.SeatGroup.many),
@@ -106,26 +106,26 @@ close_and_settle-ran-requires-clause-room g c κs within =
 
 pub close_and_settle-ran-requires-clause-ends : goal.close_and_settle-ran-requires-clause-ends
 close_and_settle-ran-requires-clause-ends g c κs within =
-    (c.in-Ok.ensures.items, omega (arith, c.in-Ok.ensures.exact, c.len.ensures, c.args.linking.links.receivers.ok.0, AllZip-long _ _ _ c.serve_linked-run_seats.ensures.receives))
+    (c.in-Ok.ensures.items, omega (arith, c.in-Ok.ensures.exact, c.len.ensures, c.args.linking.links.receivers.ok.0, AllZip-long _ _ _ c.serve_linked-linked.ensures.receives))
 
 pub returns-clause-headline : goal.returns-clause-headline
 returns-clause-headline g c =
     let R = Receiving g.row.L.Denot in
     let F : R → FeedName = λ r. record { device = r.device; ring = r.intake.feed.ring } in
     let Rel : R → R → Type 0 = λ old new. (new.device ≡ old.device) × Receives (g.L.Inbound.came old.link) (g.L.Inbound.came new.link) old.intake new.intake new.received.dropped in
-    let new = c.serve_linked-run_seats.result.2.links.items in
+    let new = c.serve_linked-linked.result.0.links.items in
     let names = devices-named (λ (r : R). r.device) (λ (r : R). r.intake.feed.ring) new
-    ∙ same-map Rel (λ (r : R). r.device) (λ (r : R). r.device) (λ o n r. r.0) _ _ c.serve_linked-run_seats.ensures.receives ∙ sym c.requires.devices in
+    ∙ same-map Rel (λ (r : R). r.device) (λ (r : R). r.device) (λ o n r. r.0) _ _ c.serve_linked-linked.ensures.receives ∙ sym c.requires.devices in
     (map F new, names, c.close_and_settle-ran.ensures.headline c.args.text.now (c.args.clients.places + c.args.clients.workers + (1 + g.B.Seats.SeatGroup.many)) c.in-Ok-begin.ensures.desk)
 
 pub returns-clause-work : goal.returns-clause-work
 returns-clause-work g c =
     let attends = AttendedInTurn g.D.Door.lets_in g.D.Reader.Source.input g.D.Writer.Sink.output g.G.Gate.gives g.G.Gate.told c.args.clients.door.now c.args.clients.gate.now c.args.clients.readonly c.args.clients.turns in
     let drives = DroveFor g.G.Gate.gives g.G.Gate.told c.args.clients.gate.now None in
-    let s = c.serve_linked-run_seats.ensures in
+    let s = c.serve_linked-linked.ensures in
     let run_seats = c.in-Ok-begin.begun.run_seats in
-    let done = c.serve_linked-run_seats.result.0 in
-    let linked = c.serve_linked-run_seats.result.2 in
+    let done = c.serve_linked-linked.result.1.0 in
+    let linked = c.serve_linked-linked.result.0 in
     let ran = c.close_and_settle-ran.ensures in
     record {
       served = done.work.seats.items;
@@ -163,19 +163,19 @@ returns-clause-links g c =
         settled = subst (λ d. IsSettled es d n.intake.feed.put (option_map (λ l. l.items) e.left)) r.0 q.3;
       },
     ))
-    _ _ _ c.args.linking.links.fresh c.serve_linked-run_seats.ensures.receives c.close_and_settle-ran.ensures.links
+    _ _ _ c.args.linking.links.fresh c.serve_linked-linked.ensures.receives c.close_and_settle-ran.ensures.links
 
 pub returns-clause-sent : goal.returns-clause-sent
 returns-clause-sent g c = λ apart device.
-    let s = c.serve_linked-run_seats.ensures in
+    let s = c.serve_linked-linked.ensures in
     let clients = c.args.clients in
     let n = clients.places + clients.workers in
     let m = g.B.Seats.SeatGroup.many in
     let attends = AttendedInTurn g.D.Door.lets_in g.D.Reader.Source.input g.D.Writer.Sink.output g.G.Gate.gives g.G.Gate.told clients.door.now clients.gate.now clients.readonly clients.turns in
     let drives = DroveFor g.G.Gate.gives g.G.Gate.told clients.gate.now None in
-    let served = c.serve_linked-run_seats.result.0.work.seats.items in
-    let rest = g.B.Seats.SeatGroup.sittings c.serve_linked-run_seats.result.0.beside in
-    let forwarder = c.serve_linked-run_seats.result.2.seat in
+    let served = c.serve_linked-linked.result.1.0.work.seats.items in
+    let rest = g.B.Seats.SeatGroup.sittings c.serve_linked-linked.result.1.0.beside in
+    let forwarder = c.serve_linked-linked.result.0.seat in
     let ran = c.close_and_settle-ran in
     let h = ran.ensures.headline c.args.text.now (n + (1 + m)) c.in-Ok-begin.ensures.desk in
     let quiet = served-quiet attends drives

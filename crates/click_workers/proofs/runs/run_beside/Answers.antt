@@ -69,12 +69,14 @@ returns-clause-work g c =
     let attends = AttendedInTurn g.D.Door.lets_in g.D.Reader.Source.input g.D.Writer.Sink.output g.G.Gate.gives g.G.Gate.told c.args.clients.door.now c.args.clients.gate.now c.args.clients.readonly c.args.clients.turns in
     let drives = DroveFor g.G.Gate.gives g.G.Gate.told c.args.clients.gate.now c.args.rounds in
     let s = c.serve_beside-run_seats.ensures in
+    let told = c.of.ensures in
+    let worked = rw (told.0, told.1, told.2, told.3) at s.worked in
     record {
       served = c.serve_beside-run_seats.result.0.work.seats.items;
       before = c.in-Ok.begun.run_seats.beside;
       after = c.serve_beside-run_seats.result.0.beside;
       parts = c.finish-all.ensures.seats;
-      worked = worked-as attends drives c.args.clients.places _ _ _ _ _ _ _ _ (sym c.in-Ok.ensures.count) refl c.finish-all.ensures.rest.0 c.finish-all.ensures.rest.1 s.worked;
+      worked = worked-as attends drives c.args.clients.places _ _ _ _ _ _ _ _ (sym c.in-Ok.ensures.count) refl c.finish-all.ensures.rest.0 c.finish-all.ensures.rest.1 worked;
       fresh = (c.in-Ok.begun.desk, c.new-inlets.result.items, c.in-Ok.ensures.beside);
       same = s.same;
       does = s.does;

@@ -12,7 +12,7 @@ returns-clause-attends g c = (
   c.serve_at-ended.new.writer,
   c.serve_at-ended.new.turns,
   c.in-Some.ensures,
-  subst (λ p. SeatServes c.args.readonly most_reads (WentThrough (AsksGate g.G.Gate.gives) (TellsGate g.G.Gate.told) p c.serve_at-ended.new.turns)
+  subst (λ p. SeatServes c.args.service.now.readonly most_reads (WentThrough (AsksGate g.G.Gate.gives) (TellsGate g.G.Gate.told) p c.serve_at-ended.new.turns)
       c.args.seat c.serve_at-ended.result.1 (g.D.Reader.Source.input c.in-Some.reader) (g.D.Reader.Source.input c.serve_at-ended.new.reader)
       (g.D.Writer.Sink.output c.in-Some.writer) (g.D.Writer.Sink.output c.serve_at-ended.new.writer) c.serve_at-ended.result.0) c.new-turns.ensures c.serve_at-ended.ensures,
 )

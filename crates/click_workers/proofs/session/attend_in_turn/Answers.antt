@@ -10,6 +10,6 @@ loop-nth-preserved g c =
     record {
       same = (one.same.0 ∙ h.same.0, one.same.1 ∙ h.same.1, one.same.2 ∙ h.same.2);
       desk = one.same.0 ∙ h.desk;
-      attends = one-more (Attends g.D.Door.lets_in g.D.Reader.Source.input g.D.Writer.Sink.output g.G.Gate.gives g.G.Gate.told c.args.door.now c.args.gate.now c.args.readonly c.args.who)
+      attends = one-more (Attends g.D.Door.lets_in g.D.Reader.Source.input g.D.Writer.Sink.output g.G.Gate.gives g.G.Gate.told c.args.door.now c.args.gate.now c.args.service.now.readonly c.args.who)
           c.loop-nth.nth c.args.seat c.loop-nth.seat c.attend-end.result.1 c.loop-nth.last c.attend-end.result.0 (omega arith) h.attends one.attends;
     }

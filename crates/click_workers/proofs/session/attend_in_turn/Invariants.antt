@@ -8,5 +8,5 @@ invariant-loop-nth g l =
     record {
       same : SameSeat l.fn.seat l.seat;
       desk : l.seat.desk ≡ l.desk;
-      attends : InTurn (Attends g.D.Door.lets_in g.D.Reader.Source.input g.D.Writer.Sink.output g.G.Gate.gives g.G.Gate.told l.door l.gate l.readonly l.who) l.nth l.fn.seat l.seat l.last;
+      attends : InTurn (Attends g.D.Door.lets_in g.D.Reader.Source.input g.D.Writer.Sink.output g.G.Gate.gives g.G.Gate.told l.door l.gate l.service.readonly l.who) l.nth l.fn.seat l.seat l.last;
     }

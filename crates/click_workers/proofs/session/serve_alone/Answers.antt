@@ -1,6 +1,5 @@
-use Rattle.std.proofs.Common.{sym}
 use Rattle.click_workers.proofs.SeatLists.{serves-seat}
 use Rattle.click_workers.proofs.session.serve_alone.Goals as goal
 
 pub returns : goal.returns
-returns g c = rw (c.into_seat.ensures, sym c.new-port.ensures) (serves-seat _ _ _ _ _ _ _ _ _ _ c.serve-ended.ensures)
+returns g c = rw c.into_seat.ensures (serves-seat _ _ _ _ _ _ _ _ _ _ c.serve-ended.ensures)
