@@ -197,23 +197,29 @@ module _ (attends : SeatState → SessionEnd → Type 0) (drives : SeatState →
       (subst (λ k. Worked attends drives sessions n seats ended k) (sym d) w)))
 
   -- what came of one seat more
-  pub worked-more : (sessions m : ℕ) (seats : List SeatState) (ended : List SessionEnd) (drivers : List Bool) (s : SeatState) (o : Outcome)
-      → Worked attends drives sessions m seats ended drivers → s.number ≡ m → CameOf attends drives sessions s o
+  pub worked-more : (sessions m who : ℕ) (seats : List SeatState) (ended : List SessionEnd) (drivers : List Bool) (s : SeatState) (o : Outcome)
+      → Worked attends drives sessions m seats ended drivers → s.number ≡ m → who ≡ suc m → CameOf attends drives sessions who s o
       → Worked attends drives sessions (suc m) (seats ++ s ∷ []) (ended ++ ends_of o) (drivers ++ drives_of o)
-  worked-more sessions m seats ended drivers s (outcome.Attended e) w is came =
-      worked-as sessions _ _ _ _ _ _ _ _ refl refl refl (append-nil drivers) (worked-session attends drives sessions m seats ended drivers s e w (omega (arith, came.0, is)) is came.1)
-  worked-more sessions m seats ended drivers s (outcome.Drove all) w is came =
-      worked-as sessions _ _ _ _ _ _ _ _ refl refl (append-nil ended) refl (worked-driver attends drives sessions m seats ended drivers s all w (omega (arith, came.0, is)) is came.1)
+  worked-more sessions m who seats ended drivers s (outcome.Attended e) w is next came =
+      worked-as sessions _ _ _ _ _ _ _ _ refl refl refl (append-nil drivers) (worked-session attends drives sessions m seats ended drivers s e w (omega (arith, came.0, next)) is came.1)
+  worked-more sessions m who seats ended drivers s (outcome.Drove all) w is next came =
+      worked-as sessions _ _ _ _ _ _ _ _ refl refl (append-nil ended) refl (worked-driver attends drives sessions m seats ended drivers s all w (omega (arith, came.0, next)) is came.1)
 
   -- there is room for it
-  pub room-for-more : (sessions m : ℕ) (seats : List SeatState) (ended : List SessionEnd) (drivers : List Bool) (s : SeatState) (o : Outcome) (e d : ℕ)
-      → Worked attends drives sessions m seats ended drivers → s.number ≡ m → CameOf attends drives sessions s o → min (suc m) sessions ≤ e → suc m - sessions ≤ d
+  pub room-for-more : (sessions m who : ℕ) (seats : List SeatState) (ended : List SessionEnd) (drivers : List Bool) (s : SeatState) (o : Outcome) (e d : ℕ)
+      → Worked attends drives sessions m seats ended drivers → who ≡ suc m → CameOf attends drives sessions who s o → min (suc m) sessions ≤ e → suc m - sessions ≤ d
       → (length ended + length (ends_of o) ≤ e) × (length drivers + length (drives_of o) ≤ d)
-  room-for-more sessions m seats ended drivers s (outcome.Attended x) e d w is came ended_room drivers_room =
+  room-for-more sessions m who seats ended drivers s (outcome.Attended x) e d w next came ended_room drivers_room =
       let many = ended-many sessions m seats ended drivers w in
       let drove = drivers-many sessions m seats ended drivers w in
-      (omega (arith, many, came.0, is, ended_room), omega (arith, drove, came.0, is, drivers_room))
-  room-for-more sessions m seats ended drivers s (outcome.Drove all) e d w is came ended_room drivers_room =
+      (omega (arith, many, came.0, next, ended_room), omega (arith, drove, came.0, next, drivers_room))
+  room-for-more sessions m who seats ended drivers s (outcome.Drove all) e d w next came ended_room drivers_room =
       let many = ended-many sessions m seats ended drivers w in
       let drove = drivers-many sessions m seats ended drivers w in
-      (omega (arith, many, came.0, is, ended_room), omega (arith, drove, came.0, is, drivers_room))
+      (omega (arith, many, came.0, next, ended_room), omega (arith, drove, came.0, next, drivers_room))
+
+-- what came of one seat, said in other words
+pub came-as : (attends attends' : SeatState → SessionEnd → Type 0) (drives drives' : SeatState → Bool → Type 0) (sessions who : ℕ) (s : SeatState) (o : Outcome)
+    → ((e : SessionEnd) → attends s e → attends' s e) → ((all : Bool) → drives s all → drives' s all) → CameOf attends drives sessions who s o → CameOf attends' drives' sessions who s o
+came-as attends attends' drives drives' sessions who s (outcome.Attended e) f k came = (came.0, f e came.1)
+came-as attends attends' drives drives' sessions who s (outcome.Drove all) f k came = (came.0, k all came.1)

@@ -76,10 +76,10 @@ DrivesFor gives told gate who None s all = (rounds : ℕ) × Drives gives told g
 abbrev pub DroveFor : {G : Type 0} → (G → ℕ → ℕ → Bool → Type 0) → (G → ℕ → ℕ → Type 0) → G → Option ℕ → SeatState → Bool → Type 0
 DroveFor gives told gate rounds s all = DrivesFor gives told gate (suc s.number) rounds s all
 
--- What came of one seat, by its number: of the sessions of a place, where it is below so many, or else of a driver.
-abbrev pub CameOf : (SeatState → SessionEnd → Type 0) → (SeatState → Bool → Type 0) → ℕ → SeatState → Outcome → Type 0
-CameOf attends drives sessions s (outcome.Attended e) = (s.number < sessions) × attends s e
-CameOf attends drives sessions s (outcome.Drove all) = (sessions ≤ s.number) × drives s all
+-- What came of one seat, by the number from 1: of the sessions of a place, where it is one of so many, or else of a driver.
+abbrev pub CameOf : (SeatState → SessionEnd → Type 0) → (SeatState → Bool → Type 0) → ℕ → ℕ → SeatState → Outcome → Type 0
+CameOf attends drives sessions who s (outcome.Attended e) = (who ≤ sessions) × attends s e
+CameOf attends drives sessions who s (outcome.Drove all) = (sessions < who) × drives s all
 
 -- of that, the end of a session
 abbrev pub ends_of : Outcome → List SessionEnd

@@ -4,7 +4,7 @@ ghost use Rattle.std.specs.Prelude.{◌≡◌, ◌≤◌, ◌<◌, ◌+◌, ◌+
 ghost use Rattle.std.specs.Thread.{IsSend, IsSync};
 ghost use Rattle.click_desk.specs.SeatStates.{new_seat};
 ghost use Rattle.click_workers.specs.Seats.{SameSeat};
-ghost use Rattle.click_workers.specs.Work.{AttendedInTurn, CameOf, DroveFor, Ready, StayOf, Worked, drives_of, ends_of};
+ghost use Rattle.click_workers.specs.Work.{Attends, AttendedInTurn, CameOf, DrivesFor, DroveFor, InTurn, Ready, StayOf, Worked, drives_of, ends_of};
 
 use crate::door::Door;
 use crate::driver::drive_for;
@@ -51,15 +51,14 @@ impl<T> Work<T> {
     }
 }
 
-/// Takes the last of the new seats, with the number of its session or driver.
+/// Takes the last of the new seats.
 fn last_of<T, B: Wait + Drop>(
     desk: &Desk<T, B>,
     sessions: usize,
     work: Work<T>,
-) -> (Option<(usize, Seat<T>)>, Work<T>)
+) -> (Option<Seat<T>>, Work<T>)
     requires { Ready desk.now sessions (vec_len work.seats) work.seats.items work.ended.items work.drivers.items (vec_capacity work.ended) (vec_capacity work.drivers) }
-    ensures some { IfSome result.0 (λ p. (p.1 ≡ new_seat desk.now p.1.feeds p.1.number) × (p.0 ≡ p.1.number + 1) × (p.1.number ≡ vec_len result.1.seats) × (vec_len work.seats ≡ vec_len result.1.seats + 1)
-        × (work.seats.items ≡ result.1.seats.items ++ p.1 ∷ [])) }
+    ensures some { IfSome result.0 (λ s. (s ≡ new_seat desk.now s.feeds (vec_len result.1.seats)) × (vec_len work.seats ≡ vec_len result.1.seats + 1) × (work.seats.items ≡ result.1.seats.items ++ s ∷ [])) }
     ensures none { IfNone result.0 ((vec_len work.seats ≡ 0) × (vec_len result.1.seats ≡ 0) × (work.seats.items ≡ result.1.seats.items)) }
     ensures ready { Ready desk.now sessions (vec_len result.1.seats) result.1.seats.items result.1.ended.items result.1.drivers.items (vec_capacity result.1.ended) (vec_capacity result.1.drivers) }
     ensures room { (vec_capacity work.seats ≡ vec_capacity result.1.seats) × (vec_capacity work.ended ≡ vec_capacity result.1.ended) × (vec_capacity work.drivers ≡ vec_capacity result.1.drivers) }
@@ -69,10 +68,7 @@ fn last_of<T, B: Wait + Drop>(
         ended,
         drivers,
     } = work;
-    let last = match seats.pop() {
-        Some(seat) => Some((seats.len() + 1, seat)),
-        None => None,
-    };
+    let last = seats.pop();
     let rest = Work {
         seats,
         ended,
@@ -91,12 +87,11 @@ fn work_one<T: Handlers, D: Door, G: Gate, R: Wait>(
     seat: Seat<T>,
     who: usize,
 ) -> (Outcome, Seat<T>)
-    requires fresh { seat ≡ new_seat desk.now seat.feeds seat.number }
-    requires number { who ≡ seat.number + 1 }
+    requires desk { seat.desk ≡ desk.now }
+    requires fresh { seat.calls ≡ [] }
     requires some { 0 < service.now.turns }
     ensures same { SameSeat seat result.1 }
-    ensures came { CameOf (AttendedInTurn D.lets_in D.Reader.input D.Writer.output G.gives G.told door.now gate.now service.now.readonly service.now.turns) (DroveFor G.gives G.told gate.now service.now.rounds)
-        service.now.sessions result.1 result.0 }
+    ensures came { CameOf (InTurn (Attends D.lets_in D.Reader.input D.Writer.output G.gives G.told door.now gate.now service.now.readonly who) service.now.turns seat) (DrivesFor G.gives G.told gate.now who service.now.rounds) service.now.sessions who result.1 result.0 }
 {
     if who > service.sessions {
         let (all, seat) = drive_for(rt, desk, seat, gate, who, service.rounds, &service.places);
@@ -124,16 +119,17 @@ pub(crate) fn work_all<T: Handlers + Send + Drop, D: Door, G: Gate, R: Threads +
     ensures room { (vec_capacity work.seats ≤ vec_capacity result.seats) × (vec_capacity work.ended ≤ vec_capacity result.ended) × (vec_capacity work.drivers ≤ vec_capacity result.drivers) }
 {
     let (last, rest) = last_of(desk, service.sessions, work);
-    let Some((who, seat)) = last else {
+    let Some(seat) = last else {
         return rest;
     };
+    let who = rest.seats.len() + 1;
     let ((outcome, seat), mut done) = thread::join(
         rt,
         move || -> (Outcome, Seat<T>)
-            requires { IsSync R.row × IsSync D.row × IsSync G.row × (seat ≡ new_seat desk.now seat.feeds seat.number) × (who ≡ seat.number + 1) × (0 < service.now.turns) }
+            requires { IsSync R.row × IsSync D.row × IsSync G.row × (seat.desk ≡ desk.now) × (seat.calls ≡ []) × (0 < service.now.turns) }
             ensures { SameSeat seat result.1
-                × CameOf (AttendedInTurn D.lets_in D.Reader.input D.Writer.output G.gives G.told door.entry.now gate.entry.now service.entry.now.readonly service.entry.now.turns)
-                (DroveFor G.gives G.told gate.entry.now service.entry.now.rounds) service.entry.now.sessions result.1 result.0 }
+                × CameOf (InTurn (Attends D.lets_in D.Reader.input D.Writer.output G.gives G.told door.entry.now gate.entry.now service.entry.now.readonly who) service.entry.now.turns seat)
+                (DrivesFor G.gives G.told gate.entry.now who service.entry.now.rounds) service.entry.now.sessions who result.1 result.0 }
         { work_one(rt, desk, door, gate, service, seat, who) },
         move || -> Work<T>
             requires { IsSync R.row × IsSync D.row × IsSync G.row × IsSend T.row × Ready desk.now service.now.sessions (vec_len rest.seats) rest.seats.items rest.ended.items rest.drivers.items (vec_capacity rest.ended) (vec_capacity rest.drivers) × (0 < service.now.turns) }
