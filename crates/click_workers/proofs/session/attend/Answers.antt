@@ -14,5 +14,5 @@ returns-clause-attends g c = (
   c.in-Some.ensures,
   subst (λ p. SeatServes c.args.service.now.readonly most_reads (WentThrough (AsksGate g.G.Gate.gives) (TellsGate g.G.Gate.told) p c.serve_at-ended.new.turns)
       c.args.seat c.serve_at-ended.result.1 (g.D.Reader.Source.input c.in-Some.reader) (g.D.Reader.Source.input c.serve_at-ended.new.reader)
-      (g.D.Writer.Sink.output c.in-Some.writer) (g.D.Writer.Sink.output c.serve_at-ended.new.writer) c.serve_at-ended.result.0) c.new-turns.ensures c.serve_at-ended.ensures,
+      (g.D.Writer.Sink.output c.in-Some.writer) (g.D.Writer.Sink.output c.serve_at-ended.new.writer) c.serve_at-ended.result.0) c.new-turns.ensures (rw c.new.ensures at c.serve_at-ended.ensures),
 )
