@@ -7,3 +7,4 @@ pub mod Numbers
 pub mod Linking
 pub mod Drawn
 pub mod Paging
+pub mod Serving

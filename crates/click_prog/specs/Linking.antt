@@ -69,10 +69,10 @@ abbrev pub LinkedPageTo : {D Rd Wr G : Type 0} → (D → ℕ → Option (Rd × 
 LinkedPageTo lets_in input output gives told at door readonly text places workers turns receivers before s =
     LinkedBesideTo (λ seat. seat ∷ []) 1 (λ old new (_ : Ended). IsPaged readonly at old new) lets_in input output gives told door readonly text places workers turns receivers before s
 
--- a run with links and with or without a page, as a plan has it, at some door of this kind
-abbrev pub PlanLinksTo : {D Rd Wr G : Type 0} → (D → ℕ → Option (Rd × Wr) → Type 0) → (Rd → Input) → (Wr → Output) → (G → ℕ → ℕ → Bool → Type 0) → (G → ℕ → ℕ → Type 0)
-    → Option ℕ → Planned → List ℕ → ℕ → List (Receiving Hearing) → List Attempt → Status → Type 0
-PlanLinksTo {D} {Rd} {Wr} {G} lets_in input output gives told None plan text turns receivers before s =
-    (door : D) × LinkedRunTo lets_in input output gives told door plan.readonly text plan.sessions plan.workers turns receivers before s
-PlanLinksTo {D} {Rd} {Wr} {G} lets_in input output gives told (Some at) plan text turns receivers before s =
-    (door : D) × LinkedPageTo lets_in input output gives told at door plan.readonly text plan.sessions plan.workers turns receivers before s
+-- with a page at this port or with none, as a plan has it
+abbrev pub LinkedTo : {D Rd Wr G : Type 0} → (D → ℕ → Option (Rd × Wr) → Type 0) → (Rd → Input) → (Wr → Output) → (G → ℕ → ℕ → Bool → Type 0) → (G → ℕ → ℕ → Type 0)
+    → Option ℕ → D → Planned → List ℕ → ℕ → List (Receiving Hearing) → List Attempt → Status → Type 0
+LinkedTo lets_in input output gives told None door plan text turns receivers before s =
+    LinkedRunTo lets_in input output gives told door plan.readonly text plan.sessions plan.workers turns receivers before s
+LinkedTo lets_in input output gives told (Some at) door plan text turns receivers before s =
+    LinkedPageTo lets_in input output gives told at door plan.readonly text plan.sessions plan.workers turns receivers before s

@@ -40,11 +40,6 @@ abbrev pub rounds_of : Bool → ℕ → Option ℕ
 rounds_of true rounds = None
 rounds_of false rounds = Some rounds
 
--- of a router that stays each place over TCP serves 2^64 - 1 sessions, of one that ends one
-abbrev pub turns_of : Bool → ℕ
-turns_of true = 18446744073709551615
-turns_of false = 1
-
 -- Places for sessions, drivers and a page were at one desk of this text, each with a seat of its own; each place served so many sessions, one after another; the desk's book is a history of one thread with just
 -- their calls and replies, and the page's seat, which is the last, made just the calls of the requests that it answered; the status is that of the places' last sessions.
 pub record HavePaged {D Rd Wr G : Type 0} (lets_in : D → ℕ → Option (Rd × Wr) → Type 0) (input : Rd → Input) (output : Wr → Output) (gives : G → ℕ → ℕ → Bool → Type 0)
@@ -63,9 +58,3 @@ abbrev pub PagedRunTo : {D Rd Wr G : Type 0} → (D → ℕ → Option (Rd × Wr
     → D → Planned → List ℕ → ℕ → ℕ → Status → Type 0
 PagedRunTo lets_in input output gives told door plan text turns at s =
     HavePaged lets_in input output gives told door plan text turns at s ⊎ HaveNotRun text s
-
--- the same at some door of this kind
-abbrev pub PlanPagesTo : {D Rd Wr G : Type 0} → (D → ℕ → Option (Rd × Wr) → Type 0) → (Rd → Input) → (Wr → Output) → (G → ℕ → ℕ → Bool → Type 0) → (G → ℕ → ℕ → Type 0)
-    → Planned → List ℕ → ℕ → ℕ → Status → Type 0
-PlanPagesTo {D} {Rd} {Wr} {G} lets_in input output gives told plan text turns at s =
-    (door : D) × PagedRunTo lets_in input output gives told door plan text turns at s

@@ -88,19 +88,7 @@ abbrev pub RunsAlone : List ℕ → Bool → Status → Type 0
 RunsAlone text readonly s =
     (input : Option (List ℕ)) × (output : Option (List ℕ)) × (left : Input) × (holds : Output) × RunsTo text readonly (fresh_input input) left (fresh_output output) holds s
 
--- a run of sessions and drivers as a plan has them, at some door of this kind
-abbrev pub PlanRunsTo : {D Rd Wr G : Type 0} → (D → ℕ → Option (Rd × Wr) → Type 0) → (Rd → Input) → (Wr → Output) → (G → ℕ → ℕ → Bool → Type 0) → (G → ℕ → ℕ → Type 0)
-    → Planned → List ℕ → Status → Type 0
-PlanRunsTo {D} {Rd} {Wr} {G} lets_in input output gives told plan text s =
-    (door : D) × AllRunTo lets_in input output gives told door plan.readonly text plan.sessions plan.workers plan.rounds s
-
 abbrev pub LiveRunTo : {D Rd Wr G : Type 0} → (D → ℕ → Option (Rd × Wr) → Type 0) → (Rd → Input) → (Wr → Output) → (G → ℕ → ℕ → Bool → Type 0) → (G → ℕ → ℕ → Type 0)
     → D → Bool → List ℕ → ℕ → ℕ → ℕ → Status → Type 0
 LiveRunTo lets_in input output gives told door readonly text places workers turns s =
     HaveLived lets_in input output gives told door readonly text places workers turns s ⊎ HaveNotRun text s
-
--- the same as a plan has it, at some door of this kind
-abbrev pub PlanLivesTo : {D Rd Wr G : Type 0} → (D → ℕ → Option (Rd × Wr) → Type 0) → (Rd → Input) → (Wr → Output) → (G → ℕ → ℕ → Bool → Type 0) → (G → ℕ → ℕ → Type 0)
-    → Planned → List ℕ → ℕ → Status → Type 0
-PlanLivesTo {D} {Rd} {Wr} {G} lets_in input output gives told plan text turns s =
-    (door : D) × LiveRunTo lets_in input output gives told door plan.readonly text plan.sessions plan.workers turns s

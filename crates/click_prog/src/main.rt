@@ -13,17 +13,19 @@ mod link;
 mod linking;
 mod number;
 mod paging;
+mod runs;
 mod serving;
 mod sockets;
 mod status;
 
-use arguments::{ArgumentRefusal, options_of};
+use arguments::{ArgumentRefusal, Options, options_of};
 use clap::error::ErrorKind;
 use click_handlers::with_table;
 use drawing::draw;
 use link::{Link, LinkFault};
 use linking::OpenedLinks;
-use serving::{EndReport, Plan, Serving, SessionSource, config_fault_status, plan_of};
+use runs::{Serving, SessionSource, config_fault_status};
+use serving::{EndReport, RunSetup, plan_of};
 use sockets::{SocketFault, open_sockets};
 use status::{Status, unread_status};
 use std::alloc::Global;
@@ -57,41 +59,34 @@ fn program<R: Threads + Wait + Net<Listener = TcpListener, Stream = TcpStream> +
             &mut host.stderr(),
             options.text.unwrap().as_bytes(),
         ),
-        Ok(options) => serve(
-            rt,
-            host,
-            options.text.unwrap().as_bytes(),
-            plan_of(&options),
-            EndReport {
-                check: options.check.map(|name| name.as_bytes()),
-                book: options.book,
-            },
-            options.port,
-            options.links.as_slice(),
-            options.tell,
-            options.page,
-        ),
+        Ok(options) => {
+            let setup = RunSetup {
+                text: options.text.unwrap().as_bytes(),
+                plan: plan_of(&options),
+                end: EndReport {
+                    check: options.check.map(|name| name.as_bytes()),
+                    book: options.book,
+                },
+            };
+            serve(rt, host, setup, &options)
+        }
         Err(refusal) => refused(host, &refusal),
     }
 }
 
-/// Serves what the plan has, over this port of 127.0.0.1 or standard input and output.
+/// Serves what is run, over the port of the options or standard input and output, with their links and their page beside it.
 fn serve<R: Threads + Wait + Net<Listener = TcpListener, Stream = TcpStream> + Sync>(
     rt: &R,
     host: &HostRuntime,
-    text: &[u8],
-    plan: Plan,
-    end: EndReport,
-    port: Option<u16>,
-    links: &[Link],
-    tell: u64,
-    page: Option<u16>,
+    setup: RunSetup,
+    options: &Options,
 ) -> Status {
-    let links = match opened_links(rt, host.alloc(), links, tell) {
+    let alloc = host.alloc();
+    let links = match opened_links(rt, alloc, options.links.as_slice(), options.tell) {
         Ok(links) => links,
-        Err(fault) => return refuse_links(host, text, &fault),
+        Err(fault) => return refuse_links(host, setup.text, &fault),
     };
-    let session_source = match port {
+    let session_source = match options.port {
         None => SessionSource::Standard,
         Some(port) => match TcpListener::bind(rt, address_of(port)) {
             Ok(listener) => SessionSource::Over(listener),
@@ -100,14 +95,12 @@ fn serve<R: Threads + Wait + Net<Listener = TcpListener, Stream = TcpStream> + S
     };
     let serving = Serving {
         host,
-        text,
-        plan,
-        end,
+        setup,
         session_source,
         links,
-        page,
+        page: options.page,
     };
-    match with_table(rt, host.alloc(), serving) {
+    match with_table(rt, alloc, serving) {
         Ok(status) => status,
         Err(_) => Status::NoMemory,
     }

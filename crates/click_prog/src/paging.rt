@@ -1,24 +1,17 @@
 //! A page beside the sessions of a run.
 
 ghost use Rattle.std.specs.Prelude.{◌≡◌, ◌<◌};
-ghost use Rattle.std.specs.declared.net.TcpListener.{TcpListener};
-ghost use Rattle.click_prog.specs.Paging.{IsPagedOver, PagedRunTo, PlanPagesTo, room_of, rounds_of, turns_of};
+ghost use Rattle.click_prog.specs.Paging.{IsPagedOver, PagedRunTo, room_of, rounds_of};
 
-use crate::doors::{ClosedDoor, Standard};
-use crate::serving::{EndReport, Plan, SessionSource, refuse, tell_book, tell_check};
-use crate::status::{Status, sessions_status};
-use click_control::{Port, Reading, Sink, Source, Writing};
+use crate::serving::{Arrivals, RunSetup, clients_of, conclude, refuse};
+use crate::status::Status;
+use click_control::{Port, Sink, Source};
 use click_desk::{Desk, Seat};
 use click_http::{Ended, PageListener, serve_until};
 use click_page::Page;
 use click_router::Handlers;
-use click_workers::{
-    AllRan, Beside, BesideRan, Clients, Door, Gate, Listening, OpenGate, Opening, SeatPort,
-    run_beside,
-};
+use click_workers::{Beside, BesideRan, Door, Gate, OpenGate, Opening, SeatPort, run_beside};
 use std::alloc::Global;
-use std::io::{Stdin, Stdout, Write};
-use std::net::TcpStream;
 use std::sync::Wait;
 use std::sync::atomic::AtomicBool;
 use std::thread::Threads;
@@ -95,152 +88,33 @@ fn rounds_of(live: bool, rounds: u64) -> Option<u64>
     if live { None } else { Some(rounds) }
 }
 
-/// Serves sessions that come in at this door, so many at each place, with drivers and a page beside them, over a router of the text. What is to be told is written to `errors`.
-pub fn serve_paged<
-    T: Handlers + Send + Drop,
-    D: Door,
-    E: Write,
-    C: Clock + Sync,
-    R: Threads + Wait + Sync,
->(
-    rt: &R,
-    alloc: Global,
-    table: T,
-    door: &D,
-    errors: &mut E,
-    text: &[u8],
-    plan: Plan,
-    turns: u64,
-    end: EndReport,
-    paging: Paging<C>,
-) -> Status
-    requires turns { 0 < turns }
-    requires readonly { paging.readonly ≡ plan.readonly }
-    ensures { PagedRunTo D.lets_in D.Reader.input D.Writer.output ⟦<OpenGate as Gate>⟧.gives ⟦<OpenGate as Gate>⟧.told door.now plan text.now turns paging.entry.page_listener.port result }
-{
-    let Plan {
-        sessions: places,
-        workers,
-        rounds,
-        readonly,
-        live,
-    } = plan;
-    let opening = Opening {
-        text,
-        room: room_of(live),
-        check: end.check,
-    };
-    let clients = Clients {
-        door,
-        gate: &OpenGate,
-        readonly,
-        places,
-        workers,
-        turns,
-    };
-    match run_beside(
-        rt,
-        alloc,
-        table,
-        opening,
-        clients,
-        rounds_of(live, rounds),
-        paging,
-    ) {
-        Ok(
-            BesideRan {
-                all: AllRan {
-                    ended,
-                    drivers: _,
-                    book,
-                    checked,
-                },
-                done: _,
-            },
-        ) => {
-            tell_check(errors, end.check, checked);
-            tell_book(alloc, errors, end.book, book.entries.as_slice());
-            sessions_status(ended.as_slice())
-        }
-        Err(fault) => refuse(alloc, errors, &fault),
-    }
-}
-
-/// How many sessions each place serves that come over TCP.
-fn turns_of(live: bool) -> u64
-    ensures { result ≡ turns_of live }
-{
-    if live { u64::MAX } else { 1 }
-}
-
-/// Serves the sessions that come, with drivers and a page beside them, as the plan has them. One session on standard input ends it, and so does the end of all over TCP where the router does not stay.
-pub fn paged_plan<T: Handlers + Send + Drop, R: Threads + Wait + Sync>(
+/// Serves sessions that come in at this door, so many at each place, with drivers and a page beside them, over a router of the text. What is to be told is written to standard error.
+pub fn serve_paged<T: Handlers + Send + Drop, D: Door, R: Threads + Wait + Sync>(
     rt: &R,
     host: &HostRuntime,
     table: T,
-    text: &[u8],
-    plan: Plan,
-    end: EndReport,
-    session_source: SessionSource,
+    setup: RunSetup,
+    arrivals: Arrivals<D, OpenGate>,
     page_listener: PageListener,
 ) -> Status
-    ensures standard { session_source ≡ SessionSource.Standard → PlanPagesTo ⟦<Standard as Door>⟧.lets_in ⟦<Reading<Stdin> as Source>⟧.input ⟦<Writing<Stdout> as Sink>⟧.output
-        ⟦<OpenGate as Gate>⟧.gives ⟦<OpenGate as Gate>⟧.told plan text.now 1 page_listener.port result }
-    ensures over { (listener : TcpListener) → session_source ≡ SessionSource.Over listener → PlanPagesTo ⟦<Listening as Door>⟧.lets_in ⟦<Reading<TcpStream> as Source>⟧.input ⟦<Writing<TcpStream> as Sink>⟧.output
-        ⟦<OpenGate as Gate>⟧.gives ⟦<OpenGate as Gate>⟧.told plan text.now (turns_of plan.live) page_listener.port result }
-    ensures nowhere { session_source ≡ SessionSource.Nowhere → PlanPagesTo ⟦<ClosedDoor as Door>⟧.lets_in ⟦<Reading<Stdin> as Source>⟧.input ⟦<Writing<Stdout> as Sink>⟧.output
-        ⟦<OpenGate as Gate>⟧.gives ⟦<OpenGate as Gate>⟧.told plan text.now 1 page_listener.port result }
+    requires { 0 < arrivals.turns }
+    ensures { PagedRunTo D.lets_in D.Reader.input D.Writer.output ⟦<OpenGate as Gate>⟧.gives ⟦<OpenGate as Gate>⟧.told arrivals.entry.door.now setup.entry.plan setup.entry.text.now arrivals.entry.turns page_listener.port result }
 {
-    let alloc = host.alloc();
-    let mut errors = host.stderr();
+    let RunSetup { text, plan, end } = setup;
+    let opening = Opening {
+        text,
+        room: room_of(plan.live),
+        check: end.check,
+    };
     let paging = Paging {
         page_listener,
         clock: host,
         readonly: plan.readonly,
     };
-    match session_source {
-        SessionSource::Standard => {
-            let door = Standard::new(host.stdin(), host.stdout());
-            serve_paged(
-                rt,
-                alloc,
-                table,
-                &door,
-                &mut errors,
-                text,
-                plan,
-                1,
-                end,
-                paging,
-            )
-        }
-        SessionSource::Over(listener) => {
-            let door = Listening::new(listener);
-            let turns = turns_of(plan.live);
-            serve_paged(
-                rt,
-                alloc,
-                table,
-                &door,
-                &mut errors,
-                text,
-                plan,
-                turns,
-                end,
-                paging,
-            )
-        }
-        SessionSource::Nowhere => serve_paged(
-            rt,
-            alloc,
-            table,
-            &ClosedDoor,
-            &mut errors,
-            text,
-            plan,
-            1,
-            end,
-            paging,
-        ),
+    let (alloc, rounds) = (host.alloc(), rounds_of(plan.live, plan.rounds));
+    let clients = clients_of(plan, arrivals);
+    match run_beside(rt, alloc, table, opening, clients, rounds, paging) {
+        Ok(BesideRan { all, done: _ }) => conclude(host, end, all),
+        Err(fault) => refuse(host, &fault),
     }
 }

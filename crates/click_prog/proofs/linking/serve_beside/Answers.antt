@@ -1,6 +1,6 @@
 use Rattle.std.proofs.Common.{ap, inl, ◌∙◌}
 use Rattle.click_prog.specs.Statuses.{sessions_status}
-use Rattle.click_prog.proofs.linking.serve_clients.Goals as goal
+use Rattle.click_prog.proofs.linking.serve_beside.Goals as goal
 
 pub returns-in-Ok-ran : goal.returns-in-Ok-ran
 returns-in-Ok-ran g c =
@@ -13,5 +13,5 @@ returns-in-Ok-ran g c =
       ends = c.in-Ok-ran.ran.links.items;
       done = _;
       ran = linked;
-      is = c.sessions_status.ensures ∙ ap sessions_status c.as_slice.ensures.value;
+      is = c.conclude.ensures ∙ ap sessions_status c.as_slice.ensures.value;
     })

@@ -1,0 +1,195 @@
+//! The run that a command line asks for, over a table of handlers.
+
+ghost use Rattle.std.specs.Prelude.{◌≡◌, ◌||◌, ◌<◌, true, false, is_some, option_map};
+ghost use Rattle.std.specs.declared.net.TcpListener.{TcpListener};
+ghost use Rattle.click_prog.specs.Running.{RunsAlone};
+ghost use Rattle.click_prog.specs.Serving.{ServesTo, ServesFrom, is_alone, turns_of};
+
+use crate::doors::{ClosedDoor, Standard};
+use crate::linking::{OpenedLinks, serve_linked};
+use crate::paging::serve_paged;
+use crate::serving::{Arrivals, Plan, RunSetup, serve_all, serve_live, session, tell};
+use crate::status::{Status, config_status};
+use click_control::{Reading, Sink, Source, Writing};
+use click_desk::BoxedTable;
+use click_handlers::{Table, TakesTable};
+use click_http::{PageListener, open_page_listener};
+use click_router::{Handlers, prepare};
+use click_workers::{Door, Gate, Listening, OpenGate};
+use std::io::{self, Stdin, Stdout};
+use std::net::{TcpListener, TcpStream};
+use std::sync::Wait;
+use std::thread::Threads;
+
+/// Where sessions come from, as a command line asks for it.
+#[derive(Drop)]
+pub enum SessionSource {
+    /// One from standard input and output.
+    Standard,
+    /// Over TCP.
+    Over(TcpListener),
+    /// None: it was to listen, and cannot.
+    Nowhere,
+}
+
+/// The run that a command line asks for.
+#[derive(Drop)]
+pub struct Serving<'a> {
+    pub host: &'a HostRuntime,
+    pub setup: RunSetup<'a>,
+    pub session_source: SessionSource,
+    pub links: Option<OpenedLinks>,
+    /// At which port of 127.0.0.1 browsers are shown a page.
+    pub page: Option<u16>,
+}
+
+impl<'a> Serving<'a> {
+    /// Makes the run over this table.
+    fn serve<T: Handlers + Send + Drop, R: Threads + Wait + Sync>(
+        self,
+        rt: &R,
+        table: T,
+    ) -> Status {
+        let Serving {
+            host,
+            setup,
+            session_source,
+            links,
+            page,
+        } = self;
+        let page = match page {
+            None => None,
+            Some(port) => match open_page_listener(host, host.alloc(), port) {
+                Ok(page_listener) => Some(page_listener),
+                Err(fault) => return refuse_page(host, setup.text, port, &fault),
+            },
+        };
+        serve_source(rt, host, table, setup, session_source, links, page)
+    }
+}
+
+/// Tells why there is no page; where the configuration is faulty, that.
+fn refuse_page(host: &HostRuntime, text: &[u8], port: u16, fault: &io::Error) -> Status {
+    if let Some(status) = config_fault_status(host, text) {
+        return status;
+    }
+    if fault.kind() == io::ErrorKind::OutOfMemory {
+        return Status::NoMemory;
+    }
+    // A failed write changes nothing of the status.
+    let _ = eprintln!(host; "click_prog: the page cannot have 127.0.0.1:{port}: {fault}");
+    Status::DeviceFailed
+}
+
+/// Tells what is wrong with the configuration, if anything is, and the status of that.
+pub fn config_fault_status(host: &HostRuntime, text: &[u8]) -> Option<Status> {
+    let alloc = host.alloc();
+    match prepare(alloc, text) {
+        Ok(_) => None,
+        Err(fault) => {
+            tell(alloc, &mut host.stderr(), &fault);
+            Some(config_status(&fault))
+        }
+    }
+}
+
+/// Makes the run over a table in a box.
+fn serve_boxed<R: Threads + Wait + Sync>(
+    rt: &R,
+    table: BoxedTable<Table>,
+    serving: Serving,
+) -> Status {
+    serving.serve(rt, table)
+}
+
+impl<'a> TakesTable for Serving<'a> {
+    type Out = Status;
+
+    fn take<R: Threads + Wait + Sync>(self, rt: &R, table: Table) -> Status {
+        match Box::new(self.host.alloc(), table) {
+            Ok(table) => serve_boxed(rt, BoxedTable { table }, self),
+            Err(_) => Status::NoMemory,
+        }
+    }
+}
+
+/// Whether one session on standard input and output is all that there is, where nothing else stands beside it.
+fn is_alone(plan: &Plan, beside: bool) -> bool
+    ensures { result ≡ is_alone beside plan.now }
+{
+    !beside && !plan.live && plan.workers == 0
+}
+
+/// How many sessions each place serves that come over TCP.
+fn turns_of(stays: bool) -> u64
+    ensures { result ≡ turns_of stays }
+{
+    if stays { u64::MAX } else { 1 }
+}
+
+/// Serves the sessions that come, as the plan has them, with links and a page beside them where these are opened. One session on standard input ends it, and so does the end of all over TCP where the router does not stay; where it stays nothing does
+/// but the end of the process.
+fn serve_source<T: Handlers + Send + Drop, R: Threads + Wait + Sync>(
+    rt: &R,
+    host: &HostRuntime,
+    table: T,
+    setup: RunSetup,
+    session_source: SessionSource,
+    links: Option<OpenedLinks>,
+    page: Option<PageListener>,
+) -> Status
+    ensures alone { session_source ≡ SessionSource.Standard → is_alone (is_some links || is_some page) setup.entry.plan ≡ true → RunsAlone setup.entry.text.now setup.entry.plan.readonly result }
+    ensures standard { session_source ≡ SessionSource.Standard → is_alone (is_some links || is_some page) setup.entry.plan ≡ false → ServesFrom ⟦<Standard as Door>⟧.lets_in ⟦<Reading<Stdin> as Source>⟧.input
+        ⟦<Writing<Stdout> as Sink>⟧.output ⟦<OpenGate as Gate>⟧.gives ⟦<OpenGate as Gate>⟧.told links (option_map (λ p. p.port) page) setup.entry.plan setup.entry.text.now 1 result }
+    ensures over { (listener : TcpListener) → session_source ≡ SessionSource.Over listener → ServesFrom ⟦<Listening as Door>⟧.lets_in ⟦<Reading<TcpStream> as Source>⟧.input
+        ⟦<Writing<TcpStream> as Sink>⟧.output ⟦<OpenGate as Gate>⟧.gives ⟦<OpenGate as Gate>⟧.told links (option_map (λ p. p.port) page) setup.entry.plan setup.entry.text.now
+        (turns_of (is_some links || setup.entry.plan.live)) result }
+    ensures nowhere { session_source ≡ SessionSource.Nowhere → ServesFrom ⟦<ClosedDoor as Door>⟧.lets_in ⟦<Reading<Stdin> as Source>⟧.input
+        ⟦<Writing<Stdout> as Sink>⟧.output ⟦<OpenGate as Gate>⟧.gives ⟦<OpenGate as Gate>⟧.told links (option_map (λ p. p.port) page) setup.entry.plan setup.entry.text.now 1 result }
+{
+    match session_source {
+        SessionSource::Standard if is_alone(&setup.plan, links.is_some() || page.is_some()) => {
+            let (status, _, _) = session(rt, host, table, setup, host.stdin(), host.stdout());
+            status
+        }
+        SessionSource::Standard => {
+            let door = Standard::new(host.stdin(), host.stdout());
+            let arrivals = Arrivals::open(&door, 1);
+            serve_at(rt, host, table, setup, arrivals, links, page)
+        }
+        SessionSource::Over(listener) => {
+            let door = Listening::new(listener);
+            let turns = turns_of(links.is_some() || setup.plan.live);
+            let arrivals = Arrivals::open(&door, turns);
+            serve_at(rt, host, table, setup, arrivals, links, page)
+        }
+        SessionSource::Nowhere => {
+            let arrivals = Arrivals::open(&ClosedDoor, 1);
+            serve_at(rt, host, table, setup, arrivals, links, page)
+        }
+    }
+}
+
+/// Serves the sessions that come in at this door, with links and a page beside them where these are opened.
+fn serve_at<T: Handlers + Send + Drop, D: Door, R: Threads + Wait + Sync>(
+    rt: &R,
+    host: &HostRuntime,
+    table: T,
+    setup: RunSetup,
+    arrivals: Arrivals<D, OpenGate>,
+    links: Option<OpenedLinks>,
+    page: Option<PageListener>,
+) -> Status
+    requires { 0 < arrivals.turns }
+    ensures { ServesTo D.lets_in D.Reader.input D.Writer.output ⟦<OpenGate as Gate>⟧.gives ⟦<OpenGate as Gate>⟧.told links (option_map (λ p. p.port) page) setup.entry.plan setup.entry.text.now
+        arrivals.entry.turns arrivals.entry.door.now result }
+{
+    match links {
+        Some(opened_links) => serve_linked(rt, host, table, setup, arrivals, opened_links, page),
+        None => match page {
+            Some(page_listener) => serve_paged(rt, host, table, setup, arrivals, page_listener),
+            None if setup.plan.live => serve_live(rt, host, table, setup, arrivals),
+            None => serve_all(rt, host, table, setup, arrivals.door),
+        },
+    }
+}
