@@ -219,17 +219,8 @@ pub fn serve_live<T: Handlers + Send + Drop, D: Door, R: Threads + Wait + Sync>(
 {
     let RunSetup { text, plan, end: _ } = setup;
     let alloc = host.alloc();
-    let Clients {
-        door,
-        gate,
-        readonly,
-        places,
-        workers,
-        turns,
-    } = clients_of(plan, arrivals);
-    match run_live(
-        rt, alloc, table, text, readonly, door, places, workers, turns, gate, None,
-    ) {
+    let clients = clients_of(plan, arrivals);
+    match run_live(rt, alloc, table, text, clients, None) {
         Ok(ran) => sessions_status(ran.ended.as_slice()),
         Err(fault) => refuse(host, &fault),
     }

@@ -169,10 +169,11 @@ pub fn run<T: Handlers + Drop, S: Source, W: Sink, R: Wait>(
         room: Some(ROOM),
         check,
     };
-    match open_one(rt, alloc, table, opening) {
-        Ok(opened) => Ok(serve_and_close(rt, alloc, opened, reader, writer, readonly)),
-        Err(fault) => Err(fault),
-    }
+    let opened = match open_one(rt, alloc, table, opening) {
+        Ok(opened) => opened,
+        Err(fault) => return Err(fault),
+    };
+    Ok(serve_and_close(rt, alloc, opened, reader, writer, readonly))
 }
 
 /// Runs sessions and drivers over a desk, with work beside them over seats of its own, each in a thread of its own where one can be made, and closes the desk. A history without a bound is not

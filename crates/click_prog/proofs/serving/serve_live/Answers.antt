@@ -4,7 +4,7 @@ use Rattle.click_prog.proofs.serving.serve_live.Goals as goal
 
 pub returns-in-Ok : goal.returns-in-Ok
 returns-in-Ok g c =
-    let k = c.clients_of-readonly.ensures in
+    let k = c.clients_of-clients.ensures in
     rw (← k.door, ← k.turns, ← k.plan.0, ← k.plan.1, ← k.plan.2) (inl (record {
       gate = _;
       book = c.in-Ok.ran.book;
