@@ -18,6 +18,7 @@ What fails is told on standard error, with status 1; the last line is 'N passed,
 """
 
 import argparse
+import functools
 import math
 import os
 import random
@@ -122,6 +123,10 @@ def path_of(crate, folder, file, head):
         depth -= byte == ">" and words[at - 1] not in "-="
     trait, is_for, name = plain.partition("{")[0].partition(" where ")[0].partition(" for ")
     last = lambda it: it.strip().lstrip("&").strip().split("::")[-1]
+    # An impl of a tuple's, or of the unit's, has the word for it.
+    of_tuple = re.match(r"\s*\((.*)\)\s*$", name)
+    if of_tuple:
+        return f"{module_of(crate, file)}::{'Tuple' + str(of_tuple[1].count(',') + 1) if of_tuple[1] else 'Unit'}{last(trait)}"
     loans = re.search(rf"\b{last(trait)}<([^<>]*&[^<>]*)>\s*{{", words)
     if loans and not is_for:
         # The impl of a type at a loan is one of the impl's own module, and its name has the arguments.
@@ -154,6 +159,13 @@ def functions_of(crate, folder, file, text):
             found.append(Function(f"{inside or module_of(crate, file)}::{name}", at, last, cycle))
             cycle = None
     return found
+
+
+@functools.lru_cache
+def paths_of(crate, folder):
+    """The paths of all functions of a crate."""
+    files = [os.path.relpath(f"{at}/{it}", folder) for at, _, files in os.walk(f"{folder}/src") for it in files if it.endswith(".rt")]
+    return {it.path for file in files for it in functions_of(crate, folder, file, text_of(f"{folder}/{file}"))}
 
 
 def body_of(function, lines):
@@ -194,6 +206,9 @@ def read_edit(crate, folder, path):
             raise BadEdit(f"{path}: '{line}' is no line of an edit")
     if not pairs or old is not None:
         raise BadEdit(f"{path}: it has no whole pair of an old and a new text")
+    unknown = sorted(named - paths_of(crate, folder)) if named else []
+    if unknown:
+        raise BadEdit(f"{path}: there is no function {unknown[0]}")
     # (where it is said which functions are to be refused, a change of their heads is no change of anything else)
     functions = functions_changed(crate, folder, path, pairs, bool(named))
     owned = set() if None in functions else {it.cycle or it.path for it in functions}

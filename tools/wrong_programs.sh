@@ -711,6 +711,10 @@ wrong_edit 'did not reach the prover' no_such_name '    next(n + 1)' '    next_o
 edit no_pair '    next(n + 1)' '    next(n)'
 sed -i '$d' "$tree/crates/small/wrong-bodies/no_pair.edit"
 TREE=$tree is_refused 'an edit without its new text' tools/wrong_bodies.py
+edit no_such_function '    next(n + 1)' '    next(n)'
+echo 'refused: after_all' >> "$tree/crates/small/wrong-bodies/no_such_function.edit"
+TREE=$tree is_refused 'an edit that is to be refused in no function' tools/wrong_bodies.py
+if ! grep -q 'there is no function small::after_all' "$work/err"; then fail 'an edit that is to be refused in no function' "came:" "$(shown "$work/err")"; fi
 # A tenth of those of by-hand, one of this one, is tried where the gate's are asked for. The gate's are those of a fifth of the crates, here of the one.
 edit same_number '    next(n + 1)' '    next(n)'
 mkdir "$tree/crates/small/by-hand"
