@@ -2,7 +2,8 @@
 ghost use Rattle.std.specs.Prelude.{◌≡◌, ◌<◌};
 ghost use Rattle.click_classes.specs.Acts.{after};
 ghost use Rattle.click_engine.specs.Adjacency.{run_state_of, wiring_of};
-ghost use Rattle.click_engine.specs.kept.Asked.{Asked, IsSmall};
+ghost use Rattle.click_engine.specs.Frames.{moved_on};
+ghost use Rattle.click_engine.specs.kept.Asked.{Asked, IsSmall, asks_now};
 ghost use Rattle.click_engine.specs.declared.transfer_stack.PullFrame.TheVariants.{Tries};
 
 use crate::adjacency::Adjacency;
@@ -46,6 +47,19 @@ fn next_input(inputs: usize, input: usize) -> usize
     if input + 1 < inputs { input + 1 } else { 0 }
 }
 
+/// One input more was asked.
+#[inline(always)]
+pub(crate) fn move_on(input_scan: &mut InputScan)
+    requires some { 0 < input_scan.old.count }
+    requires small { IsSmall input_scan.old }
+    ensures moved { asks_now input_scan.new ≡ moved_on (asks_now input_scan.old) }
+    ensures small { IsSmall input_scan.new }
+{
+    input_scan.count -= 1;
+    input_scan.back = input_scan.input;
+    input_scan.input = next_input(input_scan.inputs, input_scan.input);
+}
+
 /// Asks up to an input that answers, or that leads to an element which asks inputs of its own.
 #[inline(always)]
 pub(crate) fn ask_until_answer(
@@ -67,9 +81,7 @@ pub(crate) fn ask_until_answer(
             input_scan.input,
             packet,
         );
-        input_scan.count -= 1;
-        input_scan.back = input_scan.input;
-        input_scan.input = next_input(input_scan.inputs, input_scan.input);
+        move_on(input_scan);
         if pull_result.held {
             return pull_result;
         }

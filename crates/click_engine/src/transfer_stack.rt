@@ -3,11 +3,10 @@ ghost use Rattle.std.specs.Prelude.{◌≡◌, ℕ, ◌+◌, ◌-◌, ◌<◌, �
 
 use crate::adjacency::Adjacency;
 use crate::copies::serve_above;
-use crate::input_scan::{InputScan, ask_until_answer, waiting_frame};
+use crate::input_scan::{InputScan, ask_until_answer, move_on, waiting_frame};
 use crate::run_state::RunMemory;
 use crate::slots::{copy_up, make_above, tries};
 use crate::transfers::{PullResult, pull_first, pull_over, push_along, push_over, push_slot};
-use click_classes::after;
 use click_packet::Packet;
 use std::alloc::{AllocError, Global};
 use std::marker::Model;
@@ -69,10 +68,11 @@ impl Model for TransferStack {
 }
 
 impl TransferStack {
-    ghost use Rattle.std.specs.Prelude.{◌≡◌, ℕ, ◌+◌, ◌-◌, ◌<◌, ◌≤◌, ◌^◌, List, [], ◌∷◌, ◌++◌, length, IfOk, IfSome, IsSome, IsTrue, ◌↔◌, None, Some, true, false, nat_lt, option_map, if◌then◌else◌};
+    ghost use Rattle.std.specs.Prelude.{◌≡◌, ℕ, ◌+◌, ◌-◌, ◌<◌, ◌≤◌, ◌^◌, List, [], ◌∷◌, ◌++◌, length, take, IfOk, IfSome, IsSome, IsTrue, ◌↔◌, None, Some, true, false, nat_lt, option_map, if◌then◌else◌};
     ghost use Rattle.click_engine.specs.Frames.{Frame, Sends, Pulls, Asks, IsTurn, Follows, sends_first};
     ghost use Rattle.click_engine.specs.Adjacency.{run_state_of, wiring_of};
-    ghost use Rattle.click_engine.specs.RunState.{element_at, with_state};
+    ghost use Rattle.click_engine.specs.RunState.{Wiring, element_at, with_state};
+    ghost use Rattle.click_engine.specs.kept.Asked.{IsSmall, asks_now};
     ghost use Rattle.click_classes.specs.Acts.{burst_of, emission};
     ghost use Rattle.std.specs.Prelude.{MatchOption};
 
@@ -431,20 +431,7 @@ impl TransferStack {
         let top = self.asks.len() - 1;
         match self.asks[top] {
             PullFrame::Pull { at, input } => {
-                let push_frame = &mut self.push_frames[0];
-                let pull_result = pull_over(
-                    adjacency,
-                    run_memory,
-                    at,
-                    input,
-                    &mut push_frame.packet,
-                );
-                self.answered = pull_result.held;
-                if pull_result.count > 0 {
-                    self.asks[top] = tries(pull_result);
-                } else {
-                    self.asks.truncate(top);
-                }
+                self.turn_waiting(adjacency, run_memory, at, input);
             }
             PullFrame::Tries {
                 at,
@@ -453,41 +440,103 @@ impl TransferStack {
                 input,
                 back,
             } => {
+                let input_scan = InputScan {
+                    at,
+                    inputs: inputs as usize,
+                    count: count as usize,
+                    input: input as usize,
+                    back: back as usize,
+                };
                 if self.answered {
-                    let push_frame = &mut self.push_frames[0];
-                    let given = run_memory.gives(at, back, &mut push_frame.packet);
-                    self.answered = given.answers;
-                    self.asks.truncate(top);
-                    if given.copies.count > 0 {
-                        push_frame.at = at;
-                        push_frame.first = given.copies.first as usize;
-                        push_frame.count = given.copies.count as usize;
-                        self.sending = 1;
-                    }
+                    self.turn_answered(run_memory, input_scan);
                 } else if count == 0 {
                     self.asks.truncate(top);
                 } else {
-                    let push_frame = &mut self.push_frames[0];
-                    let pull_result = pull_over(
-                        adjacency,
-                        run_memory,
-                        at,
-                        input as usize,
-                        &mut push_frame.packet,
-                    );
-                    self.answered = pull_result.held;
-                    self.asks[top] = PullFrame::Tries {
-                        at,
-                        inputs,
-                        count: count - 1,
-                        input: after(inputs, input),
-                        back: input,
-                    };
-                    if pull_result.count > 0 {
-                        let _made = self.asks.push(tries(pull_result));
-                    }
+                    self.turn_asking(adjacency, run_memory, input_scan);
                 }
             }
+        }
+    }
+
+    /// The same where the pull on top has yet to ask its input: what that leads to takes its place, or it ends.
+    #[inline(always)]
+    fn turn_waiting(
+        &mut self,
+        adjacency: &Adjacency,
+        run_memory: &mut RunMemory,
+        at: usize,
+        input: usize,
+    )
+        requires top { take 1 self.old.frames ≡ Pulls at input ∷ [] }
+        requires room { length self.old.frames + run_memory.old.left ≤ self.old.room }
+        ensures { IsTurn (wiring_of adjacency.now) (run_state_of run_memory.old) self.old (run_state_of run_memory.new) self.new }
+    {
+        let top = self.asks.len() - 1;
+        let push_frame = &mut self.push_frames[0];
+        let pull_result = pull_over(adjacency, run_memory, at, input, &mut push_frame.packet);
+        self.answered = pull_result.held;
+        if pull_result.count > 0 {
+            self.asks[top] = tries(pull_result);
+        } else {
+            self.asks.truncate(top);
+        }
+    }
+
+    /// The same where the element on top got a packet from the input that it asked last: it is over with what it makes of that.
+    #[inline(always)]
+    fn turn_answered(&mut self, run_memory: &mut RunMemory, input_scan: InputScan)
+        requires top { take 1 self.old.frames ≡ asks_now input_scan ∷ [] }
+        requires small { IsSmall input_scan }
+        requires answered { IsSome self.old.last }
+        requires room { length self.old.frames + run_memory.old.left ≤ self.old.room }
+        ensures { (net : Wiring) → IsTurn net (run_state_of run_memory.old) self.old (run_state_of run_memory.new) self.new }
+    {
+        let top = self.asks.len() - 1;
+        let push_frame = &mut self.push_frames[0];
+        let given = run_memory.gives(
+            input_scan.at,
+            input_scan.back as u16,
+            &mut push_frame.packet,
+        );
+        self.answered = given.answers;
+        self.asks.truncate(top);
+        if given.copies.count > 0 {
+            push_frame.at = input_scan.at;
+            push_frame.first = given.copies.first as usize;
+            push_frame.count = given.copies.count as usize;
+            self.sending = 1;
+        }
+    }
+
+    /// The same where the element on top got nothing from the input that it asked last, and has another: what that leads to stands above it.
+    #[inline(always)]
+    fn turn_asking(
+        &mut self,
+        adjacency: &Adjacency,
+        run_memory: &mut RunMemory,
+        mut input_scan: InputScan,
+    )
+        requires top { take 1 self.old.frames ≡ asks_now input_scan ∷ [] }
+        requires small { IsSmall input_scan }
+        requires more { 0 < input_scan.count }
+        requires unanswered { self.old.last ≡ None }
+        requires room { length self.old.frames + run_memory.old.left ≤ self.old.room }
+        ensures { IsTurn (wiring_of adjacency.now) (run_state_of run_memory.old) self.old (run_state_of run_memory.new) self.new }
+    {
+        let top = self.asks.len() - 1;
+        let push_frame = &mut self.push_frames[0];
+        let pull_result = pull_over(
+            adjacency,
+            run_memory,
+            input_scan.at,
+            input_scan.input,
+            &mut push_frame.packet,
+        );
+        self.answered = pull_result.held;
+        move_on(&mut input_scan);
+        self.asks[top] = waiting_frame(input_scan);
+        if pull_result.count > 0 {
+            let _made = self.asks.push(tries(pull_result));
         }
     }
 }

@@ -92,11 +92,14 @@ is_above (suc d) xs ys k = above-zero d ∙ sym (sends_above (suc d) xs ys (omeg
 pub asks-length : (ys : List PullFrame) → length (frames_of [] ys) ≡ length ys
 asks-length ys = length-map (reverse ys) asks_of ∙ length-reverse ys
 
+pub asks-read : (top : ℕ) (ys : List PullFrame) (d : PullFrame) → length ys ≡ top + 1 → frames_of [] ys ≡ asks_of (get_or ys top d) ∷ frames_of [] (take top ys)
+asks-read top ys d h =
+    ap (λ zs. frames_of [] zs) (sym (take_all (top + 1) ys (omega arith)) ∙ take_more ys top d (omega arith))
+    ∙ asks-more (take top ys) (get_or ys top d)
+
 pub asks-top : (top : ℕ) (ys : List PullFrame) (y : PullFrame) → length ys ≡ top + 1 → y ≡ get_or ys top y → frames_of [] ys ≡ asks_of y ∷ frames_of [] (take top ys)
 asks-top top ys y h e =
-    ap (λ zs. frames_of [] zs) (sym (take_all (top + 1) ys (omega arith)) ∙ take_more ys top y (omega arith))
-    ∙ asks-more (take top ys) (get_or ys top y)
-    ∙ ap (λ z. asks_of z ∷ frames_of [] (take top ys)) (sym e)
+    asks-read top ys y h ∙ ap (λ z. asks_of z ∷ frames_of [] (take top ys)) (sym e)
 
 pub asks-set : (top : ℕ) (ys : List PullFrame) (y : PullFrame) → length ys ≡ top + 1 → frames_of [] (set ys top y) ≡ asks_of y ∷ frames_of [] (take top ys)
 asks-set top ys y h =
