@@ -265,30 +265,33 @@ fn define(
     }
 }
 
-/// The elements of a scope, whose definitions and bodies are added.
-fn written_of(
+/// A scope, whose definitions and bodies are added.
+fn written_scope(
     alloc: Global,
     text: &[u8],
     statements: &[Statement],
     entries: &mut Vec<ClassEntry>,
     nested_bodies: &mut Vec<NestedBody>,
-    scope: usize,
-    outside: Option<usize>,
-) -> Result<Vec<WrittenElement>, AllocError>
+    nested_body: NestedBody,
+) -> Result<WrittenScope, AllocError>
     ensures grows { IsMore entries.old.items entries.new.items }
-    ensures written { IfOk result (λ ws. (visible : List Stated) → Shows text.now entries.old.items outside visible → AreWritten text.now entries.new.items ws.items (placed visible statements.now)) }
-    ensures nested_bodies { OnOk result ((visible : List Stated) → Shows text.now entries.old.items outside visible → AreNestedBodies text.now entries.new.items scope visible statements.now nested_bodies.old.items nested_bodies.new.items) }
-    ensures ports { IfOk result (λ ws. written_ports ws.items ≡ ports_in statements.now) }
-    ensures synonyms { OnOk result ((visible : List Stated) → Shows text.now entries.old.items outside visible → AddsSynonyms text.now visible statements.now entries.old.items entries.new.items) }
+    ensures written { IfOk result (λ s. (visible : List Stated) → Shows text.now entries.old.items nested_body.top visible → AreWritten text.now entries.new.items s.written.items (placed visible statements.now)) }
+    ensures nested_bodies { OnOk result ((visible : List Stated) → Shows text.now entries.old.items nested_body.top visible → AreNestedBodies text.now entries.new.items nested_body.body visible statements.now nested_bodies.old.items nested_bodies.new.items) }
+    ensures ports { IfOk result (λ s. written_ports s.written.items ≡ ports_in statements.now) }
+    ensures outer { IfOk result (λ s. s.outer ≡ nested_body.outer) }
+    ensures synonyms { OnOk result ((visible : List Stated) → Shows text.now entries.old.items nested_body.top visible → AddsSynonyms text.now visible statements.now entries.old.items entries.new.items) }
 {
     let mut written = Vec::new(alloc);
-    let mut top = outside;
+    let mut top = nested_body.top;
     for statement in statements {
         push_elements(&mut written, statement, top)?;
-        push_nested_bodies(nested_bodies, statement, scope, top)?;
+        push_nested_bodies(nested_bodies, statement, nested_body.body, top)?;
         top = define(text, entries, statement, top)?;
     }
-    Ok(written)
+    Ok(WrittenScope {
+        written,
+        outer: nested_body.outer,
+    })
 }
 
 /// The statements of the body at a place.
@@ -322,40 +325,31 @@ pub fn scopes_of(alloc: Global, config: &Config) -> Result<WrittenScopes, AllocE
     let mut entries = Vec::new(alloc);
     let mut nested_bodies = Vec::new(alloc);
     let mut scopes = Vec::new(alloc);
-    let written = written_of(
+    let whole_text = NestedBody {
+        body: count,
+        outer: count,
+        top: None,
+    };
+    let scope = written_scope(
         alloc,
         text,
         statements,
         &mut entries,
         &mut nested_bodies,
-        count,
-        None,
+        whole_text,
     )?;
-    push_scope(
-        &mut scopes,
-        WrittenScope {
-            written,
-            outer: count,
-        },
-    )?;
+    push_scope(&mut scopes, scope)?;
     while let Some(nested_body) = nested_bodies.pop() {
         let inner = statements_at(bodies, nested_body.body);
-        let written = written_of(
+        let scope = written_scope(
             alloc,
             text,
             inner,
             &mut entries,
             &mut nested_bodies,
-            nested_body.body,
-            nested_body.top,
+            nested_body,
         )?;
-        push_scope(
-            &mut scopes,
-            WrittenScope {
-                written,
-                outer: nested_body.outer,
-            },
-        )?;
+        push_scope(&mut scopes, scope)?;
     }
     scopes.reverse();
     Ok(WrittenScopes { scopes, entries })

@@ -8,10 +8,10 @@ use Rattle.click_scopes.proofs.written_scopes.scopes_of.Goals as goal
 
 pub loop-nested_body-init : goal.loop-nested_body-init
 loop-nested_body-init c =
-    walk-first c.args.config.now c.as_slice-text.result.now c.as_slice-statements.result.now _ c.written_of.new.entries.items _ c.written_of.new.nested_bodies.items
+    walk-first c.args.config.now c.as_slice-text.result.now c.as_slice-statements.result.now _ c.written_scope.new.entries.items _ c.written_scope.new.nested_bodies.items
     _ c.push_scope.new.scopes.items _ c.in_ok-push_scope.ensures c.new-scopes.ensures.items c.new-nested_bodies.ensures.items c.as_slice-text.ensures c.as_slice-statements.ensures
-    (ap length c.as_slice-bodies.ensures) c.requires (c.in_ok-written.ensures.written [] refl) c.in_ok-written.ensures.ports refl (c.in_ok-written.ensures.nested_bodies [] refl)
-    _ c.new-entries.ensures.items (c.in_ok-written.ensures.synonyms [] refl)
+    (ap length c.as_slice-bodies.ensures) c.requires (c.in_ok-scope.ensures.written [] refl) c.in_ok-scope.ensures.ports c.in_ok-scope.ensures.outer (c.in_ok-scope.ensures.nested_bodies [] refl)
+    _ c.new-entries.ensures.items (c.in_ok-scope.ensures.synonyms [] refl)
 
 pub loop-nested_body-smaller : goal.loop-nested_body-smaller
 loop-nested_body-smaller c =
@@ -23,11 +23,11 @@ loop-nested_body-smaller c =
 pub loop-nested_body-preserved : goal.loop-nested_body-preserved
 loop-nested_body-preserved c =
     let config = c.args.config.now in
-    walk-next config c.as_slice-text.result.now c.statements_at-inner.result.now c.loop-nested_body.entries.items c.written_of-in-Some.new.entries.items c.loop-nested_body.nested_bodies.items c.pop.new.self.items
-    c.written_of-in-Some.new.nested_bodies.items c.in-Some.nested_body c.loop-nested_body.scopes.items c.push_scope-in-Some.new.scopes.items _ c.in_ok-push_scope-2.ensures c.in-Some.ensures.items
+    walk-next config c.as_slice-text.result.now c.statements_at-inner.result.now c.loop-nested_body.entries.items c.written_scope-in-Some.new.entries.items c.loop-nested_body.nested_bodies.items c.pop.new.self.items
+    c.written_scope-in-Some.new.nested_bodies.items c.in-Some.nested_body c.loop-nested_body.scopes.items c.push_scope-in-Some.new.scopes.items _ c.in_ok-push_scope-2.ensures c.in-Some.ensures.items
     c.as_slice-text.ensures (c.statements_at-inner.ensures ∙ ap (λ bs. body_statements (slice_get bs c.in-Some.nested_body.body)) c.as_slice-bodies.ensures) c.loop-nested_body.invariant
-    c.written_of-in-Some.ensures.grows c.in_ok-written-2.ensures.written c.in_ok-written-2.ensures.ports refl c.in_ok-written-2.ensures.nested_bodies
-    c.in_ok-written-2.ensures.synonyms
+    c.written_scope-in-Some.ensures.grows c.in_ok-scope-2.ensures.written c.in_ok-scope-2.ensures.ports c.in_ok-scope-2.ensures.outer c.in_ok-scope-2.ensures.nested_bodies
+    c.in_ok-scope-2.ensures.synonyms
 
 pub returns-clause-scopes : goal.returns-clause-scopes
 returns-clause-scopes c =

@@ -4,7 +4,7 @@ use Rattle.click_scopes.specs.kept.Scoped.{ports_in}
 use Rattle.click_scopes.specs.kept.Standing.{written_ports}
 use Rattle.click_scopes.proofs.OfLists.StatementTables.{Kept, kept-first, kept-next, more-more}
 use Rattle.click_scopes.proofs.OfNames.Synonyms.{renamed-first, renamed-next, renamed-all, ports-next, ports-all}
-use Rattle.click_scopes.proofs.written_scopes.written_of.Goals as goal
+use Rattle.click_scopes.proofs.written_scopes.written_scope.Goals as goal
 
 pub loop-statement-preserved : goal.loop-statement-preserved
 loop-statement-preserved c =
@@ -13,7 +13,7 @@ loop-statement-preserved c =
     record {
       grows = more-more _ es new v.grows c.define.ensures.grows;
       kept = λ visible h.
-          kept-next c.args.text.now es new c.args.scope c.loop-statement.top c.in_ok-top.top ws c.push_elements.new.written.items
+          kept-next c.args.text.now es new c.args.nested_body.body c.loop-statement.top c.in_ok-top.top ws c.push_elements.new.written.items
           _ c.loop-statement.nested_bodies.items c.push_nested_bodies.new.nested_bodies.items visible
           all i _ c.statement-item.result c.loop-statement-test.true c.statement-item.is c.define.ensures.grows
           c.in_ok-push_elements.ensures c.in_ok-push_nested_bodies.ensures c.in_ok-top.ensures.shows (v.kept visible h);
@@ -30,8 +30,8 @@ loop-statement-init c =
     record {
       grows = ([], sym (append-nil es));
       kept = λ visible h.
-          subst (λ ws. Kept text es c.args.scope c.args.outside ws nested_bodies nested_bodies visible 0 ss) (sym c.new-written.ensures.items)
-          (kept-first text es c.args.scope c.args.outside nested_bodies visible ss h);
+          subst (λ ws. Kept text es c.args.nested_body.body c.args.nested_body.top ws nested_bodies nested_bodies visible 0 ss) (sym c.new-written.ensures.items)
+          (kept-first text es c.args.nested_body.body c.args.nested_body.top nested_bodies visible ss h);
       ports = ap (λ ws. written_ports ws ++ ports_in ss) c.new-written.ensures.items;
       synonyms = λ visible h. renamed-first text visible es ss;
     }

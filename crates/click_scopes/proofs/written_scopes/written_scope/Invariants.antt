@@ -5,14 +5,14 @@ use Rattle.click_scopes.specs.kept.Standing.{written_ports}
 use Rattle.click_scopes.specs.kept.Tables.{Shows, IsMore}
 use Rattle.click_scopes.proofs.OfLists.StatementTables.{Kept}
 use Rattle.click_scopes.proofs.OfNames.Synonyms.{Renamed}
-use Rattle.click_scopes.proofs.written_scopes.written_of.Given as goal
+use Rattle.click_scopes.proofs.written_scopes.written_scope.Given as goal
 
 abbrev pub invariant-loop-statement : goal.invariant-loop-statement
 invariant-loop-statement l = record {
   grows : IsMore l.fn.entries.items l.entries.items;
-  kept : (visible : List Statement) → Shows l.text l.fn.entries.items l.fn.outside visible →
-      Kept l.text l.entries.items l.scope l.top l.written.items l.fn.nested_bodies.items l.nested_bodies.items visible l.statement-index l.statements;
+  kept : (visible : List Statement) → Shows l.text l.fn.entries.items l.fn.nested_body.top visible →
+      Kept l.text l.entries.items l.nested_body.body l.top l.written.items l.fn.nested_bodies.items l.nested_bodies.items visible l.statement-index l.statements;
   ports : written_ports l.written.items ++ ports_in (drop l.statement-index l.statements) ≡ ports_in l.statements;
-  synonyms : (visible : List Statement) → Shows l.text l.fn.entries.items l.fn.outside visible →
+  synonyms : (visible : List Statement) → Shows l.text l.fn.entries.items l.fn.nested_body.top visible →
       Renamed l.text visible l.fn.entries.items l.entries.items l.statement-index l.statements;
 }
