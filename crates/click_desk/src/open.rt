@@ -64,16 +64,16 @@ pub struct OpenRefused<T> {
     pub fault: OpenFault,
 }
 
-/// How many of each a desk is to have.
+/// How many of each a desk is to have, beside its inlets. Without a `room` its history has no bound, and is not kept.
 #[derive(Clone, Copy)]
 struct Sizes {
     room: Option<usize>,
     seats: usize,
-    inlets: usize,
     views: usize,
 }
 
 /// All that takes memory.
+#[derive(Drop)]
 struct Parts<T> {
     router_log: Box<RouterLog>,
     beside: DeskOptions,
@@ -81,6 +81,13 @@ struct Parts<T> {
     maker: DeskPass<T>,
     given: Vec<Seat<T>>,
     views: Vec<View>,
+}
+
+/// What a desk is put together of, where nothing can fail any more.
+struct Opening<T, S: Wait + Drop> {
+    prepared: Prepared,
+    install_signal: Option<InstallSignal<S>>,
+    parts: Parts<T>,
 }
 
 /// A ledger without an entry, with room for so many feeds. It keeps its entries where there is a bound of them.
@@ -109,6 +116,7 @@ fn make_parts<T, R: Wait>(
     text: &[u8],
     prepared: &Prepared,
     sizes: Sizes,
+    inlets: usize,
 ) -> Result<Parts<T>, AllocError>
     requires { IsOpened text.now prepared.now }
     ensures options { IfOk result (λ p. (p.router_log.value.options ≡ record { opening = text.now; room = sizes.room; seats = sizes.seats; origin = p.router_log.value.published.board }) × (p.beside ≡ p.router_log.value.options)) }
@@ -117,14 +125,14 @@ fn make_parts<T, R: Wait>(
     ensures queue { IfOk result (λ p. (ruled_capacity p.queue ≡ 1) × IsPassOf p.queue p.maker × (view p.maker ≡ first)) }
     ensures given { IfOk result (λ p. (p.given.items ≡ []) × (sizes.seats ≤ vec_capacity p.given)) }
     ensures views { IfOk result (λ p. (p.views.items ≡ []) × (sizes.views ≤ vec_capacity p.views)) }
-    ensures consumers { IfOk result (λ p. (p.router_log.value.consumers.items ≡ []) × (sizes.inlets ≤ vec_capacity p.router_log.value.consumers)) }
+    ensures consumers { IfOk result (λ p. (p.router_log.value.consumers.items ≡ []) × (inlets ≤ vec_capacity p.router_log.value.consumers)) }
 {
     let install = Install::of_prepared(alloc, text, prepared)?;
     // Where there are no views nothing that is published is kept.
     let published = Publisher::open(rt, alloc, install, sizes.views > 0)?;
     let inside = DeskOptions::of(alloc, text, sizes.room, sizes.seats, published.origin())?;
     let beside = DeskOptions::of(alloc, text, sizes.room, sizes.seats, published.origin())?;
-    let router_log = empty_ledger(alloc, inside, sizes.inlets, published)?;
+    let router_log = empty_ledger(alloc, inside, inlets, published)?;
     let given = Vec::with_capacity(alloc, sizes.seats)?;
     let views = Vec::with_capacity(alloc, sizes.views)?;
     let (queue, maker) = Queue::<T>::ruled(alloc, 1)?;
@@ -268,6 +276,54 @@ fn size_fault(seats: usize, inlets: &[Inlet], views: usize) -> Option<OpenFault>
     None
 }
 
+/// Makes all that a desk of these sizes is put together of, or tells why none is opened.
+fn make_opening<'a, T: Drop, R: Wait>(
+    rt: &'a R,
+    alloc: Global,
+    text: &[u8],
+    inlets: &[Inlet],
+    sizes: Sizes,
+) -> Result<Opening<T, &'a R>, OpenFault>
+    ensures good { IfOk result (λ o. AreFit sizes.seats inlets.now × (sizes.views ≤ 16) × IsOpened text.now o.prepared) }
+    ensures options { IfOk result (λ o. o.parts.beside ≡ record { opening = text.now; room = sizes.room; seats = sizes.seats; origin = o.parts.router_log.value.published.board }) }
+    ensures inside { IfOk result (λ o. o.parts.router_log.value.options ≡ o.parts.beside) }
+    ensures published { IfOk result (λ o. o.parts.router_log.value.published ≡ record { board = o.parts.router_log.value.published.board; list = text.now ∷ [] }) }
+    ensures empty { IfOk result (λ o. (o.parts.router_log.value.entries.items ≡ []) × (o.parts.router_log.value.entries.keeps ≡ is_some sizes.room)) }
+    ensures queue { IfOk result (λ o. (ruled_capacity o.parts.queue ≡ 1) × IsPassOf o.parts.queue o.parts.maker × (view o.parts.maker ≡ first)) }
+    ensures given { IfOk result (λ o. (o.parts.given.items ≡ []) × (sizes.seats ≤ vec_capacity o.parts.given)) }
+    ensures views { IfOk result (λ o. (length o.parts.views.items ≡ sizes.views) × All (λ v. v ≡ o.parts.router_log.value.published) o.parts.views.items) }
+    ensures consumers { IfOk result (λ o. (o.parts.router_log.value.consumers.items ≡ []) × (length inlets.now ≤ vec_capacity o.parts.router_log.value.consumers)) }
+    ensures fault { IfErr result (λ fault. IsViewFault sizes.seats inlets.now sizes.views text.now fault) }
+{
+    if let Some(fault) = size_fault(sizes.seats, inlets, sizes.views) {
+        return Err(fault);
+    }
+    let prepared = match prepare(alloc, text) {
+        Ok(prepared) => prepared,
+        Err(fault) => return Err(fault_of(fault)),
+    };
+    let Ok(install_signal) = signal_for(rt, alloc, sizes.views) else {
+        return Err(OpenFault::NoMemory);
+    };
+    let Ok(mut parts) = make_parts(rt, alloc, text, &prepared, sizes, inlets.len()) else {
+        return Err(OpenFault::NoMemory);
+    };
+    if let Err(fault) = make_views(
+        rt,
+        &parts.router_log.published,
+        &install_signal,
+        sizes.views,
+        &mut parts.views,
+    ) {
+        return Err(fault);
+    }
+    Ok(Opening {
+        prepared,
+        install_signal,
+        parts,
+    })
+}
+
 /// What was handed in, and why no desk was opened.
 fn refused<T>(table: T, inlets: Vec<Inlet>, fault: OpenFault) -> OpenRefused<T>
     ensures { result ≡ record { table = table; inlets = inlets; fault = fault } }
@@ -325,7 +381,12 @@ impl<'a, T: Drop, R: Wait> Desk<T, &'a R> {
         ensures handed { IfErr result (λ r. (r.table ≡ table) × (r.inlets ≡ inlets)) }
         ensures fault { IfErr result (λ r. IsViewFault seats inlets.items views text.now r.fault) }
     {
-        Desk::open_of(rt, alloc, table, text, Some(room), seats, inlets, views)
+        let sizes = Sizes {
+            room: Some(room),
+            seats,
+            views,
+        };
+        Desk::open_of(rt, alloc, table, text, inlets, sizes)
     }
 
     /// Opens a live desk, which keeps no book: its history has no bound, and no call and no poll takes memory that stays, but that views keep what each swap
@@ -348,82 +409,79 @@ impl<'a, T: Drop, R: Wait> Desk<T, &'a R> {
         ensures handed { IfErr result (λ r. (r.table ≡ table) × (r.inlets ≡ inlets)) }
         ensures fault { IfErr result (λ r. IsViewFault seats inlets.items views text.now r.fault) }
     {
-        Desk::open_of(rt, alloc, table, text, None, seats, inlets, views)
+        let sizes = Sizes {
+            room: None,
+            seats,
+            views,
+        };
+        Desk::open_of(rt, alloc, table, text, inlets, sizes)
     }
 
-    /// Opens a desk, for a history of at most `room` entries that is kept, or for one without a bound that is not.
+    /// Opens a desk of these sizes.
     fn open_of(
         rt: &'a R,
         alloc: Global,
         table: T,
         text: &[u8],
-        room: Option<usize>,
-        seats: usize,
         inlets: Vec<Inlet>,
-        views: usize,
+        sizes: Sizes,
     ) -> Result<(Desk<T, &'a R>, Vec<Seat<T>>, Vec<View>), OpenRefused<T>>
-        ensures desk { IfOk result (λ r. (r.0.options.opening ≡ text.now) × (r.0.options.room ≡ room) × (r.0.options.seats ≡ seats)) }
-        ensures seats { IfOk result (λ r. (r.1.items ≡ seats_below r.0 inlets.items seats) × All (λ s. s.desk ≡ r.0) r.1.items) }
+        ensures desk { IfOk result (λ r. (r.0.options.opening ≡ text.now) × (r.0.options.room ≡ sizes.room) × (r.0.options.seats ≡ sizes.seats)) }
+        ensures seats { IfOk result (λ r. (r.1.items ≡ seats_below r.0 inlets.items sizes.seats) × All (λ s. s.desk ≡ r.0) r.1.items) }
         ensures fed { IfOk result (λ r. All (λ s. s.feeds ≡ inlets.items) r.1.items) }
-        ensures views { IfOk result (λ r. (length r.2.items ≡ views) × All (λ v. v ≡ record { board = r.0.options.origin; list = text.now ∷ [] }) r.2.items) }
-        ensures good { IfOk result (λ r. AreFit seats inlets.items × (views ≤ 16) × IsLegal text.now []) }
+        ensures views { IfOk result (λ r. (length r.2.items ≡ sizes.views) × All (λ v. v ≡ record { board = r.0.options.origin; list = text.now ∷ [] }) r.2.items) }
+        ensures good { IfOk result (λ r. AreFit sizes.seats inlets.items × (sizes.views ≤ 16) × IsLegal text.now []) }
         ensures handed { IfErr result (λ r. (r.table ≡ table) × (r.inlets ≡ inlets)) }
-        ensures fault { IfErr result (λ r. IsViewFault seats inlets.items views text.now r.fault) }
+        ensures fault { IfErr result (λ r. IsViewFault sizes.seats inlets.items sizes.views text.now r.fault) }
     {
-        if let Some(fault) = size_fault(seats, inlets.as_slice(), views) {
-            return Err(refused(table, inlets, fault));
+        match make_opening(rt, alloc, text, inlets.as_slice(), sizes) {
+            Ok(opening) => Ok(Desk::put_together(rt, alloc, table, inlets, opening)),
+            Err(fault) => Err(refused(table, inlets, fault)),
         }
-        let prepared = match prepare(alloc, text) {
-            Ok(prepared) => prepared,
-            Err(fault) => return Err(refused(table, inlets, fault_of(fault))),
-        };
-        let sizes = Sizes {
-            room,
-            seats,
-            inlets: inlets.len(),
-            views,
-        };
-        let Ok(install_signal) = signal_for(rt, alloc, views) else {
-            return Err(refused(table, inlets, OpenFault::NoMemory));
-        };
-        let Ok(parts) = make_parts(rt, alloc, text, &prepared, sizes) else {
-            return Err(refused(table, inlets, OpenFault::NoMemory));
-        };
+    }
+
+    /// Puts a desk together, with its seats and its views. It takes no memory.
+    fn put_together(
+        rt: &'a R,
+        alloc: Global,
+        table: T,
+        inlets: Vec<Inlet>,
+        opening: Opening<T, &'a R>,
+    ) -> (Desk<T, &'a R>, Vec<Seat<T>>, Vec<View>)
+        requires fit { AreFit opening.parts.beside.seats inlets.items }
+        requires opened { IsOpened opening.parts.beside.opening opening.prepared }
+        requires options { opening.parts.router_log.value.options ≡ opening.parts.beside }
+        requires published { opening.parts.router_log.value.published ≡ record { board = opening.parts.beside.origin; list = opening.parts.beside.opening ∷ [] } }
+        requires empty { (opening.parts.router_log.value.entries.items ≡ []) × (opening.parts.router_log.value.entries.keeps ≡ is_some opening.parts.beside.room) }
+        requires queue { (ruled_capacity opening.parts.queue ≡ 1) × IsPassOf opening.parts.queue opening.parts.maker × (view opening.parts.maker ≡ first) }
+        requires given { (opening.parts.given.items ≡ []) × (opening.parts.beside.seats ≤ vec_capacity opening.parts.given) }
+        requires consumers { (opening.parts.router_log.value.consumers.items ≡ []) × (length inlets.items ≤ vec_capacity opening.parts.router_log.value.consumers) }
+        ensures desk { result.0.options ≡ opening.entry.parts.beside }
+        ensures seats { (result.1.items ≡ seats_below result.0 inlets.items opening.entry.parts.beside.seats) × All (λ s. s.desk ≡ result.0) result.1.items }
+        ensures fed { All (λ s. s.feeds ≡ inlets.items) result.1.items }
+        ensures views { result.2.items ≡ opening.entry.parts.views.items }
+    {
+        let Opening {
+            prepared,
+            install_signal,
+            parts,
+        } = opening;
         let Parts {
             mut router_log,
             beside,
             queue,
             mut maker,
             mut given,
-            views: mut shown,
-        } = parts;
-        if let Err(fault) = make_views(
-            rt,
-            &router_log.published,
-            &install_signal,
             views,
-            &mut shown,
-        ) {
-            return Err(refused(table, inlets, fault));
-        }
+        } = parts;
         let told = router_log.published.notice();
         let router = Router::open(table, prepared);
         open_all(inlets, &mut router_log.consumers);
-        give(
-            rt,
-            &queue,
-            &mut maker,
-            LoggedRouter::new(router_log, router),
-        );
-        make_seats(
-            alloc,
-            &queue,
-            maker,
-            room.is_some(),
-            seats,
-            &mut given,
-            &told,
-        );
+        let logged_router = LoggedRouter::new(router_log, router);
+        give(rt, &queue, &mut maker, logged_router);
+        let keeps = beside.room.is_some();
+        let count = beside.seats;
+        make_seats(alloc, &queue, maker, keeps, count, &mut given, &told);
         let desk = Desk {
             alloc,
             queue,
@@ -431,6 +489,6 @@ impl<'a, T: Drop, R: Wait> Desk<T, &'a R> {
             options: beside,
             install_signal,
         };
-        Ok((desk, given, shown))
+        (desk, given, views)
     }
 }

@@ -1,34 +1,8 @@
-use Rattle.std.proofs.Common.{◌≡◌, List, ap, ◌∙◌, sym, subst}
-use Rattle.std.specs.List.{All}
-use Rattle.crossbeam_queue.specs.Passes.{view}
+use Rattle.std.proofs.Common.{List, subst}
 use Rattle.click_rings.specs.Feeds.{FeedName}
-use Rattle.click_desk.specs.DeskSetups.{setup_of, terms_of}
-use Rattle.click_desk.specs.declared.logged_router.RouterLog.{RouterLog}
-use Rattle.click_desk.specs.declared.desk_setup.DeskSetup.{DeskSetup}
-use Rattle.click_desk.specs.declared.view.View.{View}
 use Rattle.click_desk.specs.Openings.{IsViewFault}
-use Rattle.click_desk.specs.SeatStates.{DeskName, SeatState, seats_below}
-use Rattle.click_desk.proofs.SeatedEntries.{all_belong, all_fed}
 use Rattle.click_desk.proofs.open.Desk+T+ref+R.open_of.Goals as goal
 
-pub returns-clause-seats : goal.returns-clause-seats
-returns-clause-seats g c =
-    let parts = c.in-Ok-make_parts.parts in
-    let t = c.in-Ok-make_parts.ensures.options in
-    let feeds : List FeedName = c.args.inlets.items in
-    let options : (view c.give.new.pass).options ≡ setup_of parts.beside feeds =
-    ap (λ (v : View). v.options) c.give.ensures.given ∙ (c.new.ensures.0 ∙ (λ i. setup_of ((ap (λ (l : RouterLog). l.options) c.deref_mut.ensures.value ∙ sym t.1) i) (c.open_all.ensures.names i))) in
-    let desk : DeskName = record { table = parts.queue.table.shared.table_id; options = parts.beside } in
-    let made : c.make_seats.new.given.items ≡ seats_below desk feeds c.args.seats =
-    c.make_seats.ensures ∙ ap (λ (y : DeskSetup). seats_below (record { table = desk.table; options = terms_of y }) y.feeds c.args.seats) options in
-    (made, subst (λ (l : List SeatState). All (λ s. s.desk ≡ desk) l) (sym made) (all_belong desk feeds c.args.seats))
-
-pub returns-clause-fed : goal.returns-clause-fed
-returns-clause-fed g c =
-    let feeds : List FeedName = c.args.inlets.items in
-    let made = (returns-clause-seats g c).0 in
-    subst (λ (l : List SeatState). All (λ s. s.feeds ≡ feeds) l) (sym made) (all_fed _ feeds c.args.seats)
-
-pub returns-in-Some-clause-fault : goal.returns-in-Some-clause-fault
-returns-in-Some-clause-fault g c =
-    rw c.refused.ensures (subst (λ (l : List FeedName). IsViewFault c.args.seats l c.args.views c.args.text.now c.in-Some.fault) c.as_slice.ensures.value (c.in-Some.ensures.fault c.args.text.now))
+pub returns-in-Err-clause-fault : goal.returns-in-Err-clause-fault
+returns-in-Err-clause-fault g c =
+    rw c.refused.ensures (subst (λ (l : List FeedName). IsViewFault c.args.sizes.seats l c.args.sizes.views c.args.text.now c.in-Err.fault) c.as_slice.ensures.value c.in-Err.ensures.fault)
