@@ -7,9 +7,9 @@ use click_base::sequence::Sequence;
 use click_desk::{Desk, Seat};
 use click_handlers::{Table, TakesTable, with_table};
 use click_links::{
-    CountSnapshot, Counts, Datagram, Device, Dropped, Ended, Inbound, Intake, LinkFailed, Linked,
-    MemoryIn, MemoryOut, Received, Receiving, SweepResult, Tally, Turn, forward, receive,
-    run_links, sweep,
+    CountSnapshot, Counts, Datagram, Device, Dropped, Ended, Inbound, Intake, LinkFailed,
+    LinkParts, Linked, MemoryIn, MemoryOut, Received, Receiving, SweepResult, Tally, Turn, forward,
+    receive, run_links, sweep,
 };
 use click_packet::StoredPacket;
 use click_rings::Inlet;
@@ -298,17 +298,15 @@ fn run_both<'a, T: Handlers + Send + Drop, R: Threads + Wait + Sync>(
     alloc: Global,
     desk: &Desk<T, &R>,
     seat: Seat<T>,
-    devices: &[Device],
-    links: Vec<Receiving<Closing<'a>>>,
-    sender: MemoryOut,
+    link_parts: LinkParts<Closing<'a>, MemoryOut>,
     stop: &AtomicBool,
 ) -> Option<Linked<T, Closing<'a>, MemoryOut>>
     requires { seat.desk ≡ desk.now }
 {
-    if links.len() > devices.len() {
+    if link_parts.receivers.len() > link_parts.devices.len() {
         return None;
     }
-    Some(run_links(rt, alloc, desk, seat, devices, links, sender, stop))
+    Some(run_links(rt, alloc, desk, seat, link_parts, stop))
 }
 
 /// Two links that run at one desk until the last datagram of each has come: what comes over one goes out over the other, both ways.
@@ -326,9 +324,14 @@ fn ran<T: Handlers + Send + Drop, R: Threads + Wait + Sync>(
     let sender = keeping(alloc, &[b"a", b"b"], 8).ok()?;
     let left = AtomicUsize::new(2);
     let stop = AtomicBool::new(false);
-    let links = two(alloc, Intake::of(first), Intake::of(second), &left, &stop).ok()?;
+    let receivers = two(alloc, Intake::of(first), Intake::of(second), &left, &stop).ok()?;
     let devices = devices.as_slice();
-    let linked = run_both(rt, alloc, &desk, seat, devices, links, sender, &stop)?;
+    let link_parts = LinkParts {
+        devices,
+        receivers,
+        sender,
+    };
+    let linked = run_both(rt, alloc, &desk, seat, link_parts, &stop)?;
     let packets = linked.sender.packets();
     Some(
         linked.fault.is_none()

@@ -29,7 +29,7 @@ pub use link::{Inbound, LinkFailed, Outbound};
 pub use links::Links;
 pub use memory::{MemoryIn, MemoryOut};
 pub use receiving::{Ended, Received, receive};
-pub use run::{Linked, Receiving, run_links};
+pub use run::{LinkParts, Linked, Receiving, run_links};
 pub use sweeping::{SweepResult, sweep};
 pub use turns::{Tally, Turn, forward};
 pub use udp::{UdpIn, UdpLine, UdpOut, open_udp};

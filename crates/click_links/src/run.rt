@@ -56,6 +56,14 @@ impl<L> Receiving<L> {
     }
 }
 
+/// The links of a run: the devices, the receivers in one order with them, and the end by which packets go out.
+#[derive(Drop)]
+pub struct LinkParts<'a, L, S> {
+    pub devices: &'a [Device],
+    pub receivers: Vec<Receiving<L>>,
+    pub sender: S,
+}
+
 /// What is left of a run.
 #[derive(Drop)]
 pub struct Linked<T, L, S> {
@@ -254,19 +262,22 @@ fn run_as<
     alloc: Global,
     desk: &Desk<T, &R>,
     seat: Seat<T>,
-    devices: &[Device],
-    links: Vec<Receiving<L>>,
-    sender: S,
+    link_parts: LinkParts<L, S>,
     stop: &AtomicBool,
 ) -> Linked<T, L, S>
-    requires devices { vec_len links ≤ length devices.now }
-    requires at { (Some desk.now ≡ B.desk) × (names_of devices.now ≡ B.names) }
+    requires devices { vec_len link_parts.receivers ≤ length link_parts.devices.now }
+    requires at { (Some desk.now ≡ B.desk) × (names_of link_parts.devices.now ≡ B.names) }
     requires same { (Some seat.desk ≡ B.desk) × (seat.number ≡ B.number) × (seat.feeds ≡ B.feeds) }
-    requires new { (seat.calls ≡ B.calls) × (S.tried sender ≡ B.tried) }
-    ensures receives { AllZip (λ old new. (new.device ≡ old.device) × Receives (L.came old.link) (L.came new.link) old.intake new.intake new.received.dropped) links.items result.links.items }
+    requires new { (seat.calls ≡ B.calls) × (S.tried link_parts.sender ≡ B.tried) }
+    ensures receives { AllZip (λ old new. (new.device ≡ old.device) × Receives (L.came old.link) (L.came new.link) old.intake new.intake new.received.dropped) link_parts.entry.receivers.items result.links.items }
     ensures same { (result.seat.desk ≡ desk.now) × (result.seat.number ≡ B.number) × (result.seat.feeds ≡ B.feeds) }
     ensures forwards { Forwards B.names B.calls result.seat.calls B.tried (S.tried result.sender) }
 {
+    let LinkParts {
+        devices,
+        receivers,
+        sender,
+    } = link_parts;
     let shared: Shared<T, S, B> = Shared::new(Forwarder::new(seat, sender));
     let sweeper = Sweeper {
         rt,
@@ -275,7 +286,7 @@ fn run_as<
         devices,
         shared: &shared,
     };
-    let (links, fault) = run_beside(&sweeper, links, stop);
+    let (links, fault) = run_beside(&sweeper, receivers, stop);
     let (seat, sender) = shared.into_outfit().into_parts();
     Linked {
         links,
@@ -298,16 +309,14 @@ pub fn run_links<
     alloc: Global,
     desk: &Desk<T, &R>,
     seat: Seat<T>,
-    devices: &[Device],
-    links: Vec<Receiving<L>>,
-    sender: S,
+    link_parts: LinkParts<L, S>,
     stop: &AtomicBool,
 ) -> Linked<T, L, S>
     requires desk { seat.desk ≡ desk.now }
-    requires devices { vec_len links ≤ length devices.now }
-    ensures receives { AllZip (λ old new. (new.device ≡ old.device) × Receives (L.came old.link) (L.came new.link) old.intake new.intake new.received.dropped) links.items result.links.items }
+    requires devices { vec_len link_parts.receivers ≤ length link_parts.devices.now }
+    ensures receives { AllZip (λ old new. (new.device ≡ old.device) × Receives (L.came old.link) (L.came new.link) old.intake new.intake new.received.dropped) link_parts.entry.receivers.items result.links.items }
     ensures same { SameSeat seat result.seat }
-    ensures forwards { Forwards (names_of devices.now) seat.calls result.seat.calls (S.tried sender) (S.tried result.sender) }
+    ensures forwards { Forwards (names_of link_parts.entry.devices.now) seat.calls result.seat.calls (S.tried link_parts.entry.sender) (S.tried result.sender) }
 {
-    run_as::<_, _, _, _, Brand>(rt, alloc, desk, seat, devices, links, sender, stop)
+    run_as::<_, _, _, _, Brand>(rt, alloc, desk, seat, link_parts, stop)
 }

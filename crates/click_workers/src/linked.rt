@@ -25,7 +25,9 @@ use crate::service::Service;
 use crate::session::SessionEnd;
 use click_base::sequence::Sequence;
 use click_desk::{Book, Desk, OpenFault, Seat};
-use click_links::{Device, Inbound, Linked, Links, Outbound, Received, Receiving, run_links};
+use click_links::{
+    Device, Inbound, LinkParts, Linked, Links, Outbound, Received, Receiving, run_links,
+};
 use click_packet::StoredPacket;
 use click_rings::Feed;
 use click_router::Handlers;
@@ -62,14 +64,6 @@ pub struct LinkSetup<'a, L, S> {
     pub devices: &'a [Device],
     pub links: Links<L>,
     pub sender: S,
-}
-
-/// The same without the inlets, which the desk has: what runs, and what is left of it.
-#[derive(Drop)]
-struct LinkParts<'a, L, S> {
-    devices: &'a [Device],
-    receivers: Vec<Receiving<L>>,
-    sender: S,
 }
 
 /// Serves at each place, drives, and works beside them, until all places have served, and meanwhile runs the links, of which the first seat is.
@@ -128,7 +122,14 @@ fn serve_linked<
             ensures { AllZip (λ old new. (new.device ≡ old.device) × Receives (L.came old.link) (L.came new.link) old.intake new.intake new.received.dropped) receivers.items result.links.items
                 × SameSeat forwarder result.seat
                 × Forwards (names_of devices.entry.now) forwarder.calls result.seat.calls (S.tried sender) (S.tried result.sender) }
-        { run_links(rt, alloc, desk, forwarder, devices, receivers, sender, stop) },
+        {
+            let wires = LinkParts {
+                devices,
+                receivers,
+                sender,
+            };
+            run_links(rt, alloc, desk, forwarder, wires, stop)
+        },
         move || -> (RunSeats<T, B::Seats>, B::Done)
             requires { IsSync R.row × IsSync D.row × IsSync G.row × IsSend T.row × IsSend B.row × Ready desk.now service.now.sessions (vec_len run_seats.work.seats) run_seats.work.seats.items run_seats.work.ended.items run_seats.work.drivers.items
                 (vec_capacity run_seats.work.ended) (vec_capacity run_seats.work.drivers) × (0 < service.now.turns) × All (λ s. s.desk ≡ desk.now) (B.Seats.sittings run_seats.beside) }
