@@ -1,4 +1,5 @@
 pub mod Arguments
+pub mod FaultText
 pub mod Faults
 pub mod Grammar
 pub mod Items

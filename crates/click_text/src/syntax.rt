@@ -1,6 +1,7 @@
 //! Tokens and the tree of a configuration.
 
 ghost use Rattle.std.specs.Prelude.{◌≡◌};
+ghost use Rattle.click_text.specs.FaultText.{kind_text};
 ghost use Rattle.click_text.specs.Faults.{span_of, no_memory};
 ghost use Rattle.click_text.specs.kept.EndFault.{end_fault};
 ghost use Rattle.click_text.specs.Spans.{bytes_at, string_text};
@@ -152,23 +153,17 @@ pub struct Config {
     pub bodies: Sequence<Body>,
 }
 
-/// What is wrong with a text. The numbers are those that operators see.
+/// What is wrong with a text. It prints as its number and its name.
 #[derive(Clone, Copy, Debug, Error, PartialEq, Eq)]
+#[error("{}", self.text())]
 pub enum FaultKind {
-    #[error("1 BadByte")]
-    BadByte = 1,
-    #[error("2 UnclosedComment")]
-    UnclosedComment = 2,
-    #[error("3 UnclosedString")]
-    UnclosedString = 3,
-    #[error("4 Unexpected")]
-    Unexpected = 4,
-    #[error("5 TooDeep")]
-    TooDeep = 5,
-    #[error("6 TooLarge")]
-    TooLarge = 6,
-    #[error("7 NoMemory")]
-    NoMemory = 7,
+    BadByte,
+    UnclosedComment,
+    UnclosedString,
+    Unexpected,
+    TooDeep,
+    TooLarge,
+    NoMemory,
 }
 
 /// A fault of a text, and where it stands. TooLarge and NoMemory stand nowhere: their span is 0 to 0.
@@ -238,6 +233,23 @@ impl fmt::Display for Place {
         match self.0 {
             Some(span) => write!(f, " at bytes {} to {}", span.start, span.end),
             None => Ok(()),
+        }
+    }
+}
+
+impl FaultKind {
+    /// Its number and its name, as operators see them.
+    pub fn text(self) -> &'static str
+        ensures { result.now ≡ kind_text self }
+    {
+        match self {
+            FaultKind::BadByte => "1 BadByte",
+            FaultKind::UnclosedComment => "2 UnclosedComment",
+            FaultKind::UnclosedString => "3 UnclosedString",
+            FaultKind::Unexpected => "4 Unexpected",
+            FaultKind::TooDeep => "5 TooDeep",
+            FaultKind::TooLarge => "6 TooLarge",
+            FaultKind::NoMemory => "7 NoMemory",
         }
     }
 }
