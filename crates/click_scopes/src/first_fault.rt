@@ -2,7 +2,6 @@
 
 ghost use Rattle.std.specs.Prelude.{◌≡◌, length, IfOk};
 ghost use Rattle.click_scopes.specs.Elements.{has_name};
-ghost use Rattle.click_scopes.specs.Faults.{fault_number};
 ghost use Rattle.click_scopes.specs.kept.FirstFault as spec;
 ghost use Rattle.click_scopes.specs.kept.FirstFault.{unknown_at, port_at, twice_at, first_in, scope_element_at, AreShort, IsLeast, IsWrongScopeElement, IsWrongFormal};
 
@@ -20,25 +19,12 @@ pub struct TokenFault {
     pub span: Span,
 }
 
-/// The number that operators see.
-fn number(kind: WrongUse) -> u8
-    ensures { result ≡ fault_number kind }
-{
-    match kind {
-        WrongUse::UnknownName => 11,
-        WrongUse::DeclaredTwice => 12,
-        WrongUse::UnknownClass => 13,
-        WrongUse::WrongParameters => 14,
-        WrongUse::CompoundPort => 15,
-    }
-}
-
 /// One comes before another: by its place, then by its number.
 fn comes_before(a: TokenFault, b: TokenFault) -> bool
     ensures { result ≡ spec.comes_before a b }
 {
     if a.span.start == b.span.start {
-        number(a.kind) < number(b.kind)
+        a.kind.number() < b.kind.number()
     } else {
         a.span.start < b.span.start
     }
