@@ -100,14 +100,6 @@ pub record IsFlat (c : Config) (f : Flat) : Type 0 where
   pub texts : All (λ (l : PrimitiveElement). is_whole l.text ≡ true) primitive_elements
   pub elements : f.elements ≡ map flat_element primitive_elements
 
--- the fault that a wrong use is
-abbrev pub kind_of : WrongUse → FaultKind
-kind_of wrong_use.UnknownName = kind.UnknownName
-kind_of wrong_use.DeclaredTwice = kind.DeclaredTwice
-kind_of wrong_use.UnknownClass = kind.UnknownClass
-kind_of wrong_use.WrongParameters = kind.WrongParameters
-kind_of wrong_use.CompoundPort = kind.CompoundPort
-
 abbrev pub expand_fault : FaultKind → Option Span → List ℕ → ExpandFault
 expand_fault k s name = record { kind = k; span = s; name = name }
 
@@ -122,12 +114,12 @@ pub data Exceeds (c : Config) (primitive_elements : List PrimitiveElement) (path
 -- The first fault: a wrong use of a name, class, parameter or port; else a limit that is passed; else the first element whose flat name an earlier
 -- one has; else the first text that is no longer one string.
 pub data IsFlatFault (c : Config) : ExpandFault → Type 0 where
-  wrong : (k : WrongUse) (s : Span) → IsFirstWrong c k s → IsFlatFault c (expand_fault (kind_of k) (Some s) [])
+  wrong : (k : WrongUse) (s : Span) → IsFirstWrong c k s → IsFlatFault c (expand_fault (kind.Use k) (Some s) [])
   too_many : (primitive_elements : List PrimitiveElement) (paths : ℕ) → IsFaultless c → PrimitiveElementsOf c primitive_elements paths → Exceeds c primitive_elements paths →
       IsFlatFault c (expand_fault kind.TooMany None [])
   repeated : (primitive_elements front back : List PrimitiveElement) (l : PrimitiveElement) (paths : ℕ) (ks : List Connection) → Meant c primitive_elements paths ks → WithinLimits primitive_elements paths ks →
       primitive_elements ≡ front ++ l ∷ back → AreDistinct (flat_names front) → Contains (flat_names front) (flat_name l.path) →
-      IsFlatFault c (expand_fault kind.DeclaredTwice (Some l.first) [])
+      IsFlatFault c (expand_fault (kind.Use wrong_use.DeclaredTwice) (Some l.first) [])
   broken : (primitive_elements front back : List PrimitiveElement) (l : PrimitiveElement) (paths : ℕ) (ks : List Connection) → Meant c primitive_elements paths ks → WithinLimits primitive_elements paths ks →
       AreDistinct (flat_names primitive_elements) → primitive_elements ≡ front ++ l ∷ back → All (λ (k : PrimitiveElement). is_whole k.text ≡ true) front → is_whole l.text ≡ false →
       IsFlatFault c (expand_fault kind.BrokenText None (flat_name l.path))

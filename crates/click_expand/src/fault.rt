@@ -1,7 +1,7 @@
 //! Why a configuration has no flat form.
 
 ghost use Rattle.std.specs.Prelude.{◌≡◌};
-ghost use Rattle.click_expand.specs.Flat as spec;
+ghost use Rattle.click_expand.specs.FaultText.{kind_text};
 
 use click_base::sequence::Sequence;
 use click_scopes::WrongUse;
@@ -9,44 +9,30 @@ use click_text::syntax::Span;
 use std::fmt;
 use thiserror::Error;
 
-/// What is wrong. The numbers are those that operators see, and it prints as its number and its name.
+/// What is wrong. It prints as its number and its name.
 #[derive(Clone, Copy, Debug, PartialEq, Eq, Error)]
+#[error("{}", self.text())]
 pub enum FaultKind {
-    #[error("7 NoMemory")]
-    NoMemory = 7,
-    /// A bare word names no element and no class.
-    #[error("11 UnknownName")]
-    UnknownName = 11,
-    /// A name has a second declaration in its scope, or two flat elements have one name.
-    #[error("12 DeclaredTwice")]
-    DeclaredTwice = 12,
-    /// A word stands for a class and names none.
-    #[error("13 UnknownClass")]
-    UnknownClass = 13,
-    /// A compound's element has more or fewer arguments than parameters.
-    #[error("14 WrongParameters")]
-    WrongParameters = 14,
-    /// A port that a compound lacks.
-    #[error("15 CompoundPort")]
-    CompoundPort = 15,
+    NoMemory,
+    /// A wrong use of a name, class, parameter or port; a flat name that is declared twice is one.
+    Use(WrongUse),
     /// A limit is passed.
-    #[error("16 TooMany")]
-    TooMany = 16,
+    TooMany,
     /// A text whose parameters are replaced is no longer one configuration string.
-    #[error("17 BrokenText")]
-    BrokenText = 17,
+    BrokenText,
 }
 
-/// The fault that a wrong use is.
-pub(crate) fn kind_of(wrong: WrongUse) -> FaultKind
-    ensures { result ≡ spec.kind_of wrong }
-{
-    match wrong {
-        WrongUse::UnknownName => FaultKind::UnknownName,
-        WrongUse::DeclaredTwice => FaultKind::DeclaredTwice,
-        WrongUse::UnknownClass => FaultKind::UnknownClass,
-        WrongUse::WrongParameters => FaultKind::WrongParameters,
-        WrongUse::CompoundPort => FaultKind::CompoundPort,
+impl FaultKind {
+    /// Its number and its name, as operators see them.
+    pub fn text(self) -> &'static str
+        ensures { result.now ≡ kind_text self }
+    {
+        match self {
+            FaultKind::NoMemory => "7 NoMemory",
+            FaultKind::Use(wrong) => wrong.text(),
+            FaultKind::TooMany => "16 TooMany",
+            FaultKind::BrokenText => "17 BrokenText",
+        }
     }
 }
 

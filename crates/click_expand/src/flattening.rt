@@ -12,7 +12,7 @@ ghost use Rattle.click_expand.specs.kept.Answered.{IsExpandedOr, IsRefused, IsRe
 ghost use Rattle.click_expand.specs.kept.KnownInstances.{KnownInstance, AreInstances};
 
 use crate::connections::wiring::connections_of;
-use crate::fault::{ExpandFault, FaultKind, kind_of};
+use crate::fault::{ExpandFault, FaultKind};
 use crate::final_checks::{first_broken, first_repeated};
 use crate::flat::{Flat, FlatElement};
 use crate::flat_writing::push_name;
@@ -20,7 +20,7 @@ use crate::instances::sizes::{MOST_ELEMENTS, MOST_PATHS, size_of};
 use crate::instances::tree::{Instances, instances_of};
 use crate::texts::elements::elements_of;
 use click_base::sequence::Sequence;
-use click_scopes::{ScopeFault, Scopes, analyze, first_token};
+use click_scopes::{ScopeFault, Scopes, WrongUse, analyze, first_token};
 use click_text::syntax::{Config, Head, Span};
 use std::alloc::{AllocError, Global};
 
@@ -108,7 +108,8 @@ fn refused_of(
 {
     if let Some(place) = first_repeated(alloc, elements)? {
         let token = token_of(config, scopes, instances, place);
-        return Ok(Some(Refusal::At(FaultKind::DeclaredTwice, token)));
+        let kind = FaultKind::Use(WrongUse::DeclaredTwice);
+        return Ok(Some(Refusal::At(kind, token)));
     }
     if let Some(place) = first_broken(alloc, elements)? {
         let mut name = Vec::new(alloc);
@@ -146,7 +147,7 @@ fn refusal_of(fault: ScopeFault) -> Refusal
 {
     match fault {
         ScopeFault::NoMemory => Refusal::NoMemory,
-        ScopeFault::Wrong(wrong) => Refusal::At(kind_of(wrong.kind), wrong.span),
+        ScopeFault::Wrong(wrong) => Refusal::At(FaultKind::Use(wrong.kind), wrong.span),
     }
 }
 

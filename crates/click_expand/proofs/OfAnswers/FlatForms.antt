@@ -10,6 +10,7 @@ use Rattle.click_scopes.specs.Faults.{IsFaultless}
 use Rattle.click_scopes.specs.Analysis.{IsScopeFault}
 use Rattle.click_expand.specs.kept.Answered.{IsExpanded, IsRefused, IsRefusedOf, refusal_for, fault_for}
 use Rattle.click_expand.specs.declared.fault.FaultKind.TheVariants as kind
+use Rattle.click_scopes.specs.declared.fault.WrongUse.TheVariants as wrong_use
 use Rattle.click_expand.specs.declared.flat.Flat.{Flat}
 use Rattle.click_expand.specs.declared.flattening.Refusal.{Refusal}
 use Rattle.click_expand.specs.declared.flattening.Refusal.TheVariants as refused
@@ -73,7 +74,7 @@ refused-by c primitive_elements paths f sound l e refused.TooMany h = absurd h
 refused-by c primitive_elements paths f sound l e (refused.At k s) h =
     let r = h.1 in
     subst (λ j. IsRefused c (refused.At j s)) (sym h.0)
-    (subst (λ t. IsRefused c (refused.At kind.DeclaredTwice t)) (sym r.6)
+    (subst (λ t. IsRefused c (refused.At (kind.Use wrong_use.DeclaredTwice) t)) (sym r.6)
     (repeated primitive_elements r.0 r.1 r.2 paths f.connections (meant c primitive_elements paths f sound l e) e.limits r.3 r.4 r.5))
 refused-by c primitive_elements paths f sound l e (refused.Broken name) h =
     let r = h.1 in

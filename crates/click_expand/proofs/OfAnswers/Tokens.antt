@@ -17,6 +17,7 @@ use Rattle.click_scopes.specs.kept.AllScopes.{AreAllScopes}
 use Rattle.click_expand.specs.kept.KnownInstances.{KnownInstance, scope_elements_at, AreInstances}
 use Rattle.click_expand.specs.kept.Answered.{instance_head, place_head, head_in, IsRefusedOf}
 use Rattle.click_expand.specs.declared.fault.FaultKind.TheVariants as kind
+use Rattle.click_scopes.specs.declared.fault.WrongUse.TheVariants as wrong_use
 use Rattle.click_expand.specs.declared.flat.FlatElement.{FlatElement}
 use Rattle.click_expand.specs.declared.flattening.Refusal.TheVariants as refused
 use Rattle.click_scopes.specs.declared.scope_elements.ScopeElement.{ScopeElement as ScopeElementKept}
@@ -108,7 +109,7 @@ primitive_element-at primitive_elements es i e h t =
     }
 
 pub repeated-in : (primitive_elements : List PrimitiveElement) (es : List FlatElement) (i : ℕ) (t : Span) → es ≡ map flat_element primitive_elements → IsRepeated es i →
-    ((f : PrimitiveElement) → slice_get primitive_elements i ≡ Some f → t ≡ f.first) → IsRefusedOf primitive_elements (Some (refused.At kind.DeclaredTwice t))
+    ((f : PrimitiveElement) → slice_get primitive_elements i ≡ Some f → t ≡ f.first) → IsRefusedOf primitive_elements (Some (refused.At (kind.Use wrong_use.DeclaredTwice) t))
 repeated-in primitive_elements es i t h r first =
     let a = primitive_element-at primitive_elements es i r.element h r.there in
     let names : flat_names_in (take i es) ≡ flat_names a.front = ap flat_names_in a.before ∙ names-of-primitive_elements a.front in

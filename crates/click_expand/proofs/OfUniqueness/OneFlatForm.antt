@@ -9,12 +9,13 @@ use Rattle.click_text.specs.declared.syntax.Config.{Config}
 use Rattle.click_scopes.specs.Faults.{IsWrong}
 use Rattle.click_expand.specs.Instances.{PrimitiveElement, PrimitiveElementsOf}
 use Rattle.click_scopes.specs.kept.Nesting.{IsNested}
-use Rattle.click_expand.specs.Flat.{AreConnections, WithinLimits, Meant, IsFlat, IsFlatFault, wrong, too_many, repeated, broken, Exceeds, many_elements, many_paths, much_text, many_connections, flat_name, flat_names, flat_element, is_whole, AreDistinct, kind_of, expand_fault}
+use Rattle.click_expand.specs.Flat.{AreConnections, WithinLimits, Meant, IsFlat, IsFlatFault, wrong, too_many, repeated, broken, Exceeds, many_elements, many_paths, much_text, many_connections, flat_name, flat_names, flat_element, is_whole, AreDistinct, expand_fault}
 use Rattle.click_expand.specs.declared.flat.FlatElement.{FlatElement}
 use Rattle.click_expand.specs.declared.flat.Connection.{Connection}
 use Rattle.click_expand.specs.declared.flat.Flat.{Flat}
 use Rattle.click_scopes.specs.declared.fault.WrongUse.{WrongUse}
 use Rattle.click_expand.specs.declared.fault.FaultKind.TheVariants as kind
+use Rattle.click_scopes.specs.declared.fault.WrongUse.TheVariants as wrong_use
 use Rattle.click_expand.specs.declared.fault.ExpandFault.{ExpandFault}
 use Rattle.click_scopes.proofs.OfFaults.FirstWrongUse.{first-wrong-once}
 use Rattle.click_scopes.proofs.OfBodies.OneBodyPlace.{contains-nil, contains-cons}
@@ -128,7 +129,7 @@ HasTokens c = (k j : WrongUse) (s t : Span) → IsWrong c k s → IsWrong c j t 
 pub fault-once : (c : Config) → IsNested c → HasTokens c → (e d : ExpandFault) → IsFlatFault c e → IsFlatFault c d → e ≡ d
 fault-once c nests tokens e d (wrong k s w) (wrong j t v) =
     let r = first-wrong-once c k j s t w v in
-    ap (λ x. expand_fault (kind_of x) (Some s) []) r.0 ∙ ap (λ x. expand_fault (kind_of j) (Some x) []) (tokens k j s t w.wrong v.wrong r.1)
+    ap (λ x. expand_fault (kind.Use x) (Some s) []) r.0 ∙ ap (λ x. expand_fault (kind.Use j) (Some x) []) (tokens k j s t w.wrong v.wrong r.1)
 fault-once c nests tokens e d (wrong k s w) (too_many l2 n2 sound2 k2 x2) = absurd (sound2 k s w.wrong)
 fault-once c nests tokens e d (wrong k s w) (repeated l2 f2 b2 y2 n2 ks2 m2 w2 s2 d2 i2) = absurd (m2.sound k s w.wrong)
 fault-once c nests tokens e d (wrong k s w) (broken l2 f2 b2 y2 n2 ks2 m2 w2 d2 s2 a2 h2) = absurd (m2.sound k s w.wrong)
@@ -140,7 +141,7 @@ fault-once c nests tokens e d (repeated l f b y n ks m w s g i) (wrong j t v) = 
 fault-once c nests tokens e d (repeated l f b y n ks m w s g i) (too_many l2 n2 sound2 k2 x2) = absurd (within-same c nests l l2 n n2 ks m w k2 x2)
 fault-once c nests tokens e d (repeated l f b y n ks m w s g i) (repeated l2 f2 b2 y2 n2 ks2 m2 w2 s2 d2 i2) =
     let q = (primitive_elements-once c nests l l2 n n2 m.elements m2.elements).0 in
-    ap (λ (x : PrimitiveElement). expand_fault kind.DeclaredTwice (Some x.first) []) (repeated-once l f b f2 b2 y y2 s (q ∙ s2) g i d2 i2)
+    ap (λ (x : PrimitiveElement). expand_fault (kind.Use wrong_use.DeclaredTwice) (Some x.first) []) (repeated-once l f b f2 b2 y y2 s (q ∙ s2) g i d2 i2)
 fault-once c nests tokens e d (repeated l f b y n ks m w s g i) (broken l2 f2 b2 y2 n2 ks2 m2 w2 d2 s2 a2 h2) =
     let q = (primitive_elements-once c nests l l2 n n2 m.elements m2.elements).0 in absurd (primitive_element-twice l f b y s (subst (λ x. AreDistinct (flat_names x)) (sym q) d2) i)
 fault-once c nests tokens e d (broken l f b y n ks m w g s a h) (wrong j t v) = absurd (m.sound j t v.wrong)

@@ -3,8 +3,9 @@ use Rattle.std.specs.Prelude.{◌≡◌, ℕ, List, [], ◌∷◌, ◌++◌, map
 use Rattle.click_text.specs.declared.syntax.Head.{Head}
 use Rattle.click_text.specs.declared.syntax.Config.{Config}
 use Rattle.click_expand.specs.Instances.{PrimitiveElement}
-use Rattle.click_expand.specs.Flat.{WithinLimits, AreConnections, Exceeds, AreDistinct, is_whole, flat_name, flat_names, flat_element, kind_of, expand_fault, no_memory, IsFlatFault}
+use Rattle.click_expand.specs.Flat.{WithinLimits, AreConnections, Exceeds, AreDistinct, is_whole, flat_name, flat_names, flat_element, expand_fault, no_memory, IsFlatFault}
 use Rattle.click_expand.specs.declared.fault.FaultKind.TheVariants as kind
+use Rattle.click_scopes.specs.declared.fault.WrongUse.TheVariants as wrong_use
 use Rattle.click_expand.specs.declared.flat.Flat.{Flat}
 use Rattle.click_expand.specs.declared.fault.ExpandFault.{ExpandFault}
 use Rattle.click_scopes.specs.declared.analysis.ScopeFault.{ScopeFault}
@@ -31,7 +32,7 @@ abbrev pub IsRefusedOf : List PrimitiveElement → Option Refusal → Type 0
 IsRefusedOf primitive_elements None = AreDistinct (flat_names primitive_elements) × All (λ (l : PrimitiveElement). is_whole l.text ≡ true) primitive_elements
 IsRefusedOf primitive_elements (Some refused.NoMemory) = ⊥
 IsRefusedOf primitive_elements (Some (refused.At k s)) =
-    (k ≡ kind.DeclaredTwice) × ((front back : List PrimitiveElement) × (l : PrimitiveElement) × (primitive_elements ≡ front ++ l ∷ back) × AreDistinct (flat_names front)
+    (k ≡ kind.Use wrong_use.DeclaredTwice) × ((front back : List PrimitiveElement) × (l : PrimitiveElement) × (primitive_elements ≡ front ++ l ∷ back) × AreDistinct (flat_names front)
     × Contains (flat_names front) (flat_name l.path) × (s ≡ l.first))
 IsRefusedOf primitive_elements (Some refused.TooMany) = ⊥
 IsRefusedOf primitive_elements (Some (refused.Broken name)) =
@@ -48,7 +49,7 @@ IsRefused c (refused.Broken name) = IsFlatFault c (expand_fault kind.BrokenText 
 -- why what has a wrong use has none
 abbrev pub refusal_for : ScopeFault → Refusal
 refusal_for scope_fault.NoMemory = refused.NoMemory
-refusal_for (scope_fault.Wrong w) = refused.At (kind_of w.kind) w.span
+refusal_for (scope_fault.Wrong w) = refused.At (kind.Use w.kind) w.span
 
 -- the fault that tells it
 abbrev pub fault_for : Refusal → ExpandFault
