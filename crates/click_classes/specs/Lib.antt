@@ -1,6 +1,7 @@
 pub mod Acts
 pub mod ClauseText
 pub mod Entries
+pub mod FaultText
 pub mod Fitting
 pub mod Made
 pub mod Matches
