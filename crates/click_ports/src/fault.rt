@@ -1,28 +1,27 @@
 //! Why a configuration's ports are refused.
 
+ghost use Rattle.std.specs.Prelude.{◌≡◌};
+ghost use Rattle.click_ports.specs.FaultText.{kind_text};
+
 use click_classes::Side;
 use std::alloc::AllocError;
 use std::fmt;
 use thiserror::Error;
 
-/// What is wrong. Its text is its number and its name, as operators see them.
+/// What is wrong. It prints as its number and its name.
 #[derive(Clone, Copy, Debug, PartialEq, Eq, Error)]
+#[error("{}", self.text())]
 pub enum FaultKind {
     /// Memory ran out.
-    #[error("7 NoMemory")]
-    NoMemory = 7,
+    NoMemory,
     /// The element has more or fewer ports than its state allows.
-    #[error("31 Count")]
-    Count = 31,
+    Count,
     /// The port is not connected, and a higher one is.
-    #[error("32 Unused")]
-    Unused = 32,
+    Unused,
     /// A push output or a pull input has more than one connection.
-    #[error("33 Twice")]
-    Twice = 33,
+    Twice,
     /// The port reaches a push port and a pull port.
-    #[error("34 Mixed")]
-    Mixed = 34,
+    Mixed,
 }
 
 /// The first breach of the rules of ports, where it is. Out of memory has no place, and stands at 0. Its text is the
@@ -36,6 +35,21 @@ pub struct PortFault {
     pub side: Side,
     /// The port's number, from 0; for a count, how many ports are used.
     pub number: u16,
+}
+
+impl FaultKind {
+    /// Its number and its name, as operators see them.
+    pub fn text(self) -> &'static str
+        ensures { result.now ≡ kind_text self }
+    {
+        match self {
+            FaultKind::NoMemory => "7 NoMemory",
+            FaultKind::Count => "31 Count",
+            FaultKind::Unused => "32 Unused",
+            FaultKind::Twice => "33 Twice",
+            FaultKind::Mixed => "34 Mixed",
+        }
+    }
 }
 
 impl PortFault {
