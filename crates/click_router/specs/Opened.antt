@@ -81,13 +81,9 @@ fault_nowhere k = record { kind = k; place = place.Nowhere }
 -- a fault of the text itself
 abbrev pub of_text_fault : List ℕ → TextFault → ConfigFault
 of_text_fault text f = elim f.kind [
-  | text_kind.BadByte ↦ fault_at kind.BadByte text f.span
-  | text_kind.UnclosedComment ↦ fault_at kind.UnclosedComment text f.span
-  | text_kind.UnclosedString ↦ fault_at kind.UnclosedString text f.span
-  | text_kind.Unexpected ↦ fault_at kind.Unexpected text f.span
-  | text_kind.TooDeep ↦ fault_at kind.TooDeep text f.span
-  | text_kind.TooLarge ↦ fault_nowhere kind.TooLarge
   | text_kind.NoMemory ↦ fault_nowhere kind.NoMemory
+  | text_kind.TooLarge ↦ fault_nowhere (kind.Text text_kind.TooLarge)
+  | k ↦ fault_at (kind.Text k) text f.span
 ]
 
 -- a fault of names, classes, parameters, ports of compounds, limits, or an element's text
@@ -98,24 +94,15 @@ span_place text (Some s) = place_at text s
 abbrev pub of_expand_fault : List ℕ → ExpandFault → ConfigFault
 of_expand_fault text f = elim f.kind [
   | expand_kind.NoMemory ↦ fault_nowhere kind.NoMemory
-  | expand_kind.UnknownName ↦ record { kind = kind.UnknownName; place = span_place text f.span }
-  | expand_kind.DeclaredTwice ↦ record { kind = kind.DeclaredTwice; place = span_place text f.span }
-  | expand_kind.UnknownClass ↦ record { kind = kind.UnknownClass; place = span_place text f.span }
-  | expand_kind.WrongParameters ↦ record { kind = kind.WrongParameters; place = span_place text f.span }
-  | expand_kind.CompoundPort ↦ record { kind = kind.CompoundPort; place = span_place text f.span }
-  | expand_kind.TooMany ↦ fault_nowhere kind.TooMany
-  | expand_kind.BrokenText ↦ record { kind = kind.BrokenText; place = place.Element f.name }
+  | expand_kind.TooMany ↦ fault_nowhere (kind.Expansion expand_kind.TooMany)
+  | expand_kind.BrokenText ↦ record { kind = kind.Expansion expand_kind.BrokenText; place = place.Element f.name }
+  | k ↦ record { kind = kind.Expansion k; place = span_place text f.span }
 ]
 
 -- a fault of an element's arguments
 abbrev pub argument_kind : ArgFault → FaultKind
 argument_kind arg_kind.NoMemory = kind.NoMemory
-argument_kind arg_kind.ArgumentCount = kind.ArgumentCount
-argument_kind arg_kind.BadNumber = kind.BadNumber
-argument_kind arg_kind.BadText = kind.BadText
-argument_kind arg_kind.OutOfRange = kind.OutOfRange
-argument_kind arg_kind.BadAddress = kind.BadAddress
-argument_kind arg_kind.BadEntry = kind.BadEntry
+argument_kind f = kind.Argument f
 
 abbrev pub of_argument_fault : FlatElement → ArgFault → ConfigFault
 of_argument_fault e f = record { kind = argument_kind f; place = place.Element e.name }
@@ -131,10 +118,8 @@ name_at es i = name_in (slice_get es i)
 abbrev pub of_port_fault : List FlatElement → PortFault → ConfigFault
 of_port_fault es f = elim f.kind [
   | port_kind.NoMemory ↦ fault_nowhere kind.NoMemory
-  | port_kind.Count ↦ record { kind = kind.Count; place = place.Used (name_at es f.element) f.side f.number }
-  | port_kind.Unused ↦ record { kind = kind.Unused; place = place.Port (name_at es f.element) f.side f.number }
-  | port_kind.Twice ↦ record { kind = kind.Twice; place = place.Port (name_at es f.element) f.side f.number }
-  | port_kind.Mixed ↦ record { kind = kind.Mixed; place = place.Port (name_at es f.element) f.side f.number }
+  | port_kind.Count ↦ record { kind = kind.Port port_kind.Count; place = place.Used (name_at es f.element) f.side f.number }
+  | k ↦ record { kind = kind.Port k; place = place.Port (name_at es f.element) f.side f.number }
 ]
 
 -- The first fault of a text: of the text itself, else of its flat form, else of the arguments of the first element whose arguments are refused, else

@@ -4,39 +4,29 @@ ghost use Rattle.std.specs.Prelude.{◌≡◌, ◌++◌, IfOk, OnOk, decimal};
 ghost use Rattle.click_router.specs.FaultText.{kind_text, place_text, ports_text, port_text, fault_text};
 
 use click_base::sequence::Sequence;
+use click_classes::ArgFault;
 pub use click_classes::Side;
+use click_expand::FaultKind as ExpandKind;
+use click_ports::FaultKind as PortKind;
+use click_text::syntax::FaultKind as TextKind;
 use itoa::Buffer;
 use std::alloc::{AllocError, Global};
 use std::fmt;
 use thiserror::Error;
 
-/// What is wrong. The numbers are those that operators see.
+/// What is wrong: memory ran out, or what one of the layers says. It prints as its number and its name.
 #[derive(Clone, Copy, Debug, PartialEq, Eq)]
 pub enum FaultKind {
-    BadByte = 1,
-    UnclosedComment = 2,
-    UnclosedString = 3,
-    Unexpected = 4,
-    TooDeep = 5,
-    TooLarge = 6,
-    NoMemory = 7,
-    UnknownName = 11,
-    DeclaredTwice = 12,
-    UnknownClass = 13,
-    WrongParameters = 14,
-    CompoundPort = 15,
-    TooMany = 16,
-    BrokenText = 17,
-    ArgumentCount = 21,
-    BadNumber = 22,
-    BadText = 23,
-    OutOfRange = 24,
-    BadAddress = 25,
-    BadEntry = 26,
-    Count = 31,
-    Unused = 32,
-    Twice = 33,
-    Mixed = 34,
+    /// Memory ran out, in whichever layer.
+    NoMemory,
+    /// The text is no configuration.
+    Text(TextKind),
+    /// The configuration has no flat form.
+    Expansion(ExpandKind),
+    /// An element's arguments are refused.
+    Argument(ArgFault),
+    /// The rules of ports are broken.
+    Port(PortKind),
 }
 
 /// Where a fault stands.
@@ -76,34 +66,15 @@ pub struct ConfigFault {
 
 impl FaultKind {
     /// Its number and its name.
-    fn text(self) -> &'static str
+    pub fn text(self) -> &'static str
         ensures { result.now ≡ kind_text self }
     {
         match self {
-            FaultKind::BadByte => "1 BadByte",
-            FaultKind::UnclosedComment => "2 UnclosedComment",
-            FaultKind::UnclosedString => "3 UnclosedString",
-            FaultKind::Unexpected => "4 Unexpected",
-            FaultKind::TooDeep => "5 TooDeep",
-            FaultKind::TooLarge => "6 TooLarge",
-            FaultKind::NoMemory => "7 NoMemory",
-            FaultKind::UnknownName => "11 UnknownName",
-            FaultKind::DeclaredTwice => "12 DeclaredTwice",
-            FaultKind::UnknownClass => "13 UnknownClass",
-            FaultKind::WrongParameters => "14 WrongParameters",
-            FaultKind::CompoundPort => "15 CompoundPort",
-            FaultKind::TooMany => "16 TooMany",
-            FaultKind::BrokenText => "17 BrokenText",
-            FaultKind::ArgumentCount => "21 ArgumentCount",
-            FaultKind::BadNumber => "22 BadNumber",
-            FaultKind::BadText => "23 BadText",
-            FaultKind::OutOfRange => "24 OutOfRange",
-            FaultKind::BadAddress => "25 BadAddress",
-            FaultKind::BadEntry => "26 BadEntry",
-            FaultKind::Count => "31 Count",
-            FaultKind::Unused => "32 Unused",
-            FaultKind::Twice => "33 Twice",
-            FaultKind::Mixed => "34 Mixed",
+            FaultKind::NoMemory => TextKind::NoMemory.text(),
+            FaultKind::Text(kind) => kind.text(),
+            FaultKind::Expansion(kind) => kind.text(),
+            FaultKind::Argument(fault) => fault.text(),
+            FaultKind::Port(kind) => kind.text(),
         }
     }
 }

@@ -94,13 +94,9 @@ fn of_text_fault(text: &[u8], fault: TextFault) -> ConfigFault
     ensures { result ≡ spec.of_text_fault text.now fault }
 {
     match fault.kind {
-        TextKind::BadByte => at(FaultKind::BadByte, text, fault.span),
-        TextKind::UnclosedComment => at(FaultKind::UnclosedComment, text, fault.span),
-        TextKind::UnclosedString => at(FaultKind::UnclosedString, text, fault.span),
-        TextKind::Unexpected => at(FaultKind::Unexpected, text, fault.span),
-        TextKind::TooDeep => at(FaultKind::TooDeep, text, fault.span),
-        TextKind::TooLarge => fault_nowhere(FaultKind::TooLarge),
         TextKind::NoMemory => fault_nowhere(FaultKind::NoMemory),
+        TextKind::TooLarge => fault_nowhere(FaultKind::Text(TextKind::TooLarge)),
+        kind => at(FaultKind::Text(kind), text, fault.span),
     }
 }
 
@@ -123,24 +119,17 @@ fn of_expand_fault(text: &[u8], fault: ExpandFault) -> ConfigFault
     requires { length text.now ≤ longest_text }
     ensures { result ≡ spec.of_expand_fault text.now fault }
 {
-    let kind = match fault.kind {
-        ExpandKind::NoMemory => return fault_nowhere(FaultKind::NoMemory),
-        ExpandKind::TooMany => return fault_nowhere(FaultKind::TooMany),
-        ExpandKind::BrokenText => {
-            return ConfigFault {
-                kind: FaultKind::BrokenText,
-                place: FaultPlace::Element { name: fault.name },
-            };
-        }
-        ExpandKind::UnknownName => FaultKind::UnknownName,
-        ExpandKind::DeclaredTwice => FaultKind::DeclaredTwice,
-        ExpandKind::UnknownClass => FaultKind::UnknownClass,
-        ExpandKind::WrongParameters => FaultKind::WrongParameters,
-        ExpandKind::CompoundPort => FaultKind::CompoundPort,
-    };
-    ConfigFault {
-        kind,
-        place: span_place(text, fault.span),
+    match fault.kind {
+        ExpandKind::NoMemory => fault_nowhere(FaultKind::NoMemory),
+        ExpandKind::TooMany => fault_nowhere(FaultKind::Expansion(ExpandKind::TooMany)),
+        ExpandKind::BrokenText => ConfigFault {
+            kind: FaultKind::Expansion(ExpandKind::BrokenText),
+            place: FaultPlace::Element { name: fault.name },
+        },
+        kind => ConfigFault {
+            kind: FaultKind::Expansion(kind),
+            place: span_place(text, fault.span),
+        },
     }
 }
 
@@ -178,21 +167,18 @@ fn of_port_fault(
 ) -> Result<ConfigFault, AllocError>
     ensures { IfOk result (λ f. f ≡ spec.of_port_fault elements.now fault) }
 {
-    let kind = match fault.kind {
-        PortKind::NoMemory => return Ok(fault_nowhere(FaultKind::NoMemory)),
-        PortKind::Count => return of_port_count(alloc, elements, fault),
-        PortKind::Unused => FaultKind::Unused,
-        PortKind::Twice => FaultKind::Twice,
-        PortKind::Mixed => FaultKind::Mixed,
-    };
-    Ok(ConfigFault {
-        kind,
-        place: FaultPlace::Port {
-            name: name_at(alloc, elements, fault.element)?,
-            side: fault.side,
-            port: fault.number,
-        },
-    })
+    match fault.kind {
+        PortKind::NoMemory => Ok(fault_nowhere(FaultKind::NoMemory)),
+        PortKind::Count => of_port_count(alloc, elements, fault),
+        kind => Ok(ConfigFault {
+            kind: FaultKind::Port(kind),
+            place: FaultPlace::Port {
+                name: name_at(alloc, elements, fault.element)?,
+                side: fault.side,
+                port: fault.number,
+            },
+        }),
+    }
 }
 
 /// A fault of the number of ports that an element has on a side.
@@ -201,10 +187,10 @@ fn of_port_count(
     elements: &[FlatElement],
     fault: PortFault,
 ) -> Result<ConfigFault, AllocError>
-    ensures { IfOk result (λ f. f ≡ record { kind = FaultKind.Count; place = FaultPlace.Used (spec.name_at elements.now fault.element) fault.side fault.number }) }
+    ensures { IfOk result (λ f. f ≡ record { kind = FaultKind.Port PortKind.Count; place = FaultPlace.Used (spec.name_at elements.now fault.element) fault.side fault.number }) }
 {
     Ok(ConfigFault {
-        kind: FaultKind::Count,
+        kind: FaultKind::Port(PortKind::Count),
         place: FaultPlace::Used {
             name: name_at(alloc, elements, fault.element)?,
             side: fault.side,
@@ -213,18 +199,13 @@ fn of_port_count(
     })
 }
 
-/// The number of a fault of arguments.
+/// The kind of a fault of arguments.
 fn argument_kind(fault: ArgFault) -> FaultKind
     ensures { result ≡ spec.argument_kind fault }
 {
     match fault {
         ArgFault::NoMemory => FaultKind::NoMemory,
-        ArgFault::ArgumentCount => FaultKind::ArgumentCount,
-        ArgFault::BadNumber => FaultKind::BadNumber,
-        ArgFault::BadText => FaultKind::BadText,
-        ArgFault::OutOfRange => FaultKind::OutOfRange,
-        ArgFault::BadAddress => FaultKind::BadAddress,
-        ArgFault::BadEntry => FaultKind::BadEntry,
+        fault => FaultKind::Argument(fault),
     }
 }
 
@@ -323,11 +304,11 @@ pub fn prepare(alloc: Global, text: &[u8]) -> Result<Prepared, ConfigFault>
     // Which fault it is.
     ensures err { IfErr result (λ fault. IsMemoryOr fault (IsFirstFault text.now fault)) }
     // A text over the limit is refused for just that, also where memory would run out.
-    ensures large { longest_text < length text.now → result ≡ Err (spec.fault_nowhere FaultKind.TooLarge) }
+    ensures large { longest_text < length text.now → result ≡ Err (spec.fault_nowhere (FaultKind.Text TextKind.TooLarge)) }
 {
     // Places are counted only in a text that may be read.
     if text.len() > LONGEST_TEXT {
-        return Err(fault_nowhere(FaultKind::TooLarge));
+        return Err(fault_nowhere(FaultKind::Text(TextKind::TooLarge)));
     }
     match parse(alloc, text) {
         Ok(config) => prepare_config(alloc, config),
