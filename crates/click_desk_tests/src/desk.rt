@@ -3,7 +3,7 @@
 use crate::drivers::drivers_of;
 use click_desk::{Desk, OpenFault};
 use click_handlers::{Table, TakesTable, with_table};
-use click_router::{FaultKind, Handlers};
+use click_router::Handlers;
 use std::alloc::Global;
 use std::sync::Wait;
 use std::test::Fail;
@@ -69,7 +69,7 @@ const CASES: [Case; 10] = [
         seats: 2,
         letters: b"abcdefghijklmnop",
         views: 0,
-        why: "13",
+        why: "13 UnknownClass",
     },
     Case {
         text: SWITCH,
@@ -90,11 +90,11 @@ const CASES: [Case; 10] = [
         seats: 2,
         letters: b"a",
         views: 16,
-        why: "13",
+        why: "13 UnknownClass",
     },
 ];
 
-/// The text of a fault, and for a configuration's the number of that.
+/// The text of a fault, and for a configuration's the number and the name of that.
 fn why(fault: &OpenFault) -> &'static str {
     match fault {
         OpenFault::SeatCount => "a desk has 1 to 256 seats",
@@ -102,8 +102,7 @@ fn why(fault: &OpenFault) -> &'static str {
         OpenFault::InletCount => "a desk has at most 16 inlets",
         OpenFault::ViewCount => "a desk is opened with at most 16 views",
         OpenFault::NoView => "no view",
-        OpenFault::Config(fault) if fault.kind == FaultKind::UnknownClass => "13",
-        OpenFault::Config(_) => "another fault of a text",
+        OpenFault::Config(fault) => fault.kind.text(),
         OpenFault::NoMemory => "out of memory",
     }
 }

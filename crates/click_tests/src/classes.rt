@@ -395,11 +395,14 @@ fn read_row(line: &str) -> Option<Row<'_>> {
     })
 }
 
-/// The number of a fault, or 0.
-fn number(answer: Result<State, ArgFault>) -> u8 {
+/// The number with which a fault's text begins, or 0 where there is no fault.
+fn number(answer: Result<State, ArgFault>) -> Option<u8> {
     match answer {
-        Ok(_) => 0,
-        Err(fault) => fault as u8,
+        Ok(_) => Some(0),
+        Err(fault) => {
+            let (number, _name) = fault.text().split_once(' ')?;
+            number.parse().ok()
+        }
     }
 }
 
@@ -408,7 +411,7 @@ fn make_rows(rt: &impl Abort, alloc: Global, table: &str) {
     for line in table.lines() {
         let row = read_row(line).expect(rt, "a row");
         let answer = make(alloc, row.class, row.text);
-        assert_eq!(rt; number(answer), row.fault, "{line}");
+        assert_eq!(rt; number(answer), Some(row.fault), "{line}");
     }
 }
 
