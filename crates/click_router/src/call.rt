@@ -1,6 +1,6 @@
 //! What a router is asked, and what it answers.
 
-ghost use Rattle.std.specs.Prelude.{◌≡◌, false};
+ghost use Rattle.std.specs.Prelude.{◌≡◌, false, IfOk};
 ghost use Rattle.click_router.specs.One.{refusal_of, refusal_holds};
 
 use crate::fault::ConfigFault;
@@ -8,6 +8,7 @@ use crate::globals::is_hotconfig;
 use click_base::sequence::Sequence;
 use click_handlers::HandlerFault;
 use click_packet::{Packet, StoredPacket};
+use std::alloc::{AllocError, Global};
 use thiserror::Error;
 
 /// One call of a router.
@@ -53,8 +54,21 @@ pub enum Call {
     },
 }
 
+fn packets_of(
+    alloc: Global,
+    packets: &Sequence<StoredPacket>,
+) -> Result<Sequence<StoredPacket>, AllocError>
+    ensures { IfOk result (λ copy. copy ≡ packets.now) }
+{
+    let mut copies = Vec::with_capacity(alloc, packets.len())?;
+    for packet in packets.as_slice() {
+        copies.push(packet.copy(alloc)?)?;
+    }
+    Ok(Sequence::of(copies))
+}
+
 impl Call {
-    ghost use Rattle.std.specs.Prelude.{◌≡◌, Some, None, MatchOption};
+    ghost use Rattle.std.specs.Prelude.{◌≡◌, Some, None, IfOk, MatchOption};
     ghost use Rattle.click_router.specs.One.{swap_text};
 
     /// The text that the call asks to take over, if it asks that.
@@ -72,6 +86,43 @@ impl Call {
             }
             _ => None,
         }
+    }
+
+    /// An equal call.
+    pub fn copy(&self, alloc: Global) -> Result<Call, AllocError>
+        ensures { IfOk result (λ copy. copy ≡ self.now) }
+    {
+        Ok(match self {
+            Call::Read { name, text } => Call::Read {
+                name: name.copy(alloc)?,
+                text: text.copy(alloc)?,
+            },
+            Call::Write { name, text } => Call::Write {
+                name: name.copy(alloc)?,
+                text: text.copy(alloc)?,
+            },
+            Call::CheckRead { name } => Call::CheckRead {
+                name: name.copy(alloc)?,
+            },
+            Call::CheckWrite { name } => Call::CheckWrite {
+                name: name.copy(alloc)?,
+            },
+            Call::Swap { text } => Call::Swap {
+                text: text.copy(alloc)?,
+            },
+            Call::Arrive { device, packet } => Call::Arrive {
+                device: device.copy(alloc)?,
+                packet: packet.copy(alloc)?,
+            },
+            Call::Poll { device, taken } => Call::Poll {
+                device: device.copy(alloc)?,
+                taken: packets_of(alloc, taken)?,
+            },
+            Call::Round => Call::Round,
+            Call::Transmit { device } => Call::Transmit {
+                device: device.copy(alloc)?,
+            },
+        })
     }
 }
 

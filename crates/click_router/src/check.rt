@@ -5,9 +5,8 @@ ghost use Rattle.click_router.specs.One as spec;
 
 use crate::call::Refusal;
 use crate::globals::{has_global, is_hotconfig};
-use crate::running::RunningConfig;
 use crate::stored_reply::{CompactReply, StoredReply};
-use click_base::{Class, split};
+use click_base::Class;
 use click_handlers::{has_read, has_write};
 
 /// Which way a handler is asked.
@@ -74,31 +73,5 @@ pub(crate) fn check_reply(check: Check) -> StoredReply
         Check::NoElement => StoredReply::refused(Refusal::NoElement),
         Check::NoHandler => StoredReply::refused(Refusal::NoHandler),
         Check::WrongWay => StoredReply::refused(Refusal::WrongWay),
-    }
-}
-
-impl RunningConfig {
-    ghost use Rattle.std.specs.Prelude.{◌≡◌};
-    ghost use Rattle.click_router.specs.One as spec;
-
-    /// The class of the element of a name.
-    #[tactic(auto, using(crate::proofs::OfCalls::Listings::class_found))]
-    fn class_named(&self, name: &[u8]) -> Option<Class>
-        ensures { result ≡ spec.class_named (spec.listing_of self.now) name.now }
-    {
-        match self.find(name) {
-            Some((_, element)) => Some(element.state.class()),
-            None => None,
-        }
-    }
-
-    /// Whether a handler can be asked one way.
-    pub(crate) fn check(&self, way: Direction, name: &[u8]) -> Check
-        ensures { result ≡ spec.check (spec.listing_of self.now) way name.now }
-    {
-        match split(name) {
-            Some((element, handler)) => check_element(self.class_named(element), way, handler),
-            None => check_own(way, name),
-        }
     }
 }

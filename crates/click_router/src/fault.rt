@@ -146,6 +146,32 @@ impl FaultPlace {
         }
         Ok(())
     }
+
+    /// An equal place.
+    fn copy(&self, alloc: Global) -> Result<FaultPlace, AllocError>
+        ensures { IfOk result (λ copy. copy ≡ self.now) }
+    {
+        Ok(match self {
+            FaultPlace::Nowhere => FaultPlace::Nowhere,
+            FaultPlace::At { line, column } => FaultPlace::At {
+                line: *line,
+                column: *column,
+            },
+            FaultPlace::Element { name } => FaultPlace::Element {
+                name: name.copy(alloc)?,
+            },
+            FaultPlace::Used { name, side, used } => FaultPlace::Used {
+                name: name.copy(alloc)?,
+                side: *side,
+                used: *used,
+            },
+            FaultPlace::Port { name, side, port } => FaultPlace::Port {
+                name: name.copy(alloc)?,
+                side: *side,
+                port: *port,
+            },
+        })
+    }
 }
 
 /// A name as text; names are words of ASCII.
@@ -177,5 +203,15 @@ impl ConfigFault {
         let mut line = Vec::from_slice(alloc, self.kind.text().as_bytes())?;
         self.place.push_to(&mut line)?;
         Ok(line)
+    }
+
+    /// An equal fault.
+    pub fn copy(&self, alloc: Global) -> Result<ConfigFault, AllocError>
+        ensures { IfOk result (λ copy. copy ≡ self.now) }
+    {
+        Ok(ConfigFault {
+            kind: self.kind,
+            place: self.place.copy(alloc)?,
+        })
     }
 }

@@ -4,21 +4,17 @@ ghost use Rattle.std.specs.Prelude.{◌≡◌, ◌++◌, None, Some, is_some, co
 ghost use Rattle.click_base.specs.Classes.{name};
 ghost use Rattle.click_router.specs.State.{RouterState};
 ghost use Rattle.click_router.specs.Globals.{global_value, is_global, element_list, lines_of};
-ghost use Rattle.click_router.specs.One.{read_global, is_hotconfig};
+ghost use Rattle.click_router.specs.One.{is_hotconfig};
 ghost use Rattle.click_router.specs.kept.GlobalNames.{name_of};
 
-use crate::call::{StepFault, refusal_of};
-use crate::running::RunningConfig;
-use crate::stored_reply::{CompactReply, StoredReply};
-use click_base::sequence::Sequence;
-use click_base::{CLASSES, Class};
-use click_expand::{FlatElement, flat_text};
+use click_base::Class;
+use click_expand::FlatElement;
 use itoa::Buffer;
 use std::alloc::{AllocError, Global};
 
 /// A handler of the router itself.
 #[derive(Clone, Copy)]
-enum GlobalHandler {
+pub(crate) enum GlobalHandler {
     Version,
     List,
     Config,
@@ -29,7 +25,7 @@ enum GlobalHandler {
 
 /// The router's own handler of that name.
 #[tactic(auto, unfolding(crate::specs::Globals::global_value))]
-fn named(name: &[u8]) -> Option<GlobalHandler>
+pub(crate) fn named(name: &[u8]) -> Option<GlobalHandler>
     ensures known { is_some result ≡ is_global name.now }
     ensures handler { MatchOption result ((s : RouterState) → global_value s name.now ≡ None) (λ handler. name.now ≡ name_of handler) }
 {
@@ -78,7 +74,7 @@ fn push_line(text: &mut Vec<u8>, line: &[u8]) -> Result<(), AllocError>
 }
 
 /// A number in decimal digits.
-fn number_text(alloc: Global, number: u64) -> Result<Vec<u8>, AllocError>
+pub(crate) fn number_text(alloc: Global, number: u64) -> Result<Vec<u8>, AllocError>
     ensures { IfOk result (λ text. text.items ≡ decimal number) }
 {
     let mut digits = Buffer::new();
@@ -86,7 +82,7 @@ fn number_text(alloc: Global, number: u64) -> Result<Vec<u8>, AllocError>
 }
 
 /// How many elements there are, and their names.
-fn list_text(alloc: Global, elements: &[FlatElement]) -> Result<Vec<u8>, AllocError>
+pub(crate) fn list_text(alloc: Global, elements: &[FlatElement]) -> Result<Vec<u8>, AllocError>
     ensures { IfOk result (λ text. text.items ≡ element_list elements.now) }
 {
     let mut digits = Buffer::new();
@@ -99,7 +95,7 @@ fn list_text(alloc: Global, elements: &[FlatElement]) -> Result<Vec<u8>, AllocEr
 }
 
 /// The names of classes.
-fn classes_text(alloc: Global, classes: &[Class]) -> Result<Vec<u8>, AllocError>
+pub(crate) fn classes_text(alloc: Global, classes: &[Class]) -> Result<Vec<u8>, AllocError>
     ensures { IfOk result (λ text. text.items ≡ lines_of name classes.now) }
 {
     let mut text = Vec::new(alloc);
@@ -107,39 +103,4 @@ fn classes_text(alloc: Global, classes: &[Class]) -> Result<Vec<u8>, AllocError>
         push_line(&mut text, class.name())?;
     }
     Ok(text)
-}
-
-impl RunningConfig {
-    ghost use Rattle.std.specs.Prelude.{◌≡◌, Some, IfOk};
-    ghost use Rattle.click_router.specs.Globals.{global_value};
-    ghost use Rattle.click_router.specs.One.{read_global};
-    ghost use Rattle.click_router.specs.kept.GlobalNames.{name_of};
-
-    /// What a handler of the router itself answers.
-    #[tactic(auto, unfolding(crate::specs::Globals::global_value))]
-    fn global_value(&self, alloc: Global, handler: GlobalHandler) -> Result<Vec<u8>, AllocError>
-        ensures { IfOk result (λ value. global_value self.now (name_of handler) ≡ Some value.items) }
-    {
-        match handler {
-            GlobalHandler::Version => Vec::from_slice(alloc, b"1"),
-            GlobalHandler::List => list_text(alloc, self.flat.elements.as_slice()),
-            GlobalHandler::Config => Vec::from_slice(alloc, self.text.as_slice()),
-            GlobalHandler::FlatConfig => flat_text(alloc, &self.flat),
-            GlobalHandler::Classes => classes_text(alloc, &CLASSES),
-            GlobalHandler::Overruns => number_text(alloc, self.plant.overruns()),
-        }
-    }
-
-    /// Reads a handler of the router itself.
-    pub(crate) fn read_global(&self, alloc: Global, name: &[u8]) -> Result<StoredReply, StepFault>
-        ensures { IfOk result (λ reply. reply ≡ read_global name.now (global_value self.now name.now)) }
-    {
-        let Some(handler) = named(name) else {
-            return Ok(StoredReply::refused(refusal_of(is_hotconfig(name))));
-        };
-        match self.global_value(alloc, handler) {
-            Ok(value) => Ok(StoredReply::of(CompactReply::Value(Sequence::of(value)))),
-            Err(_) => Err(StepFault::NoMemory),
-        }
-    }
 }

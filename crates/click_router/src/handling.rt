@@ -39,24 +39,6 @@ pub trait Handlers {
         ensures light { IfOk result (λ reply. holds_memory reply ≡ true → running.new ≡ running.old) };
 }
 
-impl RunningConfig {
-    ghost use Rattle.std.specs.Prelude.{◌≡◌, Ok, Err, None, Some, slice_get, IfOk, IfSome, MatchOption, MatchResult};
-    ghost use Rattle.click_router.specs.One as spec;
-
-    /// The element of a name, with its place.
-    pub(crate) fn find(&self, name: &[u8]) -> Option<(usize, &Element)>
-        ensures found { MatchOption result (spec.found self.now name.now ≡ None) (λ found. spec.found self.now name.now ≡ Some (found.0, found.1.now)) }
-        ensures there { IfSome result (λ found. slice_get self.now.plant.elements found.0 ≡ Some found.1.now) }
-    {
-        let at = self.plant.place(name)?;
-        if at < self.plant.len() {
-            Some((at, self.plant.element(at)))
-        } else {
-            None
-        }
-    }
-}
-
 /// The reply to what a read handler answers.
 fn read_reply(answer: Result<Vec<u8>, HandlerFault>) -> Result<StoredReply, StepFault>
     ensures { (value : Result (List ℕ) HandlerFault) → IsReadAnswer value answer → IfOk result (λ reply. reply ≡ spec.read_reply value) }

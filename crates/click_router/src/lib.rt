@@ -3,18 +3,15 @@
 
 mod call;
 mod check;
-mod copying;
 mod fault;
 mod globals;
 mod handling;
 mod install;
 pub mod laws;
 mod opening;
-mod packets;
 mod router;
 mod running;
 mod stored_reply;
-mod swapping;
 
 pub use call::{Call, Refusal, Reply, StepFault};
 pub use check::{Check, Direction};

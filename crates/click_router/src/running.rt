@@ -1,8 +1,20 @@
-//! What runs.
+//! What runs: a configuration, what is asked of it, the packets that pass it, and the one that takes its place.
 
+ghost use Rattle.std.specs.Prelude.{◌≡◌};
+ghost use Rattle.click_router.specs.One.{arrivals};
+
+use crate::call::{Reply, StepFault, refusal_of};
+use crate::check::{Check, Direction, check_element, check_own};
+use crate::fault::FaultKind;
+use crate::globals::{GlobalHandler, classes_text, is_hotconfig, list_text, named, number_text};
+use crate::opening::{Prepared, prepare};
+use crate::stored_reply::{CompactReply, StoredReply};
 use click_base::sequence::Sequence;
-use click_engine::Plant;
-use click_expand::Flat;
+use click_base::{CLASSES, Class, split};
+use click_engine::{Element, Plant};
+use click_expand::{Flat, flat_text};
+use click_packet::{Packet, PacketRoom, StoredPacket};
+use std::alloc::{AllocError, Global};
 use std::marker::Model;
 
 /// A lawful configuration with the plant of its elements.
@@ -25,9 +37,25 @@ impl Model for RunningConfig {
     ghost invariant = { λ r. r.plant.net.names ≡ names_of r.flat.elements };
 }
 
+/// Packets enter from a device one after another.
+fn enter_all(plant: &mut Plant, device: &[u8], taken: &[StoredPacket])
+    ensures { plant.new ≡ arrivals plant.old device.now taken.now }
+{
+    let mut whole = Packet::empty();
+    for packet in taken {
+        packet.write_to(&mut whole);
+        let _entered = plant.enter(device, &whole);
+    }
+}
+
 impl RunningConfig {
-    ghost use Rattle.std.specs.Prelude.{◌≡◌, ◌↔◌, IsTrue, IsSome};
+    ghost use Rattle.std.specs.Prelude.{◌≡◌, ◌↔◌, ◌∷◌, [], true, None, Some, slice_get, IsTrue, IsSome, IfOk, IfSome, MatchOption, MatchResult};
     ghost use Rattle.click_engine.specs.Rounds.{source_of, sink_of};
+    ghost use Rattle.click_router.specs.Globals.{global_value};
+    ghost use Rattle.click_router.specs.One as spec;
+    ghost use Rattle.click_router.specs.One.{entered, worked, sent, read_global, holds_memory};
+    ghost use Rattle.click_router.specs.Swap.{taken, Swaps};
+    ghost use Rattle.click_router.specs.kept.GlobalNames.{name_of};
 
     /// Its flat form.
     pub(crate) fn flat(&self) -> &Flat
@@ -48,5 +76,162 @@ impl RunningConfig {
         ensures { IsTrue result ↔ IsSome (sink_of self.now.plant device.now) }
     {
         self.plant.has_sink(device)
+    }
+
+    /// The element of a name, with its place.
+    pub(crate) fn find(&self, name: &[u8]) -> Option<(usize, &Element)>
+        ensures found { MatchOption result (spec.found self.now name.now ≡ None) (λ found. spec.found self.now name.now ≡ Some (found.0, found.1.now)) }
+        ensures there { IfSome result (λ found. slice_get self.now.plant.elements found.0 ≡ Some found.1.now) }
+    {
+        let at = self.plant.place(name)?;
+        if at < self.plant.len() {
+            Some((at, self.plant.element(at)))
+        } else {
+            None
+        }
+    }
+
+    /// The class of the element of a name.
+    #[tactic(auto, using(crate::proofs::OfCalls::Listings::class_found))]
+    fn class_named(&self, name: &[u8]) -> Option<Class>
+        ensures { result ≡ spec.class_named (spec.listing_of self.now) name.now }
+    {
+        match self.find(name) {
+            Some((_, element)) => Some(element.state.class()),
+            None => None,
+        }
+    }
+
+    /// Whether a handler can be asked one way.
+    pub(crate) fn check(&self, way: Direction, name: &[u8]) -> Check
+        ensures { result ≡ spec.check (spec.listing_of self.now) way name.now }
+    {
+        match split(name) {
+            Some((element, handler)) => check_element(self.class_named(element), way, handler),
+            None => check_own(way, name),
+        }
+    }
+
+    /// What a handler of the router itself answers.
+    #[tactic(auto, unfolding(crate::specs::Globals::global_value))]
+    fn global_value(&self, alloc: Global, handler: GlobalHandler) -> Result<Vec<u8>, AllocError>
+        ensures { IfOk result (λ value. global_value self.now (name_of handler) ≡ Some value.items) }
+    {
+        match handler {
+            GlobalHandler::Version => Vec::from_slice(alloc, b"1"),
+            GlobalHandler::List => list_text(alloc, self.flat.elements.as_slice()),
+            GlobalHandler::Config => Vec::from_slice(alloc, self.text.as_slice()),
+            GlobalHandler::FlatConfig => flat_text(alloc, &self.flat),
+            GlobalHandler::Classes => classes_text(alloc, &CLASSES),
+            GlobalHandler::Overruns => number_text(alloc, self.plant.overruns()),
+        }
+    }
+
+    /// Reads a handler of the router itself.
+    pub(crate) fn read_global(&self, alloc: Global, name: &[u8]) -> Result<StoredReply, StepFault>
+        ensures { IfOk result (λ reply. reply ≡ read_global name.now (global_value self.now name.now)) }
+    {
+        let Some(handler) = named(name) else {
+            return Ok(StoredReply::refused(refusal_of(is_hotconfig(name))));
+        };
+        match self.global_value(alloc, handler) {
+            Ok(value) => Ok(StoredReply::of(CompactReply::Value(Sequence::of(value)))),
+            Err(_) => Err(StepFault::NoMemory),
+        }
+    }
+
+    /// A packet enters from a device.
+    pub(crate) fn enter(&mut self, device: &[u8], packet: &Packet) -> Reply
+        ensures { entered self.old device.now (packet.now ∷ []) ≡ (self.new, result) }
+    {
+        if self.plant.enter(device, packet) {
+            Reply::Entered(1)
+        } else {
+            Reply::NoDevice
+        }
+    }
+
+    /// A packet at rest enters from a device.
+    pub(crate) fn arrive(&mut self, device: &[u8], packet: &StoredPacket) -> StoredReply
+        ensures { entered self.old device.now (packet.now ∷ []) ≡ (self.new, result) }
+    {
+        let mut whole = Packet::empty();
+        packet.write_to(&mut whole);
+        if self.plant.enter(device, &whole) {
+            StoredReply::of(CompactReply::Entered(1))
+        } else {
+            StoredReply::of(CompactReply::NoDevice)
+        }
+    }
+
+    /// Packets enter from a device one after another.
+    pub(crate) fn poll(&mut self, device: &[u8], taken: &[StoredPacket]) -> StoredReply
+        ensures { entered self.old device.now taken.now ≡ (self.new, result) }
+    {
+        if !self.plant.has_source(device) {
+            return StoredReply::of(CompactReply::NoDevice);
+        }
+        enter_all(&mut self.plant, device, taken);
+        StoredReply::of(CompactReply::Entered(taken.len() as u64))
+    }
+
+    /// Each task runs once. How many packets they gave or pulled.
+    pub(crate) fn round(&mut self) -> u64
+        ensures { worked self.old ≡ (self.new, Reply.Worked result) }
+    {
+        self.plant.round()
+    }
+
+    /// A device takes a packet, which stays as it came.
+    pub(crate) fn transmit(&mut self, device: &[u8]) -> Reply
+        ensures { sent self.old device.now ≡ (self.new, result) }
+    {
+        if !self.plant.has_sink(device) {
+            return Reply::NoDevice;
+        }
+        Reply::Sent(self.plant.pull(device))
+    }
+
+    /// A device takes a packet, which is kept in this room.
+    pub(crate) fn transmit_stored(&mut self, device: &[u8], room: PacketRoom) -> StoredReply
+        ensures { sent self.old device.now ≡ (self.new, result) }
+    {
+        if !self.plant.has_sink(device) {
+            return StoredReply::of(CompactReply::NoDevice);
+        }
+        match self.plant.pull_with(device, |packet| room.keep(packet)) {
+            Some(kept) => StoredReply::of(CompactReply::Sent(kept)),
+            None => StoredReply::of(CompactReply::SentNone),
+        }
+    }
+
+    /// What was prepared takes the place of what runs. It takes no memory.
+    pub(crate) fn install(&mut self, prepared: Prepared)
+        ensures { self.new ≡ taken prepared self.old }
+    {
+        let Prepared { running } = prepared;
+        let mut next = Box::into_inner(running);
+        next.plant.take_over(&mut self.plant);
+        *self = next;
+    }
+
+    /// The configuration of a text takes the place of this one, or is refused. All its memory is taken before the running plant is touched; where memory runs out nothing has changed.
+    pub(crate) fn swap(&mut self, alloc: Global, text: &[u8]) -> Result<StoredReply, StepFault>
+        ensures swaps { MatchResult result (λ reply. Swaps self.old text.now self.new reply) (λ _. self.new ≡ self.old) }
+        ensures light { IfOk result (λ reply. holds_memory reply ≡ true → self.new ≡ self.old) }
+    {
+        match prepare(alloc, text) {
+            Ok(prepared) => {
+                self.install(prepared);
+                Ok(StoredReply::of(CompactReply::Done))
+            }
+            Err(fault) => match fault.kind {
+                FaultKind::NoMemory => Err(StepFault::NoMemory),
+                _ => match StoredReply::faulty(alloc, fault) {
+                    Ok(reply) => Ok(reply),
+                    Err(_) => Err(StepFault::NoMemory),
+                },
+            },
+        }
     }
 }

@@ -1,6 +1,6 @@
 use Rattle.std.proofs.Common.{◌≡◌, drop}
 use Rattle.click_router.specs.One.{arrivals}
-use Rattle.click_router.proofs.packets.enter_all.Given as goal
+use Rattle.click_router.proofs.running.enter_all.Given as goal
 
 -- the packets from here on are still to enter, into the plant as it is
 abbrev pub invariant-loop-packet : goal.invariant-loop-packet

@@ -2,7 +2,7 @@ use Rattle.std.proofs.Common.{◌≡◌, ◌+◌, ◌∷◌, drop, sym, ap, ◌�
 use Rattle.std.proofs.lemmas.List.{drop_more}
 use Rattle.click_engine.specs.Rounds.{arrive}
 use Rattle.click_router.specs.One.{arrivals}
-use Rattle.click_router.proofs.packets.enter_all.Goals as goal
+use Rattle.click_router.proofs.running.enter_all.Goals as goal
 
 pub loop-packet-preserved : goal.loop-packet-preserved
 loop-packet-preserved c =

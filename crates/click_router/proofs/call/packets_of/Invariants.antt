@@ -1,5 +1,5 @@
 use Rattle.std.proofs.Common.{◌≡◌, take}
-use Rattle.click_router.proofs.copying.packets_of.Given as goal
+use Rattle.click_router.proofs.call.packets_of.Given as goal
 
 abbrev pub invariant-loop-packet : goal.invariant-loop-packet
 invariant-loop-packet l = l.copies.items ≡ take l.packet-index l.packets
