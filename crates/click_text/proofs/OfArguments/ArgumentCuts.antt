@@ -131,26 +131,14 @@ cutting_none text = record {
 comma_solid : (k : ItemKind) (p : List ℕ) → is_comma k ≡ true → is_blank_item (item k p) ≡ false
 comma_solid kind.White p h = cc
 comma_solid kind.Comment p h = cc
-comma_solid kind.Double p h = refl
-comma_solid kind.Single p h = refl
-comma_solid kind.Hexadecimal p h = refl
-comma_solid (kind.Byte b) p h = refl
+comma_solid _ p h = refl
 
 -- a comma is that byte
 pub comma_form : (k : ItemKind) (p : List ℕ) → is_comma k ≡ true → IsItem k p → p ≡ 44 ∷ []
-comma_form kind.White p h f = cc
-comma_form kind.Comment p h f = cc
-comma_form kind.Double p h f = cc
-comma_form kind.Single p h f = cc
-comma_form kind.Hexadecimal p h f = cc
 comma_form (kind.Byte b) p h (w, e) = rw (e, eqb-true b 44 h) refl
+comma_form _ p h f = cc
 
 pub depth_rises : (k : ItemKind) (depth : ℕ) → parentheses_after k depth ≤ depth + 1
-depth_rises kind.White depth = omega arith
-depth_rises kind.Comment depth = omega arith
-depth_rises kind.Double depth = omega arith
-depth_rises kind.Single depth = omega arith
-depth_rises kind.Hexadecimal depth = omega arith
 depth_rises (kind.Byte b) depth = elim (cases_Bool (eqb b 40)) [
   | inl e ↦ rw e (omega arith)
   | inr e ↦ elim (cases_Bool (eqb b 41)) [
@@ -158,6 +146,7 @@ depth_rises (kind.Byte b) depth = elim (cases_Bool (eqb b 40)) [
     | inr f ↦ rw (e, f) (omega arith)
   ]
 ]
+depth_rises _ depth = omega arith
 
 grown_some : (f : Option Span) (a b : ℕ) → grown_to f a b ≡ None → ⊥
 grown_some None a b h = cc

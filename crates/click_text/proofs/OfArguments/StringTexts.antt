@@ -40,15 +40,7 @@ closed_outside m d (b ∷ c ∷ p) h = elim (cases_Bool (closes_outermost m d b)
 
 plain_is : (m : Mode) → is_plain m ≡ true → m ≡ mode.Plain
 plain_is mode.Plain h = refl
-plain_is mode.Slash h = cc
-plain_is mode.Backslash h = cc
-plain_is mode.Double h = cc
-plain_is mode.Escape h = cc
-plain_is mode.Single h = cc
-plain_is mode.Angle h = cc
-plain_is mode.Line h = cc
-plain_is mode.Block h = cc
-plain_is mode.Star h = cc
+plain_is _ h = cc
 
 -- after what leads out of a quote nothing is open
 left_plain : (m : Mode) (r : List ℕ) → ends_quote m r ≡ true → modes m r ≡ mode.Plain
@@ -94,21 +86,13 @@ inside mode.Angle = true
 inside _ = false
 
 inside_out : (m : Mode) → inside m ≡ true → is_outside m ≡ false
-inside_out mode.Plain h = cc
-inside_out mode.Slash h = cc
-inside_out mode.Backslash h = cc
 inside_out mode.Double h = refl
 inside_out mode.Escape h = refl
 inside_out mode.Single h = refl
 inside_out mode.Angle h = refl
-inside_out mode.Line h = cc
-inside_out mode.Block h = cc
-inside_out mode.Star h = cc
+inside_out _ h = cc
 
 inside_after : (m : Mode) (b : ℕ) → inside m ≡ true → is_plain (mode_after m b) ≡ false → inside (mode_after m b) ≡ true
-inside_after mode.Plain b h g = cc
-inside_after mode.Slash b h g = cc
-inside_after mode.Backslash b h g = cc
 inside_after mode.Double b h g = elim (cases_Bool (eqb b 34)) [
   | inl e ↦ let f = rw e at g in absurd (false≢true (sym f))
   | inr e ↦ elim (cases_Bool (eqb b 92)) [ inl f ↦ rw (e, f) refl | inr f ↦ rw (e, f) refl ]
@@ -122,9 +106,7 @@ inside_after mode.Angle b h g = elim (cases_Bool (eqb b 62)) [
   | inl e ↦ let f = rw e at g in absurd (false≢true (sym f))
   | inr e ↦ rw e refl
 ]
-inside_after mode.Line b h g = cc
-inside_after mode.Block b h g = cc
-inside_after mode.Star b h g = cc
+inside_after _ b h g = cc
 
 never_more : (m : Mode) (b : ℕ) (r : List ℕ) → is_plain (mode_after m b) ≡ false → Never m (b ∷ r) → Never (mode_after m b) r
 never_more m b r e h zero l = refl

@@ -459,24 +459,11 @@ word_ends bs cx s t q = (head.Word s, [], bs, word, headed_ends bs cx _ t q)
 
 pub finish_completes : (s : State) (t : Tree) → finish s ≡ Some t → Completes s [] t
 finish_completes (between bs p ss) t e = ended_completes bs p ss t e
-finish_completes (statement_wanted bs p ss) t e = cc
 finish_completes (first_read bs p ss s) t e = chain_first bs p ss _ t (begun_word bs (start p ss) s [] t (word_ends bs (start p ss) s t e))
-finish_completes (name_wanted bs p ss ns) t e = cc
-finish_completes (name_read bs p ss ns) t e = cc
 finish_completes (listed_read bs p ss ns c) t e = (None, [], [], no_string, at_end, ended_completes bs p _ t e)
-finish_completes (define bs p ss) t e = cc
-finish_completes (define_named bs p ss s) t e = cc
 finish_completes (required bs p ss) t e = (None, [], no_string, ended_completes bs p _ t e)
 finish_completes (ending bs p ss st) t e = ([], at_end, ended_completes bs p _ t e)
-finish_completes (body_opened bs a u) t e = cc
-finish_completes (formal_wanted bs a u fs) t e = cc
-finish_completes (formal_read bs a u fs) t e = cc
-finish_completes (element_wanted bs cx) t e = cc
 finish_completes (word_read bs cx s) t e = word_ends bs cx s t e
-finish_completes (class_wanted bs g) t e = cc
 finish_completes (head_read bs cx h) t e = headed_ends bs cx h t e
 finish_completes (after bs p ss f ls) t e = after_ends bs p ss f ls t e
-finish_completes (port_wanted bs p ss f ls side) t e = cc
-finish_completes (number_wanted bs p ss f ls side a) t e = cc
-finish_completes (close_wanted bs p ss f ls side a n) t e = cc
-finish_completes (arrow_wanted bs p ss f ls q) t e = cc
+finish_completes _ t e = cc

@@ -73,396 +73,119 @@ neither (inr (inr c)) h k = c
 -- an element begins with a word or a brace
 pub begun_by : (bs : List Body) (cx : Context) (tok : Token) → IsWord tok ⊎ IsOpen tok ⊎ (begun bs cx tok ≡ None)
 begun_by bs cx (token.Word x) = inl (x, refl)
-begun_by bs cx (token.Number m x) = inr (inr refl)
-begun_by bs cx (token.Formal x) = inr (inr refl)
-begun_by bs cx (token.String x) = inr (inr refl)
-begun_by bs cx (token.DoubleColon x) = inr (inr refl)
-begun_by bs cx (token.Arrow x) = inr (inr refl)
-begun_by bs cx (token.Semicolon x) = inr (inr refl)
-begun_by bs cx (token.Comma x) = inr (inr refl)
-begun_by bs cx (token.OpenBracket x) = inr (inr refl)
-begun_by bs cx (token.CloseBracket x) = inr (inr refl)
 begun_by bs cx (token.Open x) = inr (inl (x, refl))
-begun_by bs cx (token.Close x) = inr (inr refl)
-begun_by bs cx (token.Bar x) = inr (inr refl)
-begun_by bs cx (token.Elementclass x) = inr (inr refl)
-begun_by bs cx (token.Require x) = inr (inr refl)
+begun_by bs cx _ = inr (inr refl)
 
 -- a class is a word or begins with a brace
 pub classed_by : (bs : List Body) (g : Target) (tok : Token) → IsWord tok ⊎ IsOpen tok ⊎ (classed bs g tok ≡ None)
 classed_by bs g (token.Word x) = inl (x, refl)
-classed_by bs g (token.Number m x) = inr (inr refl)
-classed_by bs g (token.Formal x) = inr (inr refl)
-classed_by bs g (token.String x) = inr (inr refl)
-classed_by bs g (token.DoubleColon x) = inr (inr refl)
-classed_by bs g (token.Arrow x) = inr (inr refl)
-classed_by bs g (token.Semicolon x) = inr (inr refl)
-classed_by bs g (token.Comma x) = inr (inr refl)
-classed_by bs g (token.OpenBracket x) = inr (inr refl)
-classed_by bs g (token.CloseBracket x) = inr (inr refl)
 classed_by bs g (token.Open x) = inr (inl (x, refl))
-classed_by bs g (token.Close x) = inr (inr refl)
-classed_by bs g (token.Bar x) = inr (inr refl)
-classed_by bs g (token.Elementclass x) = inr (inr refl)
-classed_by bs g (token.Require x) = inr (inr refl)
+classed_by bs g _ = inr (inr refl)
 
 -- an arrow
 pub arrowed_by : (bs : List Body) (p : Place) (ss : List Statement) (f : Element) (ls : List Link) (q : Option WrittenPort) (tok : Token) → IsArrow tok ⊎ (arrowed bs p ss f ls q tok ≡ None)
-arrowed_by bs p ss f ls q (token.Word x) = inr refl
-arrowed_by bs p ss f ls q (token.Number m x) = inr refl
-arrowed_by bs p ss f ls q (token.Formal x) = inr refl
-arrowed_by bs p ss f ls q (token.String x) = inr refl
-arrowed_by bs p ss f ls q (token.DoubleColon x) = inr refl
 arrowed_by bs p ss f ls q (token.Arrow x) = inl (x, refl)
-arrowed_by bs p ss f ls q (token.Semicolon x) = inr refl
-arrowed_by bs p ss f ls q (token.Comma x) = inr refl
-arrowed_by bs p ss f ls q (token.OpenBracket x) = inr refl
-arrowed_by bs p ss f ls q (token.CloseBracket x) = inr refl
-arrowed_by bs p ss f ls q (token.Open x) = inr refl
-arrowed_by bs p ss f ls q (token.Close x) = inr refl
-arrowed_by bs p ss f ls q (token.Bar x) = inr refl
-arrowed_by bs p ss f ls q (token.Elementclass x) = inr refl
-arrowed_by bs p ss f ls q (token.Require x) = inr refl
+arrowed_by bs p ss f ls q _ = inr refl
 
 -- a port begins with a bracket
 pub joined_by : (bs : List Body) (p : Place) (ss : List Statement) (f : Element) (ls : List Link) (side : Side) (tok : Token) → IsOpenBracket tok ⊎ (port_begun bs p ss f ls side tok ≡ past_port bs p ss f ls side None tok)
-joined_by bs p ss f ls side (token.Word x) = inr refl
-joined_by bs p ss f ls side (token.Number m x) = inr refl
-joined_by bs p ss f ls side (token.Formal x) = inr refl
-joined_by bs p ss f ls side (token.String x) = inr refl
-joined_by bs p ss f ls side (token.DoubleColon x) = inr refl
-joined_by bs p ss f ls side (token.Arrow x) = inr refl
-joined_by bs p ss f ls side (token.Semicolon x) = inr refl
-joined_by bs p ss f ls side (token.Comma x) = inr refl
 joined_by bs p ss f ls side (token.OpenBracket x) = inl (x, refl)
-joined_by bs p ss f ls side (token.CloseBracket x) = inr refl
-joined_by bs p ss f ls side (token.Open x) = inr refl
-joined_by bs p ss f ls side (token.Close x) = inr refl
-joined_by bs p ss f ls side (token.Bar x) = inr refl
-joined_by bs p ss f ls side (token.Elementclass x) = inr refl
-joined_by bs p ss f ls side (token.Require x) = inr refl
+joined_by bs p ss f ls side _ = inr refl
 
 -- a port's number
 pub numbered_by : (bs : List Body) (p : Place) (ss : List Statement) (f : Element) (ls : List Link) (side : Side) (b : Span) (tok : Token) → IsNumber tok ⊎ (port_numbered bs p ss f ls side b tok ≡ None)
-numbered_by bs p ss f ls side b (token.Word x) = inr refl
 numbered_by bs p ss f ls side b (token.Number (Some m) s) = inl (m, s, refl)
-numbered_by bs p ss f ls side b (token.Number None s) = inr refl
-numbered_by bs p ss f ls side b (token.Formal x) = inr refl
-numbered_by bs p ss f ls side b (token.String x) = inr refl
-numbered_by bs p ss f ls side b (token.DoubleColon x) = inr refl
-numbered_by bs p ss f ls side b (token.Arrow x) = inr refl
-numbered_by bs p ss f ls side b (token.Semicolon x) = inr refl
-numbered_by bs p ss f ls side b (token.Comma x) = inr refl
-numbered_by bs p ss f ls side b (token.OpenBracket x) = inr refl
-numbered_by bs p ss f ls side b (token.CloseBracket x) = inr refl
-numbered_by bs p ss f ls side b (token.Open x) = inr refl
-numbered_by bs p ss f ls side b (token.Close x) = inr refl
-numbered_by bs p ss f ls side b (token.Bar x) = inr refl
-numbered_by bs p ss f ls side b (token.Elementclass x) = inr refl
-numbered_by bs p ss f ls side b (token.Require x) = inr refl
+numbered_by bs p ss f ls side b _ = inr refl
 
 -- a bracket
 pub bracketed_by : (bs : List Body) (p : Place) (ss : List Statement) (f : Element) (ls : List Link) (side : Side) (b : Span) (n : ℕ) (tok : Token) → IsCloseBracket tok ⊎ (bracketed_off bs p ss f ls side b n tok ≡ None)
-bracketed_by bs p ss f ls side b n (token.Word x) = inr refl
-bracketed_by bs p ss f ls side b n (token.Number m x) = inr refl
-bracketed_by bs p ss f ls side b n (token.Formal x) = inr refl
-bracketed_by bs p ss f ls side b n (token.String x) = inr refl
-bracketed_by bs p ss f ls side b n (token.DoubleColon x) = inr refl
-bracketed_by bs p ss f ls side b n (token.Arrow x) = inr refl
-bracketed_by bs p ss f ls side b n (token.Semicolon x) = inr refl
-bracketed_by bs p ss f ls side b n (token.Comma x) = inr refl
-bracketed_by bs p ss f ls side b n (token.OpenBracket x) = inr refl
 bracketed_by bs p ss f ls side b n (token.CloseBracket x) = inl (x, refl)
-bracketed_by bs p ss f ls side b n (token.Open x) = inr refl
-bracketed_by bs p ss f ls side b n (token.Close x) = inr refl
-bracketed_by bs p ss f ls side b n (token.Bar x) = inr refl
-bracketed_by bs p ss f ls side b n (token.Elementclass x) = inr refl
-bracketed_by bs p ss f ls side b n (token.Require x) = inr refl
+bracketed_by bs p ss f ls side b n _ = inr refl
 
 -- after an element its chain ends, or an arrow comes
 pub beyond_by : (bs : List Body) (p : Place) (ss : List Statement) (f : Element) (ls : List Link) (tok : Token) → IsSemicolon tok ⊎ IsClose tok ⊎ (beyond bs p ss f ls tok ≡ port_begun bs p ss f ls out tok)
-beyond_by bs p ss f ls (token.Word x) = inr (inr refl)
-beyond_by bs p ss f ls (token.Number m x) = inr (inr refl)
-beyond_by bs p ss f ls (token.Formal x) = inr (inr refl)
-beyond_by bs p ss f ls (token.String x) = inr (inr refl)
-beyond_by bs p ss f ls (token.DoubleColon x) = inr (inr refl)
-beyond_by bs p ss f ls (token.Arrow x) = inr (inr refl)
 beyond_by bs p ss f ls (token.Semicolon x) = inl (x, refl)
-beyond_by bs p ss f ls (token.Comma x) = inr (inr refl)
-beyond_by bs p ss f ls (token.OpenBracket x) = inr (inr refl)
-beyond_by bs p ss f ls (token.CloseBracket x) = inr (inr refl)
-beyond_by bs p ss f ls (token.Open x) = inr (inr refl)
 beyond_by bs p ss f ls (token.Close x) = inr (inl (x, refl))
-beyond_by bs p ss f ls (token.Bar x) = inr (inr refl)
-beyond_by bs p ss f ls (token.Elementclass x) = inr (inr refl)
-beyond_by bs p ss f ls (token.Require x) = inr (inr refl)
+beyond_by bs p ss f ls _ = inr (inr refl)
 
 -- after a head a string, or what stands after an element
 pub headed_by : (bs : List Body) (cx : Context) (h : Head) (tok : Token) → IsString tok ⊎ (headed bs cx h tok ≡ beyond_element bs cx (element h None) tok)
-headed_by bs cx h (token.Word x) = inr refl
-headed_by bs cx h (token.Number m x) = inr refl
-headed_by bs cx h (token.Formal x) = inr refl
 headed_by bs cx h (token.String x) = inl (x, refl)
-headed_by bs cx h (token.DoubleColon x) = inr refl
-headed_by bs cx h (token.Arrow x) = inr refl
-headed_by bs cx h (token.Semicolon x) = inr refl
-headed_by bs cx h (token.Comma x) = inr refl
-headed_by bs cx h (token.OpenBracket x) = inr refl
-headed_by bs cx h (token.CloseBracket x) = inr refl
-headed_by bs cx h (token.Open x) = inr refl
-headed_by bs cx h (token.Close x) = inr refl
-headed_by bs cx h (token.Bar x) = inr refl
-headed_by bs cx h (token.Elementclass x) = inr refl
-headed_by bs cx h (token.Require x) = inr refl
+headed_by bs cx h _ = inr refl
 
 -- after a word its class, or what stands after a head
 pub worded_by : (bs : List Body) (cx : Context) (s : Span) (tok : Token) → IsDoubleColon tok ⊎ (worded bs cx s tok ≡ headed bs cx (head.Word s) tok)
-worded_by bs cx s (token.Word x) = inr refl
-worded_by bs cx s (token.Number m x) = inr refl
-worded_by bs cx s (token.Formal x) = inr refl
-worded_by bs cx s (token.String x) = inr refl
 worded_by bs cx s (token.DoubleColon x) = inl (x, refl)
-worded_by bs cx s (token.Arrow x) = inr refl
-worded_by bs cx s (token.Semicolon x) = inr refl
-worded_by bs cx s (token.Comma x) = inr refl
-worded_by bs cx s (token.OpenBracket x) = inr refl
-worded_by bs cx s (token.CloseBracket x) = inr refl
-worded_by bs cx s (token.Open x) = inr refl
-worded_by bs cx s (token.Close x) = inr refl
-worded_by bs cx s (token.Bar x) = inr refl
-worded_by bs cx s (token.Elementclass x) = inr refl
-worded_by bs cx s (token.Require x) = inr refl
+worded_by bs cx s _ = inr refl
 
 -- after a statement's first word a further name, or what stands after a word
 pub firsted_by : (bs : List Body) (p : Place) (ss : List Statement) (s : Span) (tok : Token) → IsComma tok ⊎ (firsted bs p ss s tok ≡ worded bs (start p ss) s tok)
-firsted_by bs p ss s (token.Word x) = inr refl
-firsted_by bs p ss s (token.Number m x) = inr refl
-firsted_by bs p ss s (token.Formal x) = inr refl
-firsted_by bs p ss s (token.String x) = inr refl
-firsted_by bs p ss s (token.DoubleColon x) = inr refl
-firsted_by bs p ss s (token.Arrow x) = inr refl
-firsted_by bs p ss s (token.Semicolon x) = inr refl
 firsted_by bs p ss s (token.Comma x) = inl (x, refl)
-firsted_by bs p ss s (token.OpenBracket x) = inr refl
-firsted_by bs p ss s (token.CloseBracket x) = inr refl
-firsted_by bs p ss s (token.Open x) = inr refl
-firsted_by bs p ss s (token.Close x) = inr refl
-firsted_by bs p ss s (token.Bar x) = inr refl
-firsted_by bs p ss s (token.Elementclass x) = inr refl
-firsted_by bs p ss s (token.Require x) = inr refl
+firsted_by bs p ss s _ = inr refl
 
 -- a further name
 pub named_by : (bs : List Body) (p : Place) (ss : List Statement) (ns : List Span) (tok : Token) → IsWord tok ⊎ (named bs p ss ns tok ≡ None)
 named_by bs p ss ns (token.Word x) = inl (x, refl)
-named_by bs p ss ns (token.Number m x) = inr refl
-named_by bs p ss ns (token.Formal x) = inr refl
-named_by bs p ss ns (token.String x) = inr refl
-named_by bs p ss ns (token.DoubleColon x) = inr refl
-named_by bs p ss ns (token.Arrow x) = inr refl
-named_by bs p ss ns (token.Semicolon x) = inr refl
-named_by bs p ss ns (token.Comma x) = inr refl
-named_by bs p ss ns (token.OpenBracket x) = inr refl
-named_by bs p ss ns (token.CloseBracket x) = inr refl
-named_by bs p ss ns (token.Open x) = inr refl
-named_by bs p ss ns (token.Close x) = inr refl
-named_by bs p ss ns (token.Bar x) = inr refl
-named_by bs p ss ns (token.Elementclass x) = inr refl
-named_by bs p ss ns (token.Require x) = inr refl
+named_by bs p ss ns _ = inr refl
 
 -- after names a comma, or their class
 pub names_by : (bs : List Body) (p : Place) (ss : List Statement) (ns : List Span) (tok : Token) → IsComma tok ⊎ IsDoubleColon tok ⊎ (names_on bs p ss ns tok ≡ None)
-names_by bs p ss ns (token.Word x) = inr (inr refl)
-names_by bs p ss ns (token.Number m x) = inr (inr refl)
-names_by bs p ss ns (token.Formal x) = inr (inr refl)
-names_by bs p ss ns (token.String x) = inr (inr refl)
 names_by bs p ss ns (token.DoubleColon x) = inr (inl (x, refl))
-names_by bs p ss ns (token.Arrow x) = inr (inr refl)
-names_by bs p ss ns (token.Semicolon x) = inr (inr refl)
 names_by bs p ss ns (token.Comma x) = inl (x, refl)
-names_by bs p ss ns (token.OpenBracket x) = inr (inr refl)
-names_by bs p ss ns (token.CloseBracket x) = inr (inr refl)
-names_by bs p ss ns (token.Open x) = inr (inr refl)
-names_by bs p ss ns (token.Close x) = inr (inr refl)
-names_by bs p ss ns (token.Bar x) = inr (inr refl)
-names_by bs p ss ns (token.Elementclass x) = inr (inr refl)
-names_by bs p ss ns (token.Require x) = inr (inr refl)
+names_by bs p ss ns _ = inr (inr refl)
 
 -- the end of a statement
 pub over_by : (bs : List Body) (p : Place) (ss : List Statement) (st : Statement) (tok : Token) → IsSemicolon tok ⊎ IsClose tok ⊎ (statement_over bs p ss st tok ≡ None)
-over_by bs p ss st (token.Word x) = inr (inr refl)
-over_by bs p ss st (token.Number m x) = inr (inr refl)
-over_by bs p ss st (token.Formal x) = inr (inr refl)
-over_by bs p ss st (token.String x) = inr (inr refl)
-over_by bs p ss st (token.DoubleColon x) = inr (inr refl)
-over_by bs p ss st (token.Arrow x) = inr (inr refl)
 over_by bs p ss st (token.Semicolon x) = inl (x, refl)
-over_by bs p ss st (token.Comma x) = inr (inr refl)
-over_by bs p ss st (token.OpenBracket x) = inr (inr refl)
-over_by bs p ss st (token.CloseBracket x) = inr (inr refl)
-over_by bs p ss st (token.Open x) = inr (inr refl)
 over_by bs p ss st (token.Close x) = inr (inl (x, refl))
-over_by bs p ss st (token.Bar x) = inr (inr refl)
-over_by bs p ss st (token.Elementclass x) = inr (inr refl)
-over_by bs p ss st (token.Require x) = inr (inr refl)
+over_by bs p ss st _ = inr (inr refl)
 
 -- after the class of names a string, or the end
 pub listed_by : (bs : List Body) (p : Place) (ss : List Statement) (ns : List Span) (c : ClassReference) (tok : Token) → IsString tok ⊎ (class_listed bs p ss ns c tok ≡ statement_over bs p ss (declaration ns c None) tok)
-listed_by bs p ss ns c (token.Word x) = inr refl
-listed_by bs p ss ns c (token.Number m x) = inr refl
-listed_by bs p ss ns c (token.Formal x) = inr refl
 listed_by bs p ss ns c (token.String x) = inl (x, refl)
-listed_by bs p ss ns c (token.DoubleColon x) = inr refl
-listed_by bs p ss ns c (token.Arrow x) = inr refl
-listed_by bs p ss ns c (token.Semicolon x) = inr refl
-listed_by bs p ss ns c (token.Comma x) = inr refl
-listed_by bs p ss ns c (token.OpenBracket x) = inr refl
-listed_by bs p ss ns c (token.CloseBracket x) = inr refl
-listed_by bs p ss ns c (token.Open x) = inr refl
-listed_by bs p ss ns c (token.Close x) = inr refl
-listed_by bs p ss ns c (token.Bar x) = inr refl
-listed_by bs p ss ns c (token.Elementclass x) = inr refl
-listed_by bs p ss ns c (token.Require x) = inr refl
+listed_by bs p ss ns c _ = inr refl
 
 -- the name of a definition
 pub defined_by : (bs : List Body) (p : Place) (ss : List Statement) (tok : Token) → IsWord tok ⊎ (defined bs p ss tok ≡ None)
 defined_by bs p ss (token.Word x) = inl (x, refl)
-defined_by bs p ss (token.Number m x) = inr refl
-defined_by bs p ss (token.Formal x) = inr refl
-defined_by bs p ss (token.String x) = inr refl
-defined_by bs p ss (token.DoubleColon x) = inr refl
-defined_by bs p ss (token.Arrow x) = inr refl
-defined_by bs p ss (token.Semicolon x) = inr refl
-defined_by bs p ss (token.Comma x) = inr refl
-defined_by bs p ss (token.OpenBracket x) = inr refl
-defined_by bs p ss (token.CloseBracket x) = inr refl
-defined_by bs p ss (token.Open x) = inr refl
-defined_by bs p ss (token.Close x) = inr refl
-defined_by bs p ss (token.Bar x) = inr refl
-defined_by bs p ss (token.Elementclass x) = inr refl
-defined_by bs p ss (token.Require x) = inr refl
+defined_by bs p ss _ = inr refl
 
 -- what that name is for
 pub define_on_by : (bs : List Body) (p : Place) (ss : List Statement) (s : Span) (tok : Token) → IsWord tok ⊎ IsOpen tok ⊎ (define_on bs p ss s tok ≡ None)
 define_on_by bs p ss s (token.Word x) = inl (x, refl)
-define_on_by bs p ss s (token.Number m x) = inr (inr refl)
-define_on_by bs p ss s (token.Formal x) = inr (inr refl)
-define_on_by bs p ss s (token.String x) = inr (inr refl)
-define_on_by bs p ss s (token.DoubleColon x) = inr (inr refl)
-define_on_by bs p ss s (token.Arrow x) = inr (inr refl)
-define_on_by bs p ss s (token.Semicolon x) = inr (inr refl)
-define_on_by bs p ss s (token.Comma x) = inr (inr refl)
-define_on_by bs p ss s (token.OpenBracket x) = inr (inr refl)
-define_on_by bs p ss s (token.CloseBracket x) = inr (inr refl)
 define_on_by bs p ss s (token.Open x) = inr (inl (x, refl))
-define_on_by bs p ss s (token.Close x) = inr (inr refl)
-define_on_by bs p ss s (token.Bar x) = inr (inr refl)
-define_on_by bs p ss s (token.Elementclass x) = inr (inr refl)
-define_on_by bs p ss s (token.Require x) = inr (inr refl)
+define_on_by bs p ss s _ = inr (inr refl)
 
 -- a statement begins with a word, a keyword or an element
 pub opening_by : (bs : List Body) (p : Place) (ss : List Statement) (tok : Token) → IsWord tok ⊎ IsElementclass tok ⊎ IsRequire tok ⊎ (opening bs p ss tok ≡ begun bs (start p ss) tok)
 opening_by bs p ss (token.Word x) = inl (x, refl)
-opening_by bs p ss (token.Number m x) = inr (inr (inr refl))
-opening_by bs p ss (token.Formal x) = inr (inr (inr refl))
-opening_by bs p ss (token.String x) = inr (inr (inr refl))
-opening_by bs p ss (token.DoubleColon x) = inr (inr (inr refl))
-opening_by bs p ss (token.Arrow x) = inr (inr (inr refl))
-opening_by bs p ss (token.Semicolon x) = inr (inr (inr refl))
-opening_by bs p ss (token.Comma x) = inr (inr (inr refl))
-opening_by bs p ss (token.OpenBracket x) = inr (inr (inr refl))
-opening_by bs p ss (token.CloseBracket x) = inr (inr (inr refl))
-opening_by bs p ss (token.Open x) = inr (inr (inr refl))
-opening_by bs p ss (token.Close x) = inr (inr (inr refl))
-opening_by bs p ss (token.Bar x) = inr (inr (inr refl))
 opening_by bs p ss (token.Elementclass x) = inr (inl (x, refl))
 opening_by bs p ss (token.Require x) = inr (inr (inl (x, refl)))
+opening_by bs p ss _ = inr (inr (inr refl))
 
 -- a statement is empty, or begins
 pub stated_by : (bs : List Body) (p : Place) (ss : List Statement) (tok : Token) → IsSemicolon tok ⊎ IsClose tok ⊎ (statement_next bs p ss tok ≡ opening bs p ss tok)
-stated_by bs p ss (token.Word x) = inr (inr refl)
-stated_by bs p ss (token.Number m x) = inr (inr refl)
-stated_by bs p ss (token.Formal x) = inr (inr refl)
-stated_by bs p ss (token.String x) = inr (inr refl)
-stated_by bs p ss (token.DoubleColon x) = inr (inr refl)
-stated_by bs p ss (token.Arrow x) = inr (inr refl)
 stated_by bs p ss (token.Semicolon x) = inl (x, refl)
-stated_by bs p ss (token.Comma x) = inr (inr refl)
-stated_by bs p ss (token.OpenBracket x) = inr (inr refl)
-stated_by bs p ss (token.CloseBracket x) = inr (inr refl)
-stated_by bs p ss (token.Open x) = inr (inr refl)
 stated_by bs p ss (token.Close x) = inr (inl (x, refl))
-stated_by bs p ss (token.Bar x) = inr (inr refl)
-stated_by bs p ss (token.Elementclass x) = inr (inr refl)
-stated_by bs p ss (token.Require x) = inr (inr refl)
+stated_by bs p ss _ = inr (inr refl)
 
 -- after `require` its string, or further statements
 pub required_by : (bs : List Body) (p : Place) (ss : List Statement) (tok : Token) → IsString tok ⊎ (required_on bs p ss tok ≡ statement_next bs p (ss ++ a_requirement None ∷ []) tok)
-required_by bs p ss (token.Word x) = inr refl
-required_by bs p ss (token.Number m x) = inr refl
-required_by bs p ss (token.Formal x) = inr refl
 required_by bs p ss (token.String x) = inl (x, refl)
-required_by bs p ss (token.DoubleColon x) = inr refl
-required_by bs p ss (token.Arrow x) = inr refl
-required_by bs p ss (token.Semicolon x) = inr refl
-required_by bs p ss (token.Comma x) = inr refl
-required_by bs p ss (token.OpenBracket x) = inr refl
-required_by bs p ss (token.CloseBracket x) = inr refl
-required_by bs p ss (token.Open x) = inr refl
-required_by bs p ss (token.Close x) = inr refl
-required_by bs p ss (token.Bar x) = inr refl
-required_by bs p ss (token.Elementclass x) = inr refl
-required_by bs p ss (token.Require x) = inr refl
+required_by bs p ss _ = inr refl
 
 -- after an open brace a parameter, or statements
 pub unfolded_by : (bs : List Body) (a : Span) (u : Use) (tok : Token) → IsFormal tok ⊎ (unfolded bs a u tok ≡ statement_next bs (inside a [] u) [] tok)
-unfolded_by bs a u (token.Word x) = inr refl
-unfolded_by bs a u (token.Number m x) = inr refl
 unfolded_by bs a u (token.Formal x) = inl (x, refl)
-unfolded_by bs a u (token.String x) = inr refl
-unfolded_by bs a u (token.DoubleColon x) = inr refl
-unfolded_by bs a u (token.Arrow x) = inr refl
-unfolded_by bs a u (token.Semicolon x) = inr refl
-unfolded_by bs a u (token.Comma x) = inr refl
-unfolded_by bs a u (token.OpenBracket x) = inr refl
-unfolded_by bs a u (token.CloseBracket x) = inr refl
-unfolded_by bs a u (token.Open x) = inr refl
-unfolded_by bs a u (token.Close x) = inr refl
-unfolded_by bs a u (token.Bar x) = inr refl
-unfolded_by bs a u (token.Elementclass x) = inr refl
-unfolded_by bs a u (token.Require x) = inr refl
+unfolded_by bs a u _ = inr refl
 
 -- a further parameter
 pub formal_by : (bs : List Body) (a : Span) (u : Use) (fs : List Span) (tok : Token) → IsFormal tok ⊎ (formal_next bs a u fs tok ≡ None)
-formal_by bs a u fs (token.Word x) = inr refl
-formal_by bs a u fs (token.Number m x) = inr refl
 formal_by bs a u fs (token.Formal x) = inl (x, refl)
-formal_by bs a u fs (token.String x) = inr refl
-formal_by bs a u fs (token.DoubleColon x) = inr refl
-formal_by bs a u fs (token.Arrow x) = inr refl
-formal_by bs a u fs (token.Semicolon x) = inr refl
-formal_by bs a u fs (token.Comma x) = inr refl
-formal_by bs a u fs (token.OpenBracket x) = inr refl
-formal_by bs a u fs (token.CloseBracket x) = inr refl
-formal_by bs a u fs (token.Open x) = inr refl
-formal_by bs a u fs (token.Close x) = inr refl
-formal_by bs a u fs (token.Bar x) = inr refl
-formal_by bs a u fs (token.Elementclass x) = inr refl
-formal_by bs a u fs (token.Require x) = inr refl
+formal_by bs a u fs _ = inr refl
 
 -- after a parameter a comma, or the bar
 pub formal_on_by : (bs : List Body) (a : Span) (u : Use) (fs : List Span) (tok : Token) → IsComma tok ⊎ IsBar tok ⊎ (formal_on bs a u fs tok ≡ None)
-formal_on_by bs a u fs (token.Word x) = inr (inr refl)
-formal_on_by bs a u fs (token.Number m x) = inr (inr refl)
-formal_on_by bs a u fs (token.Formal x) = inr (inr refl)
-formal_on_by bs a u fs (token.String x) = inr (inr refl)
-formal_on_by bs a u fs (token.DoubleColon x) = inr (inr refl)
-formal_on_by bs a u fs (token.Arrow x) = inr (inr refl)
-formal_on_by bs a u fs (token.Semicolon x) = inr (inr refl)
 formal_on_by bs a u fs (token.Comma x) = inl (x, refl)
-formal_on_by bs a u fs (token.OpenBracket x) = inr (inr refl)
-formal_on_by bs a u fs (token.CloseBracket x) = inr (inr refl)
-formal_on_by bs a u fs (token.Open x) = inr (inr refl)
-formal_on_by bs a u fs (token.Close x) = inr (inr refl)
 formal_on_by bs a u fs (token.Bar x) = inr (inl (x, refl))
-formal_on_by bs a u fs (token.Elementclass x) = inr (inr refl)
-formal_on_by bs a u fs (token.Require x) = inr (inr refl)
+formal_on_by bs a u fs _ = inr (inr refl)

@@ -59,24 +59,11 @@ digits_word (b ∷ c ∷ p) h a =
 
 -- each piece that word bytes spell has the form of a word
 pub word_form : (k : Piece) (p : List ℕ) → family k ≡ piece.Word → IsPiece k p → is_word p ≡ true
-word_form piece.Blank p f h = cc
-word_form piece.LineComment p f h = cc
-word_form piece.BlockComment p f h = cc
 word_form piece.Word p f h = h.0
 word_form piece.Number p f h = digits_word p h.0 h.1
 word_form piece.Elementclass p f h = rw h refl
 word_form piece.Require p f h = rw h refl
-word_form piece.Formal p f h = cc
-word_form piece.String p f h = cc
-word_form piece.DoubleColon p f h = cc
-word_form piece.Arrow p f h = cc
-word_form piece.Semicolon p f h = cc
-word_form piece.Comma p f h = cc
-word_form piece.OpenBracket p f h = cc
-word_form piece.CloseBracket p f h = cc
-word_form piece.Open p f h = cc
-word_form piece.Close p f h = cc
-word_form piece.Bar p f h = cc
+word_form _ p f h = cc
 
 pub word_first : (p : List ℕ) → is_word p ≡ true → word_byte (get_or p 0 0) ≡ true
 word_first [] h = absurd (false≢true h)
@@ -93,19 +80,9 @@ begins_append piece.LineComment p q (r, e, a) = rw e refl
 begins_append piece.BlockComment p q (r, e, a) = rw e refl
 begins_append piece.Word p q h = word_begins p q h.0
 begins_append piece.Number p q h = word_begins p q (digits_word p h.0 h.1)
-begins_append piece.Elementclass p q h = rw h refl
-begins_append piece.Require p q h = rw h refl
 begins_append piece.Formal p q (r, e, a) = rw e refl
 begins_append piece.String p q (r, e, a) = rw e refl
-begins_append piece.DoubleColon p q e = rw e refl
-begins_append piece.Arrow p q e = rw e refl
-begins_append piece.Semicolon p q e = rw e refl
-begins_append piece.Comma p q e = rw e refl
-begins_append piece.OpenBracket p q e = rw e refl
-begins_append piece.CloseBracket p q e = rw e refl
-begins_append piece.Open p q e = rw e refl
-begins_append piece.Close p q e = rw e refl
-begins_append piece.Bar p q e = rw e refl
+begins_append _ p q e = rw e refl
 
 -- a text that a piece begins, begins as the piece does
 pub begins_as : (k : Piece) (text : List ℕ) (m : ℕ) → IsPiece k (take m text) → begins text ≡ Some (family k)

@@ -53,15 +53,7 @@ sized piece.BlockComment p z h = absurd (omega arith)
 sized piece.Formal p z h = absurd (omega arith)
 sized piece.String p z h = absurd (omega arith)
 sized piece.Blank p z (b, w, e) = rw e refl
-sized piece.DoubleColon p z e = rw e refl
-sized piece.Arrow p z e = rw e refl
-sized piece.Semicolon p z e = rw e refl
-sized piece.Comma p z e = rw e refl
-sized piece.OpenBracket p z e = rw e refl
-sized piece.CloseBracket p z e = rw e refl
-sized piece.Open p z e = rw e refl
-sized piece.Close p z e = rw e refl
-sized piece.Bar p z e = rw e refl
+sized _ p z e = rw e refl
 
 longest_sized : (text : List ℕ) (k : Piece) (n : ℕ) → begins text ≡ Some k → 0 < n → size_of k ≡ n → n ≤ length text → IsPiece k (take n text) → Longest text k n
 longest_sized text k n b z s l f =
