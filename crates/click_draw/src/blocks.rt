@@ -50,6 +50,15 @@ impl Block {
         midway(self.left, self.right)
     }
 
+    /// The block in a mirror, where left is right.
+    fn mirrored(self) -> Block {
+        Block {
+            left: u64::MAX - self.right,
+            right: u64::MAX - self.left,
+            ..self
+        }
+    }
+
     /// The block with the node in it.
     fn with(self, node: &Node, left: u64, aside: u64) -> Block {
         let right = left.saturating_add(node.width).saturating_add(aside);
@@ -172,26 +181,25 @@ fn push_right(block: &mut Block, taken: &mut [Taken]) {
     }
 }
 
-/// Moves the block to the left of all that is taken in its rows, and takes its own place.
-fn push_left(block: &mut Block, taken: &mut [Taken]) {
-    let mut right = block.right;
-    for row in block.first..=block.last {
-        if let Some(it) = taken.get(row)
-            && it.whole == block.whole
-        {
-            right = it.to.min(right);
+/// The blocks, each of which gives way to the right to those before it in this order that are in the same greater one.
+fn pushed_right(
+    alloc: Global,
+    blocks: &[Option<Block>],
+    names: &[(usize, u64, usize)],
+    rows: usize,
+) -> Result<Vec<Option<Block>>, AllocError> {
+    let none = Taken {
+        whole: usize::MAX,
+        to: 0,
+    };
+    let mut taken = vec![in alloc; none; rows]?;
+    let mut pushed = blocks.to_vec(alloc)?;
+    for (_, _, name) in names {
+        if let Some(Some(block)) = pushed.get_mut(*name) {
+            push_right(block, taken.as_mut_slice());
         }
     }
-    block.left = right.saturating_sub(block.right.saturating_sub(block.left));
-    block.right = right;
-    for row in block.first..=block.last {
-        if let Some(it) = taken.get_mut(row) {
-            *it = Taken {
-                whole: block.whole,
-                to: block.left.saturating_sub(BESIDE),
-            };
-        }
-    }
+    Ok(pushed)
 }
 
 /// Moves the blocks within each greater one so that no two have a place of a row in common; two that hinder one another give way alike.
@@ -204,25 +212,15 @@ pub fn separate_blocks(
     whole: Level,
 ) -> Result<(), AllocError> {
     let blocks = blocks_of(alloc, nodes, lefts, unit, whole)?;
-    let names = names_in_order(alloc, blocks.as_slice())?;
-    let none = Taken {
-        whole: usize::MAX,
-        to: 0,
-    };
-    let mut right = blocks.clone()?;
-    let mut taken = vec![in alloc; none; rows]?;
-    for (_, _, name) in &names {
-        if let Some(Some(block)) = right.get_mut(*name) {
-            push_right(block, taken.as_mut_slice());
-        }
+    let mut names = names_in_order(alloc, blocks.as_slice())?;
+    let right = pushed_right(alloc, blocks.as_slice(), names.as_slice(), rows)?;
+    // To give way to the left is to give way to the right in a mirror, in the other order.
+    let mut mirrored = blocks.clone()?;
+    for block in mirrored.iter_mut() {
+        *block = block.map(Block::mirrored);
     }
-    let mut left = blocks.clone()?;
-    let mut taken = vec![in alloc; none; rows]?;
-    for (_, _, name) in names.iter().rev() {
-        if let Some(Some(block)) = left.get_mut(*name) {
-            push_left(block, taken.as_mut_slice());
-        }
-    }
+    names.reverse();
+    let left = pushed_right(alloc, mirrored.as_slice(), names.as_slice(), rows)?;
     for (node, place) in nodes.iter().zip(lefts.iter_mut()) {
         let name = node.name(unit);
         if let (Some(Some(was)), Some(Some(right)), Some(Some(left))) = (
@@ -230,7 +228,7 @@ pub fn separate_blocks(
             right.get(name),
             left.get(name),
         ) {
-            let moved = midway(right.left, left.left);
+            let moved = midway(right.left, left.mirrored().left);
             *place = place.saturating_add(moved).saturating_sub(was.left);
         }
     }

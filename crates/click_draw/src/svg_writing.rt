@@ -57,6 +57,7 @@ fn push_pair(text: &mut Vec<u8>, x: u64, between: &[u8], y: u64) -> Result<(), A
 }
 
 /// Adds a width and a height as attributes.
+#[tactic(auto, using(std::proofs::Common::append_assoc), unfolding(crate::specs::Svg::size))]
 fn push_size(text: &mut Vec<u8>, width: u64, height: u64) -> Result<(), AllocError>
     ensures { OnOk result (text.new.items ≡ text.old.items ++ spec.size width height) }
 {
@@ -166,6 +167,7 @@ fn push_rim(
 }
 
 /// Adds the mark of an input: a triangle that points into the box.
+#[tactic(auto, using(std::proofs::Common::append_assoc), unfolding(crate::specs::Svg::input_svg))]
 fn push_input(text: &mut Vec<u8>, mark: &Mark) -> Result<(), AllocError>
     ensures { OnOk result (text.new.items ≡ text.old.items ++ spec.input_svg mark.now) }
 {
@@ -242,6 +244,7 @@ fn push_rib(text: &mut Vec<u8>, below: u64, width: u64) -> Result<(), AllocError
 }
 
 /// Adds the ribs of a box so wide.
+#[tactic(auto, using(std::proofs::Common::append_assoc), unfolding(crate::specs::Svg::all_ribs))]
 fn push_all_ribs(text: &mut Vec<u8>, width: u64) -> Result<(), AllocError>
     ensures { OnOk result (text.new.items ≡ text.old.items ++ spec.all_ribs width) }
 {
