@@ -1,9 +1,9 @@
 //! The patterns of a Classifier, made ready for its packets.
 
-ghost use Rattle.std.specs.Prelude.{◌≡◌, ◌≤◌, ◌<◌, ◌+◌, ◌^◌, ◌&&◌, nat_le, length, drop, IfOk, IfSome};
+ghost use Rattle.std.specs.Prelude.{◌≡◌, ◌≤◌, ◌<◌, ◌+◌, ◌^◌, ◌&&◌, ℕ, List, nat_le, length, drop, IfOk, IfSome};
 ghost use Rattle.std.specs.List.{list_all};
 ghost use Rattle.click_classes.specs.Acts.{classified};
-ghost use Rattle.click_classes.specs.kept.Masks.{word, at_place, behind, fits, step_holds, test_holds, tests_hold, first_matching, IsStep, AreSteps, IsTest, AreTests};
+ghost use Rattle.click_classes.specs.kept.Masks.{word, at_place, behind, fits, step_holds, test_holds, tests_hold, first_matching, IsStep, AreSteps, IsTest, AreTests, ArePatternTests};
 
 use crate::values::pattern::{Clause, Pattern};
 use click_base::sequence::Sequence;
@@ -28,24 +28,39 @@ struct Test {
     rest: Sequence<Step>,
 }
 
+/// The tests of a pattern, behind a step without which they do not all hold: most packets are told by it alone.
+#[derive(Drop)]
+struct PatternTests {
+    head: Step,
+    tests: Sequence<Test>,
+}
+
 /// The patterns as written, and the tests of each.
 #[derive(Drop)]
 pub struct Patterns {
     written: Sequence<Pattern>,
-    ready: Sequence<Sequence<Test>>,
+    ready: Sequence<PatternTests>,
 }
+
+/// A step that holds of each packet.
+const ANY: Step = Step {
+    at: 0,
+    end: 0,
+    mask: 0,
+    value: 0,
+};
 
 impl Model for Patterns {
     ghost use Rattle.std.specs.Prelude.{List};
     ghost use Rattle.std.specs.List.{AllZip};
     ghost use Rattle.click_classes.specs.declared.values.pattern.Pattern.{Pattern};
-    ghost use Rattle.click_classes.specs.kept.Masks.{AreTests};
+    ghost use Rattle.click_classes.specs.kept.Masks.{ArePatternTests};
 
     ghost Value = { List Pattern };
 
     ghost view = { λ p. p.written };
 
-    ghost invariant = { λ p. AllZip AreTests p.written p.ready };
+    ghost invariant = { λ p. AllZip ArePatternTests p.written p.ready };
 }
 
 /// The byte at a place of bytes that stand behind `lead` others; 0 where there is none.
@@ -169,6 +184,26 @@ fn tests_of(alloc: Global, pattern: &Pattern) -> Result<Sequence<Test>, AllocErr
     Ok(tests)
 }
 
+/// A step without which tests do not all hold: that of the first of them, unless it is negated.
+fn head_of(tests: &[Test]) -> Step
+    ensures { (bytes : List ℕ) → (step_holds result bytes && tests_hold tests.now bytes) ≡ tests_hold tests.now bytes }
+{
+    if tests.is_empty() {
+        return ANY;
+    }
+    let test = &tests[0];
+    if test.negated { ANY } else { test.first }
+}
+
+/// The tests of a pattern with their step.
+fn pattern_tests(alloc: Global, pattern: &Pattern) -> Result<PatternTests, AllocError>
+    ensures { IfOk result (λ made. ArePatternTests pattern.now made) }
+{
+    let tests = tests_of(alloc, pattern)?;
+    let head = head_of(tests.as_slice());
+    Ok(PatternTests { head, tests })
+}
+
 impl Step {
     /// Whether it holds of a packet that has not eight bytes from its place on.
     #[inline(never)]
@@ -211,8 +246,8 @@ impl Test {
     }
 }
 
-/// Whether all tests hold of a packet's bytes.
-#[inline(always)]
+/// Whether all tests hold of a packet's bytes. It is a call of its own, so that what it needs takes no registers from those who look for a pattern.
+#[inline(never)]
 fn tests_hold(tests: &Sequence<Test>, bytes: &[u8]) -> bool
     ensures { result ≡ tests_hold tests.now bytes.now }
 {
@@ -220,11 +255,11 @@ fn tests_hold(tests: &Sequence<Test>, bytes: &[u8]) -> bool
 }
 
 /// The place of the first pattern whose tests all hold.
-fn first_matching(ready: &[Sequence<Test>], bytes: &[u8]) -> Option<usize>
+fn first_matching(ready: &[PatternTests], bytes: &[u8]) -> Option<usize>
     ensures place { result ≡ first_matching ready.now bytes.now }
     ensures bound { IfSome result (λ place. place < length ready.now) }
 {
-    ready.iter().position(|tests| tests_hold(tests, bytes))
+    ready.iter().position(|pattern| pattern.head.holds(bytes) && tests_hold(&pattern.tests, bytes))
 }
 
 impl Patterns {
@@ -235,7 +270,7 @@ impl Patterns {
         let patterns = written.as_slice();
         let mut ready = Sequence::new(alloc);
         for pattern in patterns {
-            ready.push(tests_of(alloc, pattern)?)?;
+            ready.push(pattern_tests(alloc, pattern)?)?;
         }
         Ok(Patterns { written, ready })
     }

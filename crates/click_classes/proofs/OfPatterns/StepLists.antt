@@ -6,10 +6,11 @@ use Rattle.std.proofs.lemmas.List.{take_all, take_more}
 use Rattle.std.proofs.lemmas.List.Folds.{list_all-append}
 use Rattle.click_classes.specs.declared.patterns.Step.{Step}
 use Rattle.click_classes.specs.declared.patterns.Test.{Test}
+use Rattle.click_classes.specs.declared.patterns.PatternTests.{PatternTests}
 use Rattle.click_classes.specs.declared.values.pattern.Clause.{Clause}
 use Rattle.click_classes.specs.declared.values.pattern.Pattern.{Pattern}
 use Rattle.click_classes.specs.Matches.{agrees, holds, matches}
-use Rattle.click_classes.specs.kept.Masks.{IsBytes, step_holds, test_holds, tests_hold, first_matching, IsStep, AreSteps, IsTest, AreTests}
+use Rattle.click_classes.specs.kept.Masks.{IsBytes, step_holds, test_holds, tests_hold, pattern_holds, first_matching, IsStep, AreSteps, IsTest, AreTests, ArePatternTests}
 use Rattle.click_classes.proofs.OfPatterns.MaskedBytes.{agrees-cut, agrees-nothing}
 
 drop-none : {X : Type 0} (j : ℕ) → drop {A = X} j [] ≡ []
@@ -109,29 +110,29 @@ tests_end p all tests e so_far = record {
 }
 
 -- as many tests fail at first as patterns do
-same_prefix : (ps : List Pattern) (ready : List (List Test)) (bytes : List ℕ) (n : ℕ) → IsBytes bytes → AllZip AreTests ps ready
-    → prefix_len (λ ts. not (tests_hold ts bytes)) (take n ready) ≡ prefix_len (λ q. not (matches q bytes)) (take n ps)
+same_prefix : (ps : List Pattern) (ready : List PatternTests) (bytes : List ℕ) (n : ℕ) → IsBytes bytes → AllZip ArePatternTests ps ready
+    → prefix_len (λ t. not (pattern_holds t bytes)) (take n ready) ≡ prefix_len (λ q. not (matches q bytes)) (take n ps)
 same_prefix ps ready bytes zero b h = refl
 same_prefix [] [] bytes (suc n) b h = refl
-same_prefix [] (ts ∷ ready) bytes (suc n) b h = absurd h
+same_prefix [] (t ∷ ready) bytes (suc n) b h = absurd h
 same_prefix (p ∷ ps) [] bytes (suc n) b h = absurd h
-same_prefix (p ∷ ps) (ts ∷ ready) bytes (suc n) b h =
-    let one : AreTests p ts = h.0 in
-    rw (one.tests_tell bytes b, same_prefix ps ready bytes n b h.1) refl
+same_prefix (p ∷ ps) (t ∷ ready) bytes (suc n) b h =
+    let one : ArePatternTests p t = h.0 in
+    rw (one.pattern_tells bytes b, same_prefix ps ready bytes n b h.1) refl
 
-same_length : (ps : List Pattern) (ready : List (List Test)) (n : ℕ) → AllZip AreTests ps ready → length (take n ready) ≡ length (take n ps)
+same_length : (ps : List Pattern) (ready : List PatternTests) (n : ℕ) → AllZip ArePatternTests ps ready → length (take n ready) ≡ length (take n ps)
 same_length ps ready zero h = refl
 same_length [] [] (suc n) h = refl
-same_length [] (ts ∷ ready) (suc n) h = absurd h
+same_length [] (t ∷ ready) (suc n) h = absurd h
 same_length (p ∷ ps) [] (suc n) h = absurd h
-same_length (p ∷ ps) (ts ∷ ready) (suc n) h = ap suc (same_length ps ready n h.1)
+same_length (p ∷ ps) (t ∷ ready) (suc n) h = ap suc (same_length ps ready n h.1)
 
 -- a place within a length
 abbrev placed : ℕ → ℕ → Option ℕ
 placed at len = cond (nat_lt at len) (Some at) None
 
 -- the first tests that hold are those of the first pattern that matches
-pub first_same : (ps : List Pattern) (ready : List (List Test)) (bytes : List ℕ) (n : ℕ) → IsBytes bytes → AllZip AreTests ps ready
+pub first_same : (ps : List Pattern) (ready : List PatternTests) (bytes : List ℕ) (n : ℕ) → IsBytes bytes → AllZip ArePatternTests ps ready
     → first_matching (take n ready) bytes ≡ position (λ q. matches q bytes) (take n ps)
 first_same ps ready bytes n b h =
     ap (λ at. placed at (length (take n ready))) (same_prefix ps ready bytes n b h)

@@ -5,6 +5,7 @@ use Rattle.click_classes.specs.declared.values.pattern.Clause.{Clause}
 use Rattle.click_classes.specs.declared.values.pattern.Pattern.{Pattern}
 use Rattle.click_classes.specs.declared.patterns.Step.{Step}
 use Rattle.click_classes.specs.declared.patterns.Test.{Test}
+use Rattle.click_classes.specs.declared.patterns.PatternTests.{PatternTests}
 use Rattle.click_classes.specs.Matches.{agrees, holds, matches}
 
 abbrev pub IsBytes : List ℕ → Type 0
@@ -49,6 +50,13 @@ pub record IsTest (c : Clause) (t : Test) : Type 0 where
 pub record AreTests (p : Pattern) (ts : List Test) : Type 0 where
   pub tests_tell : (bytes : List ℕ) → IsBytes bytes → tests_hold ts bytes ≡ matches p bytes
 
+-- the tests with the step before them
+abbrev pub pattern_holds : PatternTests → List ℕ → Bool
+pattern_holds t bytes = step_holds t.head bytes && tests_hold t.tests bytes
+
+pub record ArePatternTests (p : Pattern) (t : PatternTests) : Type 0 where
+  pub pattern_tells : (bytes : List ℕ) → IsBytes bytes → pattern_holds t bytes ≡ matches p bytes
+
 -- the place of the first pattern whose tests hold
-abbrev pub first_matching : List (List Test) → List ℕ → Option ℕ
-first_matching ready bytes = position (λ ts. tests_hold ts bytes) ready
+abbrev pub first_matching : List PatternTests → List ℕ → Option ℕ
+first_matching ready bytes = position (λ t. pattern_holds t bytes) ready

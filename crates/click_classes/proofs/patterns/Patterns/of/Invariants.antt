@@ -1,7 +1,7 @@
 use Rattle.std.proofs.Common.{take}
 use Rattle.std.specs.List.{AllZip}
-use Rattle.click_classes.specs.kept.Masks.{AreTests}
+use Rattle.click_classes.specs.kept.Masks.{ArePatternTests}
 use Rattle.click_classes.proofs.patterns.Patterns.of.Given as goal
 
 abbrev pub invariant-loop-pattern : goal.invariant-loop-pattern
-invariant-loop-pattern l = AllZip AreTests (take l.pattern-index l.patterns) l.ready
+invariant-loop-pattern l = AllZip ArePatternTests (take l.pattern-index l.patterns) l.ready
