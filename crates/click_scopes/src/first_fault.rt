@@ -1,13 +1,12 @@
 //! Wrong uses of names, classes, parameters and ports: the first in the text.
 
 ghost use Rattle.std.specs.Prelude.{◌≡◌, length, IfOk};
-ghost use Rattle.click_scopes.specs.Elements.{has_name};
 ghost use Rattle.click_scopes.specs.kept.FirstFault as spec;
 ghost use Rattle.click_scopes.specs.kept.FirstFault.{unknown_at, port_at, twice_at, first_in, scope_element_at, AreShort, IsLeast, IsWrongScopeElement, IsWrongFormal};
 
 use crate::classes::ResolvedClass;
 use crate::fault::WrongUse;
-use crate::names::Names;
+use crate::lent_names::LentNames;
 use crate::scope_elements::{ScopeElement, is_port_name};
 use click_text::syntax::{Body, ClassReference, Head, Span};
 use std::alloc::{AllocError, Global};
@@ -116,18 +115,17 @@ pub fn first_token(bodies: &[Body], head: Head) -> Span
     }
 }
 
-/// What is wrong with the name, the class or the declaration of an element after those of these names.
+/// What is wrong with the name, the class or the declaration of an element whose name an earlier one has, or none.
 fn in_scope_element(
     text: &[u8],
     bodies: &[Body],
     in_body: bool,
-    names: &Names,
+    taken: bool,
     scope_element: &ScopeElement,
 ) -> Option<TokenFault>
     requires { AreShort bodies.now }
-    ensures { result ≡ scope_element_at text.now bodies.now in_body (has_name scope_element.now.name.items names.now) scope_element.now }
+    ensures { result ≡ scope_element_at text.now bodies.now in_body taken scope_element.now }
 {
-    let taken = names.has(scope_element.name.as_slice());
     let first = first_token(bodies, scope_element.head);
     let unknown = unknown(scope_element.head, scope_element.text, scope_element.class);
     let twice = named_twice(taken, scope_element.head, scope_element.class, first);
@@ -147,13 +145,13 @@ pub fn in_scope_elements(
     ensures { IfOk result (IsLeast (IsWrongScopeElement text.now bodies.now in_body scope_elements.now (length scope_elements.now))) }
 {
     let mut first = None;
-    let mut names = Names::new(alloc);
+    let mut names = LentNames::with_room(alloc, scope_elements.len())?;
     for scope_element in scope_elements {
+        let taken = names.add(scope_element.name.as_slice())?;
         first = first_of(
             first,
-            in_scope_element(text, bodies, in_body, &names, scope_element),
+            in_scope_element(text, bodies, in_body, taken, scope_element),
         );
-        names.add(alloc, scope_element.name.as_slice())?;
     }
     Ok(first)
 }
@@ -167,11 +165,10 @@ pub fn in_formals(
     ensures { IfOk result (IsLeast (IsWrongFormal text.now formals.now (length formals.now))) }
 {
     let mut first = None;
-    let mut names = Names::new(alloc);
+    let mut names = LentNames::with_room(alloc, formals.len())?;
     for formal in formals {
-        let taken = names.has(formal.of(text));
+        let taken = names.add(formal.of(text))?;
         first = first_of(first, wrong_if(taken, WrongUse::DeclaredTwice, *formal));
-        names.add(alloc, formal.of(text))?;
     }
     Ok(first)
 }

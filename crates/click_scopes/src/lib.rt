@@ -7,6 +7,7 @@ mod compound_arguments;
 mod compound_faults;
 mod fault;
 mod first_fault;
+mod lent_names;
 mod name_faults;
 mod names;
 mod ports;

@@ -10,7 +10,7 @@ ghost use Rattle.click_scopes.specs.kept.Tables.{IsWrittenElement, AreWritten, e
 
 use crate::classes::{ClassEntry, ResolvedClass, class_at};
 use crate::compound_arguments::arguments_of;
-use crate::names::Names;
+use crate::lent_names::LentNames;
 use crate::written_scopes::WrittenElement;
 use click_base::sequence::Sequence;
 use click_text::syntax::{ClassReference, Element, Head, Span};
@@ -58,21 +58,8 @@ pub fn is_port_name(word: &[u8]) -> bool
     word == b"input".as_slice() || word == b"output".as_slice()
 }
 
-/// The names that are declared in a scope.
-fn declared_of(alloc: Global, text: &[u8], written: &[WrittenElement]) -> Result<Names, AllocError>
-    ensures { IfOk result (λ names. (name : List ℕ) → has_name name names ≡ has_name name (names_declared text.now (elements_of written.now))) }
-{
-    let mut names = Names::new(alloc);
-    for one in written {
-        if let Head::Declared(name, _) = one.element.head {
-            names.add(alloc, name.of(text))?;
-        }
-    }
-    Ok(names)
-}
-
 /// What a bare word stands for.
-fn word_role(in_body: bool, declared: &Names, word: &[u8]) -> Role
+fn word_role(in_body: bool, declared: &LentNames, word: &[u8]) -> Role
     ensures { role_kept result ≡ spec.word_role in_body declared.now word.now }
 {
     if in_body && is_port_name(word) {
@@ -86,7 +73,7 @@ fn word_role(in_body: bool, declared: &Names, word: &[u8]) -> Role
 }
 
 /// What an element as written stands for.
-pub(crate) fn role_of(text: &[u8], in_body: bool, declared: &Names, element: Element) -> Role
+pub(crate) fn role_of(text: &[u8], in_body: bool, declared: &LentNames, element: Element) -> Role
     ensures { role_kept result ≡ spec.role text.now in_body declared.now element }
 {
     match (element.head, element.text) {
@@ -101,9 +88,12 @@ fn numbered(alloc: Global, class: &[u8], before: usize) -> Result<Vec<u8>, Alloc
     ensures { IfOk result (λ v. v.items ≡ spec.name_with_number class.now before) }
 {
     let mut buffer = Buffer::new();
-    let mut name = Vec::from_slice(alloc, class)?;
-    name.extend_from_slice(b"@")?;
-    name.extend_from_slice(buffer.format(before + 1).as_bytes())?;
+    let digits = buffer.format(before + 1).as_bytes();
+    let size = class.len().saturating_add(digits.len()).saturating_add(1);
+    let mut name = Vec::with_capacity(alloc, size)?;
+    name.extend_from_slice(class)?;
+    name.push(b'@')?;
+    name.extend_from_slice(digits)?;
     Ok(name)
 }
 
@@ -164,20 +154,20 @@ fn push(
     Ok(())
 }
 
-/// The elements of a scope.
-fn scope_elements_of(
+/// The elements of a scope that declares these names.
+pub(crate) fn scope_elements_of(
     alloc: Global,
     text: &[u8],
     entries: &[ClassEntry],
     in_body: bool,
-    declared: &Names,
+    declared: &LentNames,
     written: &[WrittenElement],
 ) -> Result<Vec<ScopeElement>, AllocError>
     ensures scope_elements { IfOk result (λ ls. (ps : List Placed) → AreWritten text.now entries.now written.now ps → map (scope_element_of text.now) ls.items ≡ scope_elements_from text.now in_body declared.now 0 ps) }
     ensures strings { IfOk result (λ ls. strings_of ls.items ≡ strings_made text.now in_body declared.now (elements_of written.now)) }
     ensures arguments { IfOk result (λ ls. All (HasArguments text.now) ls.items) }
 {
-    let mut scope_elements = Vec::new(alloc);
+    let mut scope_elements = Vec::with_capacity(alloc, written.len())?;
     for one in written {
         if let Role::Makes = role_of(text, in_body, declared, one.element) {
             let scope_element = made(alloc, text, entries, scope_elements.len(), *one)?;
@@ -192,12 +182,12 @@ pub(crate) fn numbers_of(
     alloc: Global,
     text: &[u8],
     in_body: bool,
-    declared: &Names,
+    declared: &LentNames,
     written: &[WrittenElement],
 ) -> Result<Vec<usize>, AllocError>
     ensures { IfOk result (λ ns. ns.items ≡ numbers_from text.now in_body declared.now 0 (elements_of written.now)) }
 {
-    let mut numbers = Vec::new(alloc);
+    let mut numbers = Vec::with_capacity(alloc, written.len())?;
     let mut number = 0;
     for one in written {
         numbers.push(number)?;
@@ -206,21 +196,4 @@ pub(crate) fn numbers_of(
         }
     }
     Ok(numbers)
-}
-
-/// The elements of a scope, whichever names it declares.
-pub(crate) fn scope_elements_in(
-    alloc: Global,
-    text: &[u8],
-    entries: &[ClassEntry],
-    in_body: bool,
-    written: &[WrittenElement],
-) -> Result<Vec<ScopeElement>, AllocError>
-    ensures scope_elements { IfOk result (λ ls. AreScopeElementsOf text.now entries.now in_body written.now ls.items) }
-    ensures strings { IfOk result (λ ls. AreStringsOf text.now in_body written.now ls.items) }
-    ensures arguments { IfOk result (λ ls. All (HasArguments text.now) ls.items) }
-{
-    let declared = declared_of(alloc, text, written)?;
-    let scope_elements = scope_elements_of(alloc, text, entries, in_body, &declared, written)?;
-    Ok(scope_elements)
 }

@@ -9,8 +9,8 @@ ghost use Rattle.click_scopes.specs.kept.Lookups as spec;
 
 use crate::classes::{ClassEntry, ResolvedClass};
 use crate::compound_arguments::string_inside;
-use crate::scope_elements::{ScopeElement, scope_elements_in};
-use crate::written_connections::{WrittenConnection, written_connections_in};
+use crate::scope_elements::{ScopeElement, scope_elements_of};
+use crate::written_connections::{WrittenConnection, declared_in, written_connections_in};
 use crate::written_scopes::{WrittenScope, WrittenScopes};
 use click_base::Class;
 use click_base::sequence::Sequence;
@@ -140,8 +140,9 @@ fn scope_of(
 {
     let text = config.text.as_slice();
     let all = written.written.as_slice();
-    let elements = scope_elements_in(alloc, text, entries, in_body, all)?;
-    let connections = written_connections_in(alloc, config, in_body, all)?;
+    let declared = declared_in(alloc, text, all)?;
+    let elements = scope_elements_of(alloc, text, entries, in_body, &declared.names, all)?;
+    let connections = written_connections_in(alloc, config, in_body, &declared, all)?;
     Ok(Scope {
         elements,
         connections,

@@ -14,7 +14,7 @@ ghost use Rattle.click_scopes.specs.kept.Tables.{elements_of, names_declared};
 ghost use Rattle.click_scopes.specs.kept.FirstFault.{AreShort};
 
 use crate::first_fault::first_token;
-use crate::names::Names;
+use crate::lent_names::LentNames;
 use crate::scope_elements::{Role, numbers_of, role_of};
 use crate::written_scopes::WrittenElement;
 use click_base::sequence::Sequence;
@@ -50,14 +50,14 @@ pub struct WrittenConnection {
 
 /// The names that a scope declares, each once, and the place of the first element as written of each.
 #[derive(Drop)]
-struct Declared {
-    names: Names,
-    firsts: Vec<usize>,
+pub(crate) struct Declared<'a> {
+    pub names: LentNames<'a>,
+    pub firsts: Vec<usize>,
 }
 
-impl Declared {
+impl<'a> Declared<'a> {
     /// Adds the name of the element as written at a place, if it is new. An error leaves the names as they were.
-    fn add(&mut self, alloc: Global, name: &[u8], place: usize) -> Result<(), AllocError>
+    fn add(&mut self, name: &'a [u8], place: usize) -> Result<(), AllocError>
         ensures names { OnOk result (self.new.names ≡ (if has_name name.now self.old.names then self.old.names else self.old.names ++ name.now ∷ [])) }
         ensures firsts { OnOk result (self.new.firsts.items ≡ (if has_name name.now self.old.names then self.old.firsts.items else self.old.firsts.items ++ place ∷ [])) }
         ensures err { OnErr result (self.new.names ≡ self.old.names) }
@@ -65,7 +65,7 @@ impl Declared {
     {
         if !self.names.has(name) {
             self.firsts.push(place)?;
-            if let Err(error) = self.names.add(alloc, name) {
+            if let Err(error) = self.names.add(name) {
                 let _place = self.firsts.pop();
                 return Err(error);
             }
@@ -85,21 +85,20 @@ impl Declared {
 }
 
 /// The names that a scope declares.
-fn declared_in(
+pub(crate) fn declared_in<'a>(
     alloc: Global,
-    text: &[u8],
+    text: &'a [u8],
     written: &[WrittenElement],
-) -> Result<Declared, AllocError>
+) -> Result<Declared<'a>, AllocError>
     ensures first { IfOk result (λ d. AreDeclared text.now (elements_of written.now) d.names d.firsts.items) }
     ensures has { IfOk result (λ d. (name : List ℕ) → has_name name d.names ≡ has_name name (names_declared text.now (elements_of written.now))) }
 {
-    let mut declared = Declared {
-        names: Names::new(alloc),
-        firsts: Vec::new(alloc),
-    };
+    let names = LentNames::with_room(alloc, written.len())?;
+    let firsts = Vec::with_capacity(alloc, written.len())?;
+    let mut declared = Declared { names, firsts };
     for (place, one) in written.iter().enumerate() {
         if let Head::Declared(name, _) = one.element.head {
-            declared.add(alloc, name.of(text), place)?;
+            declared.add(name.of(text), place)?;
         }
     }
     Ok(declared)
@@ -190,7 +189,7 @@ fn ends_at(
     ensures ends { IfOk result (λ ends. (ps : List Placed) → AreNamesKnown config.now.text in_body declared.now.names declared.now.firsts.items numbers.now ps → placed_elements ps ≡ elements_of written.now →
         AreEndsKept (scope_elements_in config.now.text in_body ps) config.now (names_among config.now.text in_body ps) 0 ends.items ps) }
 {
-    let mut ends = Vec::new(alloc);
+    let mut ends = Vec::with_capacity(alloc, written.len())?;
     for (place, one) in written.iter().enumerate() {
         let number = numbers[place];
         ends.push(end_at(config, in_body, declared, numbers, number, one.element))?;
@@ -198,26 +197,28 @@ fn ends_at(
     Ok(ends)
 }
 
-/// The ends at each element of a scope as written.
+/// The ends at each element of a scope as written, which declares these names.
 fn ends_of(
     alloc: Global,
     config: &Config,
     in_body: bool,
+    declared: &Declared,
     written: &[WrittenElement],
 ) -> Result<Vec<End>, AllocError>
     requires { AreShort config.now.bodies }
     ensures as_many { IfOk result (λ ends. length ends.items ≡ length written.now) }
-    ensures ends { IfOk result (λ ends. (ps : List Placed) → placed_elements ps ≡ elements_of written.now →
+    ensures ends { IfOk result (λ ends. AreDeclared config.now.text (elements_of written.now) declared.now.names declared.now.firsts.items →
+        ((name : List ℕ) → has_name name declared.now.names ≡ has_name name (names_declared config.now.text (elements_of written.now))) →
+        (ps : List Placed) → placed_elements ps ≡ elements_of written.now →
         AreEndsKept (scope_elements_in config.now.text in_body ps) config.now (names_among config.now.text in_body ps) 0 ends.items ps) }
 {
     let text = config.text.as_slice();
-    let declared = declared_in(alloc, text, written)?;
     let numbers = numbers_of(alloc, text, in_body, &declared.names, written)?;
     let ends = ends_at(
         alloc,
         config,
         in_body,
-        &declared,
+        declared,
         numbers.as_slice(),
         written,
     )?;
@@ -265,17 +266,20 @@ fn written_connections_between(
     Ok(written_connections)
 }
 
-/// The connections of a scope.
+/// The connections of a scope that declares these names.
 pub(crate) fn written_connections_in(
     alloc: Global,
     config: &Config,
     in_body: bool,
+    declared: &Declared,
     written: &[WrittenElement],
 ) -> Result<Sequence<WrittenConnection>, AllocError>
     requires { AreShort config.now.bodies }
-    ensures { IfOk result (λ written_connections. AreWrittenConnectionsOf config.now in_body written.now written_connections) }
+    ensures { IfOk result (λ written_connections. AreDeclared config.now.text (elements_of written.now) declared.now.names declared.now.firsts.items →
+        ((name : List ℕ) → has_name name declared.now.names ≡ has_name name (names_declared config.now.text (elements_of written.now))) →
+        AreWrittenConnectionsOf config.now in_body written.now written_connections) }
 {
-    let ends = ends_of(alloc, config, in_body, written)?;
+    let ends = ends_of(alloc, config, in_body, declared, written)?;
     let written_connections = written_connections_between(alloc, ends.as_slice(), written)?;
     Ok(written_connections)
 }

@@ -7,9 +7,9 @@ loop-formal-preserved c =
     let text = c.args.text.now in let fs = c.args.formals.now in let i = c.loop-formal.formal-index in
     let v = c.loop-formal.invariant in let ns = c.loop-formal.names in
     record {
-      least = formals-at text fs i _ ns c.loop-formal.first c.first_of-first.result c.wrong_if.result c.of.result.now c.has-taken.result c.loop-formal-test.true c.of.ensures
-          c.has-taken.ensures c.wrong_if.ensures c.first_of-first.ensures v.known v.least;
-      known = formal_names-at text fs i _ ns c.add.new.self c.of-in-loop-formal.result.now c.loop-formal-test.true c.of-in-loop-formal.ensures c.in_ok-add.ensures.added v.known;
+      least = formals-at text fs i _ ns c.loop-formal.first c.first_of-first.result c.wrong_if.result c.of.result.now c.in_ok-taken.taken c.loop-formal-test.true c.of.ensures
+          c.in_ok-taken.ensures.taken c.wrong_if.ensures c.first_of-first.ensures v.known v.least;
+      known = formal_names-at text fs i _ ns c.add.new.self c.of.result.now c.loop-formal-test.true c.of.ensures c.in_ok-taken.ensures.added v.known;
     }
 
 pub returns : goal.returns

@@ -2,7 +2,7 @@ use Rattle.std.proofs.Common.{◌≡◌, ◌+◌, ◌++◌, ◌∷◌, [], Some,
 use Rattle.std.specs.List.{slice_get}
 use Rattle.std.proofs.lemmas.Option.{slice_get_read}
 use Rattle.click_scopes.specs.Elements.{has_name}
-use Rattle.click_scopes.specs.kept.FirstFault.{IsLeast, IsWrongScopeElement, first_of}
+use Rattle.click_scopes.specs.kept.FirstFault.{IsLeast, IsWrongScopeElement, first_of, scope_element_at}
 use Rattle.click_scopes.proofs.OfFaults.LeastWrongUse.{scope_elements-next, scope_elements-all, names-next}
 use Rattle.click_scopes.proofs.first_fault.in_scope_elements.Goals as goal
 
@@ -12,10 +12,10 @@ loop-scope_element-preserved c =
     let v = c.loop-scope_element.invariant in let l = c.scope_element-item.result in let ns = c.loop-scope_element.names in
     let there : slice_get ls i ≡ Some l = slice_get_read ls _ i l refl c.loop-scope_element-test.true c.scope_element-item.is in
     record {
-      least = subst (IsLeast (IsWrongScopeElement text bodies b ls (i + 1))) (sym (c.first_of-first.ensures ∙ ap (first_of c.loop-scope_element.first) c.in_scope_element.ensures))
+      least = subst (IsLeast (IsWrongScopeElement text bodies b ls (i + 1))) (sym (c.first_of-first.ensures ∙ ap (first_of c.loop-scope_element.first) (c.in_scope_element.ensures ∙ ap (λ t. scope_element_at text bodies b t l) (c.in_ok-taken.ensures.taken ∙ ap (λ n. has_name n ns) c.as_slice.ensures.value))))
           (scope_elements-next text bodies b ls i l ns c.loop-scope_element.first there v.known v.least);
       known = names-next text bodies b ls i l l ns c.add.new.self c.loop-scope_element-test.true c.scope_element-item.is
-          (c.in_ok-add.ensures.added ∙ ap (λ n. cond (has_name n ns) ns (ns ++ n ∷ [])) c.as_slice.ensures.value) v.known;
+          (c.in_ok-taken.ensures.added ∙ ap (λ n. cond (has_name n ns) ns (ns ++ n ∷ [])) c.as_slice.ensures.value) v.known;
     }
 
 pub returns : goal.returns

@@ -45,9 +45,9 @@ pub loop-one-init : goal.loop-one-init
 loop-one-init c =
     let text = c.args.text.now in let b = c.args.in_body in let D = c.args.declared.now in
     record {
-      scope_elements = λ ps h. ap (λ x. with_left text b D x ps) (sym c.new-scope_elements.ensures.items);
-      strings = ap (λ x. strings_left text b D x c.args.written.now) (sym c.new-scope_elements.ensures.items);
-      arguments = subst (All (HasArguments text)) (sym c.new-scope_elements.ensures.items) (All-nil (HasArguments text));
+      scope_elements = λ ps h. ap (λ x. with_left text b D x ps) (sym c.in_ok-scope_elements.ensures.items);
+      strings = ap (λ x. strings_left text b D x c.args.written.now) (sym c.in_ok-scope_elements.ensures.items);
+      arguments = subst (All (HasArguments text)) (sym c.in_ok-scope_elements.ensures.items) (All-nil (HasArguments text));
     }
 
 pub returns : goal.returns

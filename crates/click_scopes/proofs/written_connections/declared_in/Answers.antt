@@ -35,8 +35,8 @@ loop-place-preserved c =
 
 pub loop-place-init : goal.loop-place-init
 loop-place-init c = record {
-  firsts = declaring-as c.args.text.now [] [] c.new.result [] c.new-2.result.items (sym c.new.ensures) (sym c.new-2.ensures.items) (declaring-none c.args.text.now);
-  has = λ q. ap (has_name q) c.new.ensures;
+  firsts = declaring-as c.args.text.now [] [] c.in_ok-names.names [] c.in_ok-firsts.firsts.items (sym c.in_ok-names.ensures) (sym c.in_ok-firsts.ensures.items) (declaring-none c.args.text.now);
+  has = λ q. ap (has_name q) c.in_ok-names.ensures;
 }
 
 pub returns-clause-first : goal.returns-clause-first

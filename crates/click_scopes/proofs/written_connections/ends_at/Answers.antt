@@ -6,10 +6,10 @@ use Rattle.click_scopes.proofs.written_connections.ends_at.Goals as goal
 
 pub loop-place-init : goal.loop-place-init
 loop-place-init c = record {
-  count = ap length c.new-ends.ensures.items;
+  count = ap length c.in_ok-ends.ensures.items;
   known = λ ps known same.
       let config = c.args.config.now in let b = c.args.in_body in
-      subst (λ es. AreEndsKept (scope_elements_in config.text b ps) config (names_among config.text b ps) 0 es (take 0 ps)) (sym c.new-ends.ensures.items)
+      subst (λ es. AreEndsKept (scope_elements_in config.text b ps) config (names_among config.text b ps) 0 es (take 0 ps)) (sym c.in_ok-ends.ensures.items)
       (ends-none (scope_elements_in config.text b ps) config (names_among config.text b ps) ps);
 }
 

@@ -7,7 +7,7 @@ pub written_connections_between-requires : goal.written_connections_between-requ
 written_connections_between-requires c = ap length c.as_slice.ensures.value ∙ c.in_ok-ends.ensures.as_many
 
 pub returns : goal.returns
-returns c = λ visible statements same ports.
+returns c = λ declared has visible statements same ports.
     let config = c.args.config.now in let b = c.args.in_body in let ps = placed visible statements in let ls = scope_elements_in config.text b ps in let names = names_among config.text b ps in
     c.in_ok-written_connections.ensures config names ls visible statements
-    (subst (λ es. AreEndsKept ls config names 0 es ps) (sym c.as_slice.ensures.value) (c.in_ok-ends.ensures.ends ps same)) ports
+    (subst (λ es. AreEndsKept ls config names 0 es ps) (sym c.as_slice.ensures.value) (c.in_ok-ends.ensures.ends declared has ps same)) ports

@@ -1,0 +1,58 @@
+//! Names that are lent, in their order, each once.
+
+ghost use Rattle.std.specs.Prelude.{◌≡◌, [], ◌∷◌, ◌++◌, IfOk, OnOk, OnErr, position, if◌then◌else◌};
+ghost use Rattle.std.specs.Str.{bytes_eq};
+ghost use Rattle.click_scopes.specs.Elements.{has_name};
+
+use indexmap::IndexSet;
+use std::alloc::{AllocError, Global};
+use std::marker::Model;
+
+/// Names in order, each once, that are lent and not copied.
+#[derive(Drop)]
+pub(crate) struct LentNames<'a> {
+    set: IndexSet<&'a [u8]>,
+}
+
+impl<'a> Model for LentNames<'a> {
+    ghost use Rattle.std.specs.Prelude.{ℕ, List, map};
+
+    ghost Value = { List (List ℕ) };
+
+    ghost view = { λ n. map (λ v. v.now) n.set.keys };
+}
+
+impl<'a> LentNames<'a> {
+    /// No names, with room for so many.
+    pub(crate) fn with_room(alloc: Global, count: usize) -> Result<LentNames<'a>, AllocError>
+        ensures { IfOk result (λ names. names ≡ []) }
+    {
+        Ok(LentNames {
+            set: IndexSet::with_capacity(alloc, count)?,
+        })
+    }
+
+    /// The name is among these.
+    pub(crate) fn has(&self, name: &[u8]) -> bool
+        ensures { result ≡ has_name name.now self.now }
+    {
+        self.set.contains(name)
+    }
+
+    /// Where the name stands.
+    pub(crate) fn place(&self, name: &[u8]) -> Option<usize>
+        ensures { result ≡ position (bytes_eq name.now) self.now }
+    {
+        self.set.get_index_of(name)
+    }
+
+    /// Adds the name at the end, if it is not there, and tells whether it was. An error leaves the names as they were.
+    pub(crate) fn add(&mut self, name: &'a [u8]) -> Result<bool, AllocError>
+        ensures taken { IfOk result (λ taken. taken ≡ has_name name.now self.old) }
+        ensures added { OnOk result (self.new ≡ (if has_name name.now self.old then self.old else self.old ++ name.now ∷ [])) }
+        ensures err { OnErr result (self.new ≡ self.old) }
+    {
+        let added = self.set.insert(name)?;
+        Ok(!added)
+    }
+}
