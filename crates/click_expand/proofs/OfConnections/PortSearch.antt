@@ -192,19 +192,25 @@ module _ (instances : List Instance) (indices : List ConnectionIndex) where
       let x = sym e ∙ ap (λ (u : Instance). slice_get indices u.scope) (sym p) ∙ h.index_there in cc x
 
   module _ (primitive_element : ℕ) (origin : InstancePort) where
-    -- A search from an origin has gone on from the first of the starts that are seen.
+    -- A search from an origin has gone on from it, and from the first of the starts that are seen.
     pub record Goes (seen : List InstancePort) (old found : List Connection) (at : ℕ) : Type 0 where
       pub leads : (t : InstancePort) → Contains seen t → (i : FlatInput) → Arrives instances indices t i → Arrives instances indices origin i
       pub gains : Gains (IsFrom instances indices primitive_element origin) old found
-      pub begins : Contains seen origin
+      pub begins_on : (u : InstancePort) → StepsTo instances indices origin (next.Start u) → Contains seen u
+      pub begins_ends : (i : FlatInput) → StepsTo instances indices origin (next.PrimitiveElement i) → Contains found (connection primitive_element origin.port.number i)
       pub on : (j : ℕ) (t u : InstancePort) → j < at → slice_get seen j ≡ Some t → StepsTo instances indices t (next.Start u) → Contains seen u
       pub ends : (j : ℕ) (t : InstancePort) (i : FlatInput) → j < at → slice_get seen j ≡ Some t → StepsTo instances indices t (next.PrimitiveElement i) → Contains found (connection primitive_element origin.port.number i)
 
-    pub goes-first : (seen : List InstancePort) (found : List Connection) → seen ≡ insert_key same_start [] origin → Goes seen found found 0
-    goes-first seen found e = record {
-      leads = λ t h i a. subst (λ x. Arrives instances indices x i) (sym (contains-single origin t (subst (λ l. Contains l t) e h))) a;
-      gains = gains-none (IsFrom instances indices primitive_element origin) found;
-      begins = subst (λ l. Contains l origin) (sym e) (0, omega arith, refl);
+    pub goes-first : (none seen : List InstancePort) (old found : List Connection) → none ≡ [] → Visits instances indices origin primitive_element origin.port.number none seen old found → Goes seen old found 0
+    goes-first none seen old found e v = record {
+      leads = λ t h i a. elim (gains-cases (λ u. StepsTo instances indices origin (next.Start u)) none seen v.seen t h) [
+        | inl o ↦ absurd (let l = (subst (λ l. Contains l t) e o).1 in omega (arith, l))
+        | inr o ↦ after_connection origin t i o a
+      ];
+      gains = gains-weaken (IsAtOnce instances indices origin primitive_element origin.port.number) (IsFrom instances indices primitive_element origin) old found
+          (λ k h. record { to = h.0; arrives = at_once origin h.0 h.1; is = h.2 }) v.found;
+      begins_on = v.seen_all;
+      begins_ends = λ i st. v.found_all (connection primitive_element origin.port.number i) (i, st, refl);
       on = λ j t u l. absurd (omega (arith, l));
       ends = λ j t i l. absurd (omega (arith, l));
     }
@@ -236,7 +242,8 @@ module _ (instances : List Instance) (indices : List ConnectionIndex) where
         leads = leads-next;
         gains = gains-trans (IsFrom instances indices primitive_element origin) old f g w.gains
             (gains-weaken (IsAtOnce instances indices s primitive_element origin.port.number) (IsFrom instances indices primitive_element origin) f g from-here v.found);
-        begins = gains-kept (λ u. StepsTo instances indices s (next.Start u)) a b v.seen origin w.begins;
+        begins_on = λ u st. gains-kept (λ u. StepsTo instances indices s (next.Start u)) a b v.seen u (w.begins_on u st);
+        begins_ends = λ i st. gains-kept (IsAtOnce instances indices s primitive_element origin.port.number) f g v.found (connection primitive_element origin.port.number i) (w.begins_ends i st);
         on = λ j t u l h st. elim (earlier j t l h) [
           | inl o ↦ gains-kept (λ u. StepsTo instances indices s (next.Start u)) a b v.seen u (w.on j t u o.0 o.1 st)
           | inr e ↦ v.seen_all u (subst (λ x. StepsTo instances indices x (next.Start u)) e st)
@@ -256,5 +263,9 @@ module _ (instances : List Instance) (indices : List ConnectionIndex) where
           let p = contains-at seen s h in
           let l = slice_get_within seen p.0 s p.1 in arrived t i (w.on p.0 s t (omega (arith, l, done)) p.1 st) r
 
+      from-origin : (i : FlatInput) → Arrives instances indices origin i → Contains found (connection primitive_element origin.port.number i)
+      from-origin i (at_once _ _ st) = w.begins_ends i st
+      from-origin i (after_connection _ t _ st r) = arrived t i (w.begins_on t st) r
+
       pub goes-all : HasAll (IsFrom instances indices primitive_element origin) found
-      goes-all k h = subst (Contains found) (sym h.is) (arrived origin h.to w.begins h.arrives)
+      goes-all k h = subst (Contains found) (sym h.is) (from-origin h.to h.arrives)

@@ -155,7 +155,7 @@ module _ (c : Config) (known : List KnownInstance) where
   read-as r q n out i h =
       (h.0, ap (slice_get known) i.0 ∙ h.1, subst (λ z. IsReplaced c h.0.bindings (h.0.scope ∷ h.0.enclosing) z out) (sym i.1) h.2)
 
-  read-none : (r : UnreadText) (out : List ℕ) → r.rest.now ≡ [] → IsRead c known r out → out ≡ []
+  pub read-none : (r : UnreadText) (out : List ℕ) → r.rest.now ≡ [] → IsRead c known r out → out ≡ []
   unfolding replaced
   read-none r out e h =
       let i = h.2 in

@@ -86,7 +86,7 @@ pub fn index_of(
     ensures { IfOk result (λ x. IsIndex written_connections.now x.ends.entries) }
 {
     let mut index = ConnectionIndex {
-        ends: IndexMap::new(alloc),
+        ends: IndexMap::with_capacity(alloc, written_connections.len())?,
         alike: IndexMap::new(alloc),
     };
     for written_connection in written_connections {

@@ -113,8 +113,11 @@ fn search(
     ensures more { OnOk result (Gains (IsFrom instances.now indices.now from.primitive_element from.start) found.old.keys found.new.keys) }
     ensures all { OnOk result (length found.new.keys ≤ most_connections → HasAll (IsFrom instances.now indices.now from.primitive_element from.start) found.new.keys) }
 {
+    if found.len() > MOST_CONNECTIONS {
+        return Ok(());
+    }
     let mut seen = IndexSet::new(alloc);
-    seen.insert(from.start)?;
+    visit(instances, indices, from.start, from, &mut seen, found)?;
     let mut at = 0;
     while at < seen.len() && found.len() <= MOST_CONNECTIONS {
         let start = seen.as_slice()[at];
@@ -188,16 +191,17 @@ fn search_instance(
     Ok(())
 }
 
-/// The connections, all of them where there are no more than the limit.
+/// The connections, all of them where there are no more than the limit. There is room for so many at first.
 fn search_all(
     alloc: Global,
+    room: usize,
     instances: &[Instance],
     indices: &[ConnectionIndex],
 ) -> Result<IndexSet<Connection>, AllocError>
     ensures sound { IfOk result (λ found. (k : Joined) → Contains found.keys k → Connects instances.now indices.now k) }
     ensures all { IfOk result (λ found. length found.keys ≤ most_connections → HasAll (Connects instances.now indices.now) found.keys) }
 {
-    let mut found = IndexSet::new(alloc);
+    let mut found = IndexSet::with_capacity(alloc, room)?;
     for within in 0..instances.len() {
         search_instance(alloc, instances, indices, within, &mut found)?;
     }
@@ -220,7 +224,14 @@ pub fn connections_of(
         (λ ks. AreConnections config.now primitive_elements ks.items × (length ks.items ≤ most_connections))) }
 {
     let indices = all_indices(alloc, scopes)?;
-    let found = search_all(alloc, instances.instances.as_slice(), indices.as_slice())?;
+    // Mostly one connection leads to each element.
+    let room = instances.primitive_elements.len();
+    let found = search_all(
+        alloc,
+        room,
+        instances.instances.as_slice(),
+        indices.as_slice(),
+    )?;
     let all = in_order(Vec::from_slice(alloc, found.as_slice())?);
     if all.len() > MOST_CONNECTIONS {
         Ok(None)

@@ -37,7 +37,7 @@ pub fn elements_of(
         MatchOption r (most_text < text_size primitive_elements) (λ elements. (elements.items ≡ map flat_element primitive_elements) × (text_size primitive_elements ≤ most_text))) }
 {
     let mut buffer = TextBuffer::new(alloc);
-    let mut elements = Vec::new(alloc);
+    let mut elements = Vec::with_capacity(alloc, instances.primitive_elements.len())?;
     for place in instances.primitive_elements.as_slice() {
         let Some(element) = element_at(
             alloc,

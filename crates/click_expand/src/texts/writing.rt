@@ -142,6 +142,9 @@ pub fn write_text<'a>(
     ensures full { IfOk result (λ fits. fits ≡ false → (places : List Placed) (known : List KnownInstance) (primitive_elements : List Flattened) (whole : List ℕ) → AreInstances config.now instances.now places known primitive_elements →
         IsRead config.now known first.entry whole → buffer.old.room < length whole) }
 {
+    if first.rest.is_empty() {
+        return Ok(true);
+    }
     let mut steps = Vec::new(alloc);
     push_step(&mut steps, TextStep::Read(first))?;
     'steps: while let Some(step) = steps.pop() {

@@ -1,8 +1,12 @@
-use Rattle.std.proofs.Common.{◌≡◌, ◌<◌, ◌++◌, ◌∷◌, [], length, rules, sym, ap, ◌∙◌, subst, arith, length-append}
+use Rattle.std.proofs.Common.{◌≡◌, ◌<◌, ◌++◌, ◌∷◌, [], length, rules, sym, ap, ◌∙◌, subst, arith, length-append, append-nil}
 use Rattle.click_expand.specs.kept.Buffered.{AreSteps, BeginWithin, weight}
 use Rattle.click_expand.specs.declared.texts.writing.TextStep.TheVariants as step
-use Rattle.click_expand.proofs.OfTexts.TextBuffer.{ends-keep, begin-pop, begin-last, kept-put, left-own, left-keep}
+use Rattle.click_expand.proofs.OfTexts.TextBuffer.{no-length, read-none, ends-keep, begin-pop, begin-last, kept-put, left-own, left-keep}
 use Rattle.click_expand.proofs.texts.writing.write_text.Goals as goal
+
+pub returns-then-is_empty-clause-fits : goal.returns-then-is_empty-clause-fits
+returns-then-is_empty-clause-fits c _ places known primitive_elements whole are h =
+    sym (ap (λ z. c.args.buffer.now.text.items ++ z) (read-none c.args.config.now known c.args.first whole (no-length c.args.first.rest.now (search rules)) h) ∙ append-nil c.args.buffer.now.text.items)
 
 pub steps-smaller-in_ok-keep-in-Keep : goal.steps-smaller-in_ok-keep-in-Keep
 steps-smaller-in_ok-keep-in-Keep c =
