@@ -95,6 +95,7 @@ impl<T: Handlers> Router<T> {
 
     /// Answers one call. Where memory is refused nothing has changed, and only a read, a write of a queue's capacity or a swap takes memory. A reply that holds memory comes only from a call that changed nothing, and a packet
     /// only from a transmit.
+    #[inline(always)]
     pub fn step(&mut self, alloc: Global, call: &Call) -> Result<Reply, StepFault>
         ensures answer { MatchResult result (λ reply. Answers self.old call.now self.new reply) (λ _. self.new ≡ self.old) }
         ensures refused { IfErr result (λ _. takes_memory call.now ≡ true) }
@@ -111,6 +112,7 @@ impl<T: Handlers> Router<T> {
     }
 
     /// Answers one call as `step` does, with a reply for a history, which is small. A transmit must have room for its packet.
+    #[inline(always)]
     pub fn record(
         &mut self,
         alloc: Global,

@@ -45,6 +45,17 @@ impl Model for StoredReply {
     ghost view = { λ r. reply_of r.compact };
 }
 
+/// The packet in flight. It is apart, since each place for a packet is cleared, and other replies need none.
+#[cold]
+#[inline(never)]
+fn packet_of(stored: &StoredPacket) -> Packet
+    ensures { result ≡ stored.now }
+{
+    let mut packet = Packet::empty();
+    stored.write_to(&mut packet);
+    packet
+}
+
 impl StoredReply {
     /// Of what is kept.
     pub fn of(compact: CompactReply) -> StoredReply
@@ -118,6 +129,7 @@ impl StoredReply {
     }
 
     /// The reply.
+    #[inline(always)]
     pub fn into_reply(self) -> Reply
         ensures { result ≡ self }
     {
@@ -133,11 +145,7 @@ impl StoredReply {
             CompactReply::Entered(count) => Reply::Entered(count),
             CompactReply::Worked(count) => Reply::Worked(count),
             CompactReply::SentNone => Reply::Sent(None),
-            CompactReply::Sent(stored) => {
-                let mut packet = Packet::empty();
-                stored.write_to(&mut packet);
-                Reply::Sent(Some(packet))
-            }
+            CompactReply::Sent(stored) => Reply::Sent(Some(packet_of(&stored))),
             CompactReply::NoDevice => Reply::NoDevice,
         }
     }
