@@ -106,7 +106,7 @@ impl<T: Handlers> Router<T> {
             return Ok(self.running.transmit(device.as_slice()));
         }
         match self.record(alloc, call, None) {
-            Ok(reply) => Ok(reply.into_reply()),
+            Ok(reply) => Ok(reply.into_small_reply()),
             Err(fault) => Err(fault),
         }
     }

@@ -56,6 +56,28 @@ fn packet_of(stored: &StoredPacket) -> Packet
     packet
 }
 
+/// The reply of what is kept, where no packet is sent.
+#[inline(always)]
+fn small_reply(compact: CompactReply) -> Reply
+    requires { sends_packet (reply_of compact) ≡ false }
+    ensures { result ≡ reply_of compact }
+{
+    match compact {
+        CompactReply::Value(value) => Reply::Value(value),
+        CompactReply::Done => Reply::Done,
+        CompactReply::NoElement => Reply::Refused(Refusal::NoElement),
+        CompactReply::NoHandler => Reply::Refused(Refusal::NoHandler),
+        CompactReply::WrongWay => Reply::Refused(Refusal::WrongWay),
+        CompactReply::Handler(fault) => Reply::Refused(Refusal::Handler(fault)),
+        CompactReply::Config(fault) => Reply::Refused(Refusal::Config(Box::into_inner(fault))),
+        CompactReply::Entered(count) => Reply::Entered(count),
+        CompactReply::Worked(count) => Reply::Worked(count),
+        CompactReply::SentNone => Reply::Sent(None),
+        CompactReply::Sent(_) => unreachable!(),
+        CompactReply::NoDevice => Reply::NoDevice,
+    }
+}
+
 impl StoredReply {
     /// Of what is kept.
     pub fn of(compact: CompactReply) -> StoredReply
@@ -135,19 +157,19 @@ impl StoredReply {
     {
         let StoredReply { compact } = self;
         match compact {
-            CompactReply::Value(value) => Reply::Value(value),
-            CompactReply::Done => Reply::Done,
-            CompactReply::NoElement => Reply::Refused(Refusal::NoElement),
-            CompactReply::NoHandler => Reply::Refused(Refusal::NoHandler),
-            CompactReply::WrongWay => Reply::Refused(Refusal::WrongWay),
-            CompactReply::Handler(fault) => Reply::Refused(Refusal::Handler(fault)),
-            CompactReply::Config(fault) => Reply::Refused(Refusal::Config(Box::into_inner(fault))),
-            CompactReply::Entered(count) => Reply::Entered(count),
-            CompactReply::Worked(count) => Reply::Worked(count),
-            CompactReply::SentNone => Reply::Sent(None),
             CompactReply::Sent(stored) => Reply::Sent(Some(packet_of(&stored))),
-            CompactReply::NoDevice => Reply::NoDevice,
+            compact => small_reply(compact),
         }
+    }
+
+    /// The reply, which sends no packet.
+    #[inline(always)]
+    pub(crate) fn into_small_reply(self) -> Reply
+        requires { sends_packet self ≡ false }
+        ensures { result ≡ self }
+    {
+        let StoredReply { compact } = self;
+        small_reply(compact)
     }
 
     /// What is kept of the reply.
