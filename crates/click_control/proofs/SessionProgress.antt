@@ -1,5 +1,5 @@
 -- Lemmas on a session that goes on.
-use Rattle.std.proofs.Common.{◌≡◌, ℕ, ◌+◌, ◌≤◌, ◌<◌, List, [], ◌∷◌, ◌++◌, length, Bool, true, false, ◌||◌, Option, None, Some, Result, Ok, Err, refl, sym, ap, subst, ◌∙◌, inl, inr, le_trans, append_assoc, append-nil, add-zero, add_assoc, length-append, arith}
+use Rattle.std.proofs.Common.{◌≡◌, ℕ, ◌+◌, ◌≤◌, ◌<◌, List, [], ◌∷◌, ◌++◌, length, Bool, true, false, ◌||◌, Option, None, Some, Result, Ok, Err, refl, sym, ap, subst, ◌∙◌, inl, inr, append_assoc, append-nil, add-zero, add_assoc, length-append, arith}
 use Rattle.std.specs.Io.KnownBytes.{Keeps, Consumes}
 use Rattle.std.proofs.KnownBytes.{Consumes-nil, Consumes-trans, Appends-trans}
 use Rattle.std.proofs.lemmas.List.Elements.{All-nil, All-push}
@@ -17,7 +17,7 @@ use Rattle.click_control.specs.Commands.{commands, in_line, is_last}
 use Rattle.click_control.specs.Taking.{Pending, fresh, to_come, Gives, GivesOne}
 use Rattle.click_control.specs.Peers.{Input, Output, HasRead, HasWritten}
 use Rattle.click_control.specs.ReplyText.{greeting, text_of}
-use Rattle.click_control.specs.Serving.{Answered, Asked, nothing, then_one, call_of, replies, most_reads, Course, IsWhole, IsFront, EndsWith, Ends, Serves, Turned, not_yet, once_more, WentThrough, NoneRefused, ServesTurns}
+use Rattle.click_control.specs.Serving.{Answered, Asked, nothing, then_one, call_of, replies, most_reads, Course, IsWhole, IsFront, EndsWith, GoesOn, Ends, Serves, Turned, not_yet, once_more, WentThrough, NoneRefused, ServesTurns}
 use Rattle.click_control.specs.kept.Going.{Written, TakesIn, ending_of, SoFar, Goes}
 use Rattle.click_control.proofs.StreamCommands.{commands_from-nil, to_come-fed}
 
@@ -27,6 +27,11 @@ or-false false = refl
 
 pub commands-nil : commands [] ≡ []
 commands-nil = commands_from-nil (in_line [])
+
+-- whether a fault is that a write failed
+abbrev is_failed : ServeFault → Bool
+is_failed fault.WriteFailed = true
+is_failed _ = false
 
 -- ---- what was read and written between moments
 
@@ -170,24 +175,24 @@ module _ {P : Type 0} (asks : P → Call → Result Reply AskFault → P → Typ
   all-taken old now was is had left held holds s n reads h none =
       all-read old now was is had left held holds s n reads h ∙ ap (λ l. h.taken ++ l) none
 
-  -- nothing was done, and memory ran out
-  pub Serves-no_memory : (old now : P) (was is : T) (had left : Input) (held holds : Output) (s : Pending) (n reads : ℕ)
-      → SoFar asks turn done readonly most old now was is had left held holds s n reads
-      → ServesTurns asks turn done readonly most old now was is had left held holds (Err fault.NoMemory)
-  Serves-no_memory old now was is had left held holds s n reads h = record {
+  -- some bytes were read, and memory ran out
+  Serves-short : (old now : P) (was is : T) (had left then : Input) (held holds : Output) (s : Pending) (n reads more : ℕ) (piece : List ℕ)
+      → SoFar asks turn done readonly most old now was is had left held holds s n reads → HasRead left then piece more false → reads + more ≤ most
+      → ServesTurns asks turn done readonly most old now was is had then held holds (Err fault.NoMemory)
+  Serves-short old now was is had left then held holds s n reads more piece h read within = record {
     course = record {
-      input = h.input;
-      reads = reads;
+      input = h.input ++ piece;
+      reads = reads + more;
       read_failed = false;
       taken = h.taken;
-      more = to_come s [];
+      more = to_come s piece;
       answers = h.answers;
       output = h.output;
       write_failed = false;
     };
-    read = h.read;
-    within = h.within;
-    spelled = all-read old now was is had left held holds s n reads h;
+    read = HasRead-trans had left then h.input piece reads more false h.read read;
+    within = within;
+    spelled = h.spelled piece;
     asked = h.asked;
     written = h.written;
     ends = (
@@ -200,6 +205,13 @@ module _ {P : Type 0} (asks : P → Call → Result Reply AskFault → P → Typ
     );
     turned = inl (turned-all old now was is had left held holds s n reads h, inr h.whole);
   }
+
+  -- nothing was done, and memory ran out
+  pub Serves-no_memory : (old now : P) (was is : T) (had left : Input) (held holds : Output) (s : Pending) (n reads : ℕ)
+      → SoFar asks turn done readonly most old now was is had left held holds s n reads
+      → ServesTurns asks turn done readonly most old now was is had left held holds (Err fault.NoMemory)
+  Serves-no_memory old now was is had left held holds s n reads h =
+      Serves-short old now was is had left left held holds s n reads 0 [] h (HasRead-none left) (omega (arith, h.within))
 
   -- the turn of the next command was refused
   pub Serves-held : (old now : P) (was is refused : T) (had left : Input) (held holds : Output) (s t : Pending) (n reads : ℕ) (c : Command)
@@ -258,7 +270,7 @@ module _ {P : Type 0} (asks : P → Call → Result Reply AskFault → P → Typ
       → Answered asks now (call_of readonly c) a next → Written {T = Unit {0}} (Err f) holds then (text_of c a)
       → ServesTurns asks turn done readonly most old next was given had left held then (Err f)
   Serves-reply fault.ReadFailed old now next was is given had left held holds then s t n reads c a h one step answered w = absurd w
-  Serves-reply fault.WriteFailed old now next was is given had left held holds then s t n reads c a h one step answered w = record {
+  Serves-reply f old now next was is given had left held holds then s t n reads c a h one step answered w = record {
     course = record {
       input = h.input;
       reads = reads;
@@ -267,33 +279,14 @@ module _ {P : Type 0} (asks : P → Call → Result Reply AskFault → P → Typ
       more = to_come t [];
       answers = h.answers ++ a ∷ [];
       output = h.output ++ w.0;
-      write_failed = true;
+      write_failed = is_failed f;
     };
     read = h.read;
     within = h.within;
     spelled = read-push h.taken c (commands h.input) (to_come s []) (to_come t []) (all-read old now was is had left held holds s n reads h) (one.gives []);
     asked = then_one old now next h.taken h.answers c a h.asked answered;
-    written = HasWritten-trans held holds then h.output w.0 true h.written w.3;
-    ends = (part-front old now was is had left held holds s n reads c a (to_come t []) true w.0 w.1 h w.2, refl, refl);
-    turned = inr (n, is, counted-push h.taken c n h.counted, h.turned, step);
-  }
-  Serves-reply fault.NoMemory old now next was is given had left held holds then s t n reads c a h one step answered w = record {
-    course = record {
-      input = h.input;
-      reads = reads;
-      read_failed = false;
-      taken = h.taken ++ c ∷ [];
-      more = to_come t [];
-      answers = h.answers ++ a ∷ [];
-      output = h.output ++ w.0;
-      write_failed = false;
-    };
-    read = h.read;
-    within = h.within;
-    spelled = read-push h.taken c (commands h.input) (to_come s []) (to_come t []) (all-read old now was is had left held holds s n reads h) (one.gives []);
-    asked = then_one old now next h.taken h.answers c a h.asked answered;
-    written = HasWritten-trans held holds then h.output w.0 false h.written w.3;
-    ends = (part-front old now was is had left held holds s n reads c a (to_come t []) false w.0 w.1 h w.2, refl, refl);
+    written = HasWritten-trans held holds then h.output w.0 (is_failed f) h.written w.3;
+    ends = (part-front old now was is had left held holds s n reads c a (to_come t []) (is_failed f) w.0 w.1 h w.2, refl, refl);
     turned = inr (n, is, counted-push h.taken c n h.counted, h.turned, step);
   }
 
@@ -353,27 +346,17 @@ module _ {P : Type 0} (asks : P → Call → Result Reply AskFault → P → Typ
       → SoFar asks turn done readonly most old now was is had left held holds s n reads → GivesOne s t c → turn is (n + 1) true given → done given (n + 1) told
       → Answered asks now (call_of readonly c) a next → HasWritten holds then (text_of c a) false
       → Goes asks turn done readonly most old next was told had left held then t (n + 1) reads (Ok (ending_of c))
-  Goes-replied (command.Read name text) old now next was is given told had left held holds then s t n reads a h one step after answered w =
-      SoFar-replied old now next was is given told had left held holds then s t n reads (command.Read name text) a h one step after answered w refl
-  Goes-replied (command.Write name text) old now next was is given told had left held holds then s t n reads a h one step after answered w =
-      SoFar-replied old now next was is given told had left held holds then s t n reads (command.Write name text) a h one step after answered w refl
-  Goes-replied (command.CheckRead name) old now next was is given told had left held holds then s t n reads a h one step after answered w =
-      SoFar-replied old now next was is given told had left held holds then s t n reads (command.CheckRead name) a h one step after answered w refl
-  Goes-replied (command.CheckWrite name) old now next was is given told had left held holds then s t n reads a h one step after answered w =
-      SoFar-replied old now next was is given told had left held holds then s t n reads (command.CheckWrite name) a h one step after answered w refl
   Goes-replied command.Quit old now next was is given told had left held holds then s t n reads a h one step after answered w =
       Serves-last ended.Quit old now next was is given told had left held holds then s t n reads command.Quit a h one step after answered w refl
       (λ course whole last read write. (whole, last, read, write)) (λ course all. all)
-  Goes-replied command.Syntax old now next was is given told had left held holds then s t n reads a h one step after answered w =
-      SoFar-replied old now next was is given told had left held holds then s t n reads command.Syntax a h one step after answered w refl
   Goes-replied command.LineTooLong old now next was is given told had left held holds then s t n reads a h one step after answered w =
       Serves-last ended.TooLong old now next was is given told had left held holds then s t n reads command.LineTooLong a h one step after answered w refl
       (λ course whole last read write. (whole, inl last, read, write)) (λ course all. all)
   Goes-replied command.DataTooLong old now next was is given told had left held holds then s t n reads a h one step after answered w =
       Serves-last ended.TooLong old now next was is given told had left held holds then s t n reads command.DataTooLong a h one step after answered w refl
       (λ course whole last read write. (whole, inr last, read, write)) (λ course all. all)
-  Goes-replied (command.Unknown word) old now next was is given told had left held holds then s t n reads a h one step after answered w =
-      SoFar-replied old now next was is given told had left held holds then s t n reads (command.Unknown word) a h one step after answered w refl
+  Goes-replied c old now next was is given told had left held holds then s t n reads a h one step after answered w =
+      SoFar-replied old now next was is given told had left held holds then s t n reads c a h one step after answered w refl
 
   -- ---- the greeting
 
@@ -403,7 +386,7 @@ module _ {P : Type 0} (asks : P → Call → Result Reply AskFault → P → Typ
   pub Serves-greeting : (f : ServeFault) (p : P) (t : T) (had : Input) (held holds : Output) → Written {T = Unit {0}} (Err f) held holds greeting
       → ServesTurns asks turn done readonly most p p t t had had held holds (Err f)
   Serves-greeting fault.ReadFailed p t had held holds w = absurd w
-  Serves-greeting fault.WriteFailed p t had held holds w = record {
+  Serves-greeting f p t had held holds w = record {
     course = record {
       input = [];
       reads = 0;
@@ -412,33 +395,7 @@ module _ {P : Type 0} (asks : P → Call → Result Reply AskFault → P → Typ
       more = [];
       answers = [];
       output = w.0;
-      write_failed = true;
-    };
-    read = HasRead-none had;
-    within = omega arith;
-    spelled = commands-nil;
-    asked = nothing p;
-    written = w.3;
-    ends = (
-      record {
-        front = (w.1, append-nil greeting ∙ w.2);
-        all_but_last = none-taken w.0;
-      },
-      refl,
-      refl,
-    );
-    turned = inl (not_yet t, inl refl);
-  }
-  Serves-greeting fault.NoMemory p t had held holds w = record {
-    course = record {
-      input = [];
-      reads = 0;
-      read_failed = false;
-      taken = [];
-      more = [];
-      answers = [];
-      output = w.0;
-      write_failed = false;
+      write_failed = is_failed f;
     };
     read = HasRead-none had;
     within = omega arith;
@@ -481,112 +438,69 @@ module _ {P : Type 0} (asks : P → Call → Result Reply AskFault → P → Typ
         turned = h.turned;
       }
 
+  -- all commands that were read are answered, and so many reads more gave no byte
+  Serves-whole : (result : Result Ended ServeFault) (old now : P) (was is : T) (had left then : Input) (held holds : Output) (s : Pending) (n reads more : ℕ) (failed : Bool)
+      → (h : SoFar asks turn done readonly most old now was is had left held holds s n reads) → to_come s [] ≡ []
+      → HasRead left then [] more failed → reads + more ≤ most
+      → ((course : Course) → IsWhole course → GoesOn course.taken → course.input ≡ h.input → course.reads ≡ reads + more → course.read_failed ≡ failed → course.write_failed ≡ false
+      → Ends most result course then)
+      → ((course : Course) → Turned turn done was (length course.taken) is → WentThrough turn done was is result course)
+      → ServesTurns asks turn done readonly most old now was is had then held holds result
+  Serves-whole result old now was is had left then held holds s n reads more failed h none read within ends went =
+      let course : Course = record {
+        input = h.input ++ [];
+        reads = reads + more;
+        read_failed = failed;
+        taken = h.taken;
+        more = [];
+        answers = h.answers;
+        output = h.output;
+        write_failed = false;
+      } in
+      record {
+        course = course;
+        read = HasRead-trans had left then h.input [] reads more failed h.read read;
+        within = within;
+        spelled = ap commands (append-nil h.input) ∙ all-taken old now was is had left held holds s n reads h none;
+        asked = h.asked;
+        written = h.written;
+        ends = ends course (refl, h.whole) h.goes_on (append-nil h.input) refl refl refl;
+        turned = went course (turned-all old now was is had left held holds s n reads h);
+      }
+
   pub Serves-end : (old now : P) (was is : T) (had left then : Input) (held holds : Output) (s t : Pending) (n reads : ℕ)
       → SoFar asks turn done readonly most old now was is had left held holds s n reads → to_come s [] ≡ [] → reads < most → TakesIn left then s t (Ok false)
       → ServesTurns asks turn done readonly most old now was is had then held holds (Ok ended.EndOfInput)
-  Serves-end old now was is had left then held holds s t n reads h none room took = record {
-    course = record {
-      input = h.input ++ [];
-      reads = reads + 1;
-      read_failed = false;
-      taken = h.taken;
-      more = [];
-      answers = h.answers;
-      output = h.output;
-      write_failed = false;
-    };
-    read = HasRead-trans had left then h.input [] reads 1 false h.read took.0;
-    within = omega (arith, room);
-    spelled = ap commands (append-nil h.input) ∙ all-taken old now was is had left held holds s n reads h none;
-    asked = h.asked;
-    written = h.written;
-    ends = ((refl, h.whole), h.goes_on, took.1, refl, refl);
-    turned = turned-all old now was is had left held holds s n reads h;
-  }
+  Serves-end old now was is had left then held holds s t n reads h none room took =
+      Serves-whole (Ok ended.EndOfInput) old now was is had left then held holds s n reads 1 false h none took.0 (omega (arith, room))
+      (λ course whole on input so_many read write. (whole, on, took.1, read, write)) (λ course all. all)
 
   pub Serves-read : (f : ServeFault) (old now : P) (was is : T) (had left then : Input) (held holds : Output) (s t : Pending) (n reads : ℕ)
       → SoFar asks turn done readonly most old now was is had left held holds s n reads → to_come s [] ≡ [] → reads < most → TakesIn left then s t (Err f)
       → ServesTurns asks turn done readonly most old now was is had then held holds (Err f)
-  Serves-read fault.ReadFailed old now was is had left then held holds s t n reads h none room took = record {
-    course = record {
-      input = h.input ++ [];
-      reads = reads + 0;
-      read_failed = true;
-      taken = h.taken;
-      more = [];
-      answers = h.answers;
-      output = h.output;
-      write_failed = false;
-    };
-    read = HasRead-trans had left then h.input [] reads 0 true h.read took;
-    within = omega (arith, room);
-    spelled = ap commands (append-nil h.input) ∙ all-taken old now was is had left held holds s n reads h none;
-    asked = h.asked;
-    written = h.written;
-    ends = ((refl, h.whole), h.goes_on, inl (refl, omega (arith, room)), refl);
-    turned = turned-all old now was is had left held holds s n reads h;
-  }
-  Serves-read fault.NoMemory old now was is had left then held holds s t n reads h none room took = record {
-    course = record {
-      input = h.input ++ took.0;
-      reads = reads + 1;
-      read_failed = false;
-      taken = h.taken;
-      more = to_come s took.0;
-      answers = h.answers;
-      output = h.output;
-      write_failed = false;
-    };
-    read = HasRead-trans had left then h.input took.0 reads 1 false h.read took.1;
-    within = omega (arith, room);
-    spelled = h.spelled took.0;
-    asked = h.asked;
-    written = h.written;
-    ends = (
-      record {
-        front = ([], sym h.whole ∙ sym (append-nil h.output));
-        all_but_last = written-whole h.taken h.answers h.output h.whole;
-      },
-      refl,
-      refl,
-    );
-    turned = inl (turned-all old now was is had left held holds s n reads h, inr h.whole);
-  }
+  Serves-read fault.ReadFailed old now was is had left then held holds s t n reads h none room took =
+      Serves-whole (Err fault.ReadFailed) old now was is had left then held holds s n reads 0 true h none took (omega (arith, room))
+      (λ course whole on input so_many read write. (whole, on, inl (read, omega (arith, so_many, room)), write)) (λ course all. all)
+  Serves-read fault.NoMemory old now was is had left then held holds s t n reads h none room took =
+      Serves-short old now was is had left then held holds s n reads 1 took.0 h took.1 (omega (arith, room))
   Serves-read fault.WriteFailed old now was is had left then held holds s t n reads h none room took = absurd took
 
   -- all the reads are used up
   pub Serves-spent : (old now : P) (was is : T) (had left : Input) (held holds : Output) (s : Pending) (n reads : ℕ)
       → SoFar asks turn done readonly most old now was is had left held holds s n reads → to_come s [] ≡ [] → most ≤ reads
       → ServesTurns asks turn done readonly most old now was is had left held holds (Err fault.ReadFailed)
-  Serves-spent old now was is had left held holds s n reads h none spent = record {
-    course = record {
-      input = h.input;
-      reads = reads;
-      read_failed = false;
-      taken = h.taken;
-      more = [];
-      answers = h.answers;
-      output = h.output;
-      write_failed = false;
-    };
-    read = h.read;
-    within = h.within;
-    spelled = all-taken old now was is had left held holds s n reads h none;
-    asked = h.asked;
-    written = h.written;
-    ends = ((refl, h.whole), h.goes_on, inr (refl, omega (arith, spent, h.within), le_trans spent h.many), refl);
-    turned = turned-all old now was is had left held holds s n reads h;
-  }
+  Serves-spent old now was is had left held holds s n reads h none spent =
+      Serves-whole (Err fault.ReadFailed) old now was is had left left held holds s n reads 0 false h none (HasRead-none left) (omega (arith, h.within))
+      (λ course whole on input so_many read write.
+      (whole, on, inr (read, omega (arith, so_many, spent, h.within), omega (arith, ap length input, spent, h.many)), write))
+      (λ course all. all)
 
 -- ---- turns that are all given
 
 given-none : {T : Type 0} (turn : T → ℕ → Bool → T → Type 0) (done : T → ℕ → T → Type 0) → ((t u : T) (n : ℕ) → turn t n false u → ⊥)
     → (was is : T) (result : Result Ended ServeFault) (course : Course) → WentThrough turn done was is result course → NoneRefused result course
-given-none turn done never was is (Ok ended.Quit) course w = tt
-given-none turn done never was is (Ok ended.TooLong) course w = tt
-given-none turn done never was is (Ok ended.EndOfInput) course w = tt
 given-none turn done never was is (Ok ended.GateClosed) course w = never w.0 is (length course.taken + 1) w.2
-given-none turn done never was is (Err f) course w = tt
+given-none turn done never was is _ course w = tt
 
 pub Serves-open : {P T : Type 0} (asks : P → Call → Result Reply AskFault → P → Type 0) (turn : T → ℕ → Bool → T → Type 0) (done : T → ℕ → T → Type 0)
     (readonly : Bool) → ((t u : T) (n : ℕ) → turn t n false u → ⊥) → (old new : P) (was is : T) (had left : Input) (held holds : Output)
