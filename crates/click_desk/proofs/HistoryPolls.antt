@@ -24,15 +24,8 @@ polled_push [] e device = append-nil (taken_of e.call device)
 polled_push (x ∷ h) e device = ap (λ l. taken_of x.call device ++ l) (polled_push h e device) ∙ sym (append_assoc (taken_of x.call device) (polled h device) (taken_of e.call device))
 
 pub not_taken : (c : Call) (device : List ℕ) → is_poll c ≡ false → taken_of c device ≡ []
-not_taken (call.Read name text) device not_poll = refl
-not_taken (call.Write name text) device not_poll = refl
-not_taken (call.CheckRead name) device not_poll = refl
-not_taken (call.CheckWrite name) device not_poll = refl
-not_taken (call.Swap text) device not_poll = refl
-not_taken (call.Arrive from p) device not_poll = refl
-not_taken (call.Transmit from) device not_poll = refl
-not_taken call.Round device not_poll = refl
 not_taken (call.Poll from taken) device not_poll = absurd (true≢false not_poll)
+not_taken _ device not_poll = refl
 
 -- an entry of no poll
 pub polled_same : (h : List Entry) (e : Entry) (is : List ConsumerState) → is_poll e.call ≡ false → IsPolled h is → IsPolled (h ++ e ∷ []) is

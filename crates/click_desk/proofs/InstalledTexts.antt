@@ -23,44 +23,23 @@ by_name false s t name text other r is h = absurd (let x = is in cc)
 -- a swap to the text that a call asks to take over answers the call
 pub swap_answers : (s t : RouterState) (c : Call) (text : List ℕ) (r : Reply) → swap_text c ≡ Some text → Swaps s text t r → Answers s c t r
 unfolding WriteBy
-swap_answers s t (call.Read name other) text r is h = absurd (let x = is in cc)
 swap_answers s t (call.Write name other) text r is h = by_name (is_hotconfig name) s t name text other r is h
-swap_answers s t (call.CheckRead name) text r is h = absurd (let x = is in cc)
-swap_answers s t (call.CheckWrite name) text r is h = absurd (let x = is in cc)
 swap_answers s t (call.Swap other) text r is h = let same : text ≡ other = cc in subst (λ x. Swaps s x t r) same h
-swap_answers s t (call.Arrive device p) text r is h = absurd (let x = is in cc)
-swap_answers s t (call.Poll device ps) text r is h = absurd (let x = is in cc)
-swap_answers s t call.Round text r is h = absurd (let x = is in cc)
-swap_answers s t (call.Transmit device) text r is h = absurd (let x = is in cc)
+swap_answers s t _ text r is h = absurd (let x = is in cc)
 
 -- a call that asks no text to take over installs nothing
 pub quiet : (c : Call) (r : Reply) → swap_text c ≡ None → installed c r ≡ []
-quiet c (reply.Value value) is = refl
 quiet c reply.Done is = ap asked is
-quiet c (reply.Refused why) is = refl
-quiet c (reply.Entered count) is = refl
-quiet c (reply.Worked count) is = refl
-quiet c (reply.Sent packet) is = refl
-quiet c reply.NoDevice is = refl
+quiet c _ is = refl
 
 -- nor does one whose reply holds memory
 pub heavy : (c : Call) (r : Reply) → holds_memory r ≡ true → installed c r ≡ []
-heavy c (reply.Value value) is = refl
 heavy c reply.Done is = absurd (let x = is in cc)
-heavy c (reply.Refused why) is = refl
-heavy c (reply.Entered count) is = refl
-heavy c (reply.Worked count) is = refl
-heavy c (reply.Sent packet) is = refl
-heavy c reply.NoDevice is = refl
+heavy c _ is = refl
 
 pub told_installed : (c : Call) (r : Reply) (text : List ℕ) → swap_text c ≡ Some text → installed c r ≡ asked (text_if_done text r)
-told_installed c (reply.Value value) text is = refl
 told_installed c reply.Done text is = ap asked is
-told_installed c (reply.Refused why) text is = refl
-told_installed c (reply.Entered count) text is = refl
-told_installed c (reply.Worked count) text is = refl
-told_installed c (reply.Sent packet) text is = refl
-told_installed c reply.NoDevice text is = refl
+told_installed c _ text is = refl
 
 swaps_append : (a b : List Entry) → swaps (a ++ b) ≡ swaps a ++ swaps b
 swaps_append [] b = refl

@@ -1,3 +1,4 @@
+pub mod EnteredCalls
 pub mod Histories
 pub mod HistoryBounds
 pub mod HistoryPolls

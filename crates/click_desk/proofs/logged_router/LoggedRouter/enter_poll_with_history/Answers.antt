@@ -1,122 +1,58 @@
-use Rattle.std.proofs.Common.{◌≡◌, ◌++◌, ◌∷◌, [], true, is_some, List, length, map, ◌∙◌, ap, subst, sym, arith}
+use Rattle.std.proofs.Common.{◌++◌, ◌∷◌, [], List, map, ◌∙◌, ap, subst, sym, refl}
 use Rattle.std.proofs.lemmas.List.{with_items_is}
-use Rattle.click_packet.specs.Packet.{Packet}
-use Rattle.click_rings.specs.Feeds.{ConsumerState, name_of, has_feed, have_distinct_devices, drew}
-use Rattle.click_rings.proofs.Draws.{drew_feeds}
-use Rattle.click_router.specs.One.{Answers, swap_text}
-use Rattle.click_router.specs.Polls.{poll}
+use Rattle.click_rings.specs.Feeds.{ConsumerState, name_of, has_feed}
+use Rattle.click_router.specs.One.{Answers}
 use Rattle.click_router.specs.declared.call.Call.{Call}
 use Rattle.click_desk.specs.declared.logged_router.RouterLog.{RouterLog}
 use Rattle.click_desk.specs.declared.entry.Entry.{Entry}
 use Rattle.click_desk.specs.DeskSetups.{setup_of}
 use Rattle.click_desk.specs.LoggedRouterState.{LoggedRouterState}
-use Rattle.click_desk.specs.History.{entry, Legal, installs}
-use Rattle.click_desk.specs.Polls.{IsPolled}
-use Rattle.click_desk.proofs.Histories.{legal_more}
-use Rattle.click_desk.proofs.InstalledTexts.{published_same, quiet}
-use Rattle.click_desk.proofs.HistoryPolls.{polled_drew, drew_length, none_of}
+use Rattle.click_desk.specs.History.{entry}
+use Rattle.click_desk.proofs.EnteredCalls.{kept_poll, drawn_by, names_drawn, may_take}
 use Rattle.click_desk.proofs.logged_router.LoggedRouter.enter_poll_with_history.Goals as goal
-
-pub returns-clause-legal : goal.returns-clause-legal
-returns-clause-legal g c =
-    let router_log : RouterLog = c.deref_mut-router_log.result.now in
-    let router = c.self.inside.router in
-    let call : Call = c.draw-call.result.0 in
-    let e : Entry = entry c.args.number call c.in-Ok-copy_twice.entered in
-    let items : c.add.new.self.items ≡ router_log.entries.items ++ e ∷ [] = c.add.ensures.items ∙ ap (λ l. l ++ e ∷ []) c.reserve.ensures.same.1 in
-    let answer : Answers router call c.record.new.self c.in-Ok-record.reply = c.in-Ok-record.ensures.answer in
-    let is : Answers router call c.record.new.self c.in-Ok-copy_twice.entered =
-    subst (λ r. Answers router call c.record.new.self r) (sym c.in-Ok-copy_twice.ensures.kept.0) answer in
-    let held : Legal router_log.options.opening router_log.entries.items router =
-    subst (λ (l : RouterLog). Legal l.options.opening l.entries.items router) (sym c.deref_mut-router_log.ensures.value) c.self.invariant.0 in
-    subst (λ (l : List Entry). Legal router_log.options.opening l c.record.new.self) (sym items) (legal_more router_log.options.opening router_log.entries.items router e c.record.new.self held is)
-
-pub returns-clause-polled : goal.returns-clause-polled
-returns-clause-polled g c =
-    let router_log : RouterLog = c.deref_mut-router_log.result.now in
-    let device = c.args.device.now in
-    let d = c.draw-call.ensures in
-    let got : List Packet = d.0 in
-    let old : List ConsumerState = router_log.consumers.items in
-    let vec = c.poll_size-count.new.consumers in
-    let now : c.as_mut_slice.result.now ≡ old = c.as_mut_slice.ensures.value ∙ c.poll_size-count.ensures.consumers in
-    let len : length c.draw-call.new.consumers ≡ vec.len = ap length d.3 ∙ (drew_length device got c.as_mut_slice.result.now ∙ (ap length c.as_mut_slice.ensures.value ∙ sym vec.ok.0)) in
-    let consumers = with_items_is vec c.draw-call.new.consumers len ∙ (d.3 ∙ ap (λ l. drew device got l) now) in
-    let names = ap (λ l. map name_of l) consumers ∙ drew_feeds device got old in
-    let call : Call = c.draw-call.result.0 in
-    let e : Entry = entry c.args.number call c.in-Ok-copy_twice.entered in
-    let items : c.add.new.self.items ≡ router_log.entries.items ++ e ∷ [] = c.add.ensures.items ∙ ap (λ l. l ++ e ∷ []) c.reserve.ensures.same.1 in
-    let drawn : IsPolled router_log.entries.items router_log.consumers.items =
-    subst (λ (l : RouterLog). IsPolled l.entries.items l.consumers.items) (sym c.deref_mut-router_log.ensures.value) c.self.invariant.1 in
-    subst (λ (y : List Entry × List ConsumerState). IsPolled y.0 y.1) (λ i. (sym items i, sym consumers i)) (polled_drew router_log.entries.items e device got old d.1 drawn)
 
 pub invariant_of-self-2 : goal.invariant_of-self-2
 invariant_of-self-2 g c =
-    let router_log : RouterLog = c.deref_mut-router_log.result.now in
-    let device = c.args.device.now in
+    let router = c.self.inside.router in
     let d = c.draw-call.ensures in
-    let got : List Packet = d.0 in
-    let old : List ConsumerState = router_log.consumers.items in
     let vec = c.poll_size-count.new.consumers in
-    let now : c.as_mut_slice.result.now ≡ old = c.as_mut_slice.ensures.value ∙ c.poll_size-count.ensures.consumers in
-    let len : length c.draw-call.new.consumers ≡ vec.len = ap length d.3 ∙ (drew_length device got c.as_mut_slice.result.now ∙ (ap length c.as_mut_slice.ensures.value ∙ sym vec.ok.0)) in
-    let consumers = with_items_is vec c.draw-call.new.consumers len ∙ (d.3 ∙ ap (λ l. drew device got l) now) in
-    let names = ap (λ l. map name_of l) consumers ∙ drew_feeds device got old in (
-      returns-clause-legal g c,
-      returns-clause-polled g c,
-      ap have_distinct_devices names ∙ subst (λ (l : RouterLog). have_distinct_devices (map name_of l.consumers.items) ≡ true) (sym c.deref_mut-router_log.ensures.value) c.self.invariant.2,
-      (let call : Call = c.draw-call.result.0 in
-          let e : Entry = entry c.args.number call c.in-Ok-copy_twice.entered in
-          let items : c.add.new.self.items ≡ router_log.entries.items ++ e ∷ [] = c.add.ensures.items ∙ ap (λ l. l ++ e ∷ []) c.reserve.ensures.same.1 in
-          let held : router_log.published ≡ record { board = router_log.options.origin; list = installs router_log.options.opening router_log.entries.items } = subst (λ (l : RouterLog). l.published ≡ record { board = l.options.origin; list = installs l.options.opening l.entries.items }) (sym c.deref_mut-router_log.ensures.value) c.self.invariant.3 in
-          published_same router_log.options.origin router_log.options.opening router_log.entries.items c.add.new.self.items e router_log.published held items (quiet call c.in-Ok-copy_twice.entered (ap swap_text d.1))),
-      c.add.ensures.keeps ∙ (c.reserve.ensures.same.0 ∙ subst (λ (l : RouterLog). l.entries.keeps ≡ is_some l.options.room) (sym c.deref_mut-router_log.ensures.value) c.self.invariant.4),
-    )
+    let call = c.draw-call.result.0 in
+    let e : Entry = entry c.args.number call c.in-Ok-copy_twice.entered in
+    kept_poll c.self.inside.router_log.value c.deref_mut-router_log.result.now router c.record.new.self e c.add.new.self _ c.args.device.now d.0
+    c.deref_mut-router_log.ensures.value c.self.invariant d.1
+    (drawn_by c.args.device.now d.0 _ vec.items _ c.draw-call.new.consumers _ vec.len c.poll_size-count.ensures.consumers c.as_mut_slice.ensures.value vec.ok.0 (with_items_is vec c.draw-call.new.consumers) d.3)
+    (subst (λ r. Answers router call c.record.new.self r) (sym c.in-Ok-copy_twice.ensures.kept.0) c.in-Ok-record.ensures.answer)
+    (c.add.ensures.items ∙ ap (λ l. l ++ e ∷ []) c.reserve.ensures.same.1) (c.add.ensures.keeps ∙ c.reserve.ensures.same.0)
+
+pub returns-clause-legal : goal.returns-clause-legal
+returns-clause-legal g c = (invariant_of-self-2 g c).0
+
+pub returns-clause-polled : goal.returns-clause-polled
+returns-clause-polled g c = (invariant_of-self-2 g c).1
 
 pub returns-clause-options : goal.returns-clause-options
 returns-clause-options g c =
-    let router_log : RouterLog = c.deref_mut-router_log.result.now in
-    let device = c.args.device.now in
+    let log : RouterLog = c.deref_mut-router_log.result.now in
     let d = c.draw-call.ensures in
-    let got : List Packet = d.0 in
-    let old : List ConsumerState = router_log.consumers.items in
     let vec = c.poll_size-count.new.consumers in
-    let now : c.as_mut_slice.result.now ≡ old = c.as_mut_slice.ensures.value ∙ c.poll_size-count.ensures.consumers in
-    let len : length c.draw-call.new.consumers ≡ vec.len = ap length d.3 ∙ (drew_length device got c.as_mut_slice.result.now ∙ (ap length c.as_mut_slice.ensures.value ∙ sym vec.ok.0)) in
-    let consumers = with_items_is vec c.draw-call.new.consumers len ∙ (d.3 ∙ ap (λ l. drew device got l) now) in
-    let names = ap (λ l. map name_of l) consumers ∙ drew_feeds device got old in
-    ap (λ l. setup_of router_log.options l) names
+    let drawn = drawn_by c.args.device.now d.0 _ vec.items _ c.draw-call.new.consumers _ vec.len c.poll_size-count.ensures.consumers c.as_mut_slice.ensures.value vec.ok.0 (with_items_is vec c.draw-call.new.consumers) d.3 in
+    ap (λ l. setup_of log.options l) (names_drawn c.args.device.now d.0 log.consumers.items _ drawn)
     ∙ (ap (λ (l : RouterLog). setup_of l.options (map name_of l.consumers.items)) c.deref_mut-router_log.ensures.value ∙ ap (λ (b : LoggedRouterState). b.options) c.self.view_is)
 
 pub returns-clause-ok : goal.returns-clause-ok
 returns-clause-ok g c =
-    let router_log : RouterLog = c.deref_mut-router_log.result.now in
-    let router = c.self.inside.router in
     let device = c.args.device.now in
     let d = c.draw-call.ensures in
-    let got : List Packet = d.0 in
-    let old : List ConsumerState = router_log.consumers.items in
     let vec = c.poll_size-count.new.consumers in
-    let now : c.as_mut_slice.result.now ≡ old = c.as_mut_slice.ensures.value ∙ c.poll_size-count.ensures.consumers in
-    let len : length c.draw-call.new.consumers ≡ vec.len = ap length d.3 ∙ (drew_length device got c.as_mut_slice.result.now ∙ (ap length c.as_mut_slice.ensures.value ∙ sym vec.ok.0)) in
-    let consumers = with_items_is vec c.draw-call.new.consumers len ∙ (d.3 ∙ ap (λ l. drew device got l) now) in
-    let names = ap (λ l. map name_of l) consumers ∙ drew_feeds device got old in
-    let call : Call = c.draw-call.result.0 in
-    let e : Entry = entry c.args.number call c.in-Ok-copy_twice.entered in
-    let items : c.add.new.self.items ≡ router_log.entries.items ++ e ∷ [] = c.add.ensures.items ∙ ap (λ l. l ++ e ∷ []) c.reserve.ensures.same.1 in
+    let drawn = drawn_by device d.0 _ vec.items _ c.draw-call.new.consumers _ vec.len c.poll_size-count.ensures.consumers c.as_mut_slice.ensures.value vec.ok.0 (with_items_is vec c.draw-call.new.consumers) d.3 in
+    let slice = c.as_mut_slice.ensures.value ∙ c.poll_size-count.ensures.consumers in
+    let answer = subst (λ (x : Call). Answers c.self.inside.router x c.record.new.self c.in-Ok-record.reply) d.1 c.in-Ok-record.ensures.answer in
     let kept = c.in-Ok-copy_twice.ensures.kept in
-    let answer : Answers router call c.record.new.self c.in-Ok-record.reply = c.in-Ok-record.ensures.answer in
-    let turn : Answers router (poll device got) c.record.new.self c.in-Ok-record.reply =
-    subst (λ x. Answers router x c.record.new.self c.in-Ok-record.reply) d.1 answer in
+    let e : Entry = entry c.args.number c.draw-call.result.0 c.in-Ok-copy_twice.entered in
     let was = ap (λ (l : RouterLog). l.entries.items) c.deref_mut-router_log.ensures.value ∙ ap (λ (b : LoggedRouterState). b.entries) c.self.view_is in (
-      got,
-      record {
-        within = omega (arith, d.4, c.poll_size-count.ensures.most);
-        no_device = λ none.
-            let nothing = c.poll_size-count.ensures.nothing got c.record.new.self c.in-Ok-record.reply turn none in
-            none_of got (omega (arith, d.4, nothing));
-        no_feed = λ away. d.5 (ap (λ l. has_feed device l) (ap (λ l. map name_of l) now ∙ sym names) ∙ away);
-      },
-      items ∙ (λ i. was i ++ entry c.args.number (d.1 i) (kept.0 i) ∷ []),
+      d.0,
+      may_take _ device c.args.most _ d.0 c.self.inside.router c.record.new.self c.in-Ok-record.reply _ c.poll_size-count.ensures.most c.poll_size-count.ensures.nothing d.4
+          (λ away. d.5 (ap (λ (l : List ConsumerState). has_feed device (map name_of l)) slice ∙ (ap (λ l. has_feed device l) (sym (names_drawn device d.0 c.deref_mut-router_log.result.now.consumers.items _ drawn)) ∙ away))) answer refl,
+      (c.add.ensures.items ∙ ap (λ l. l ++ e ∷ []) c.reserve.ensures.same.1) ∙ (λ i. was i ++ entry c.args.number (d.1 i) (kept.0 i) ∷ []),
       c.add-2.ensures.items ∙ (λ i. c.reserve-else-is_err.ensures.same.1 i ++ (d.2 i, kept.1 i) ∷ []),
     )
