@@ -1,7 +1,7 @@
 //! The connections of a net, in tables.
 ghost use Rattle.std.specs.Prelude.{◌≡◌, ◌<◌, ◌≤◌, ◌^◌, ℕ, [], length, vec_len, slice_index_or, IfOk, OnOk, None, nat_eq, replicate, map};
 ghost use Rattle.click_engine.specs.Adjacency.{end_of, first_joined};
-ghost use Rattle.click_engine.specs.kept.Tables.{entry, far_of, first_far, first_of, nowhere, rows_of, IsNoted, IsTable};
+ghost use Rattle.click_engine.specs.kept.Tables.{element_of, end_apart, entry, far_of, first_far, first_of, nowhere, port_of, rows_of, IsNoted, IsTable};
 
 use crate::run_state::ConnectionEnd;
 use click_classes::Side;
@@ -16,8 +16,10 @@ pub struct Adjacency {
     net: Net,
     targets: Vec<Vec<Option<ConnectionEnd>>>,
     sources: Vec<Vec<Option<ConnectionEnd>>>,
-    /// Where a push at the first output of each element goes: mostly there is no other.
-    ahead: Vec<ConnectionEnd>,
+    /// The element that a push at the first output of each element goes to: mostly there is no other output.
+    ahead: Vec<usize>,
+    /// The inputs of these. They stand apart, so that a step finds each by the place alone.
+    ahead_ports: Vec<u16>,
     /// Which output a pull at the first input of each element asks.
     behind: Vec<ConnectionEnd>,
 }
@@ -32,15 +34,15 @@ impl Model for Adjacency {
     ghost use Rattle.std.specs.Prelude.{◌≡◌, length};
     ghost use Rattle.click_ports.specs.Net.{Net as Seen};
     ghost use Rattle.click_engine.specs.Adjacency.{target_in, source_in};
-    ghost use Rattle.click_engine.specs.kept.Tables.{rows_of, AreFirst, IsTable};
+    ghost use Rattle.click_engine.specs.kept.Tables.{rows_of, AreFirst, AreFirstApart, IsTable};
 
     ghost Value = { Seen };
 
     ghost view = { λ w. w.net };
 
     ghost invariant = { λ w. IsTable (rows_of w.targets.items) (target_in w.net.connections)
-        × IsTable (rows_of w.sources.items) (source_in w.net.connections) × AreFirst w.ahead.items (target_in w.net.connections)
-        × (length w.ahead.items ≡ length w.net.shapes) × AreFirst w.behind.items (source_in w.net.connections) };
+        × IsTable (rows_of w.sources.items) (source_in w.net.connections) × AreFirstApart w.ahead.items w.ahead_ports.items (target_in w.net.connections)
+        × (length w.ahead.items ≡ length w.net.shapes) × (length w.ahead_ports.items ≡ length w.net.shapes) × AreFirst w.behind.items (source_in w.net.connections) };
 }
 
 /// The connection's port at a side: the output that it leaves, or the input that it comes to.
@@ -174,6 +176,65 @@ fn first_ends(
     Ok(ports)
 }
 
+/// The elements of ends of connections.
+fn elements_at(alloc: Global, ends: &[ConnectionEnd]) -> Result<Vec<usize>, AllocError>
+    ensures { IfOk result (λ places. places.items ≡ map element_of ends.now) }
+{
+    let mut places = Vec::with_capacity(alloc, ends.len())?;
+    for end in ends {
+        places.push(end.element)?;
+    }
+    Ok(places)
+}
+
+/// The ports of ends of connections.
+fn ports_at(alloc: Global, ends: &[ConnectionEnd]) -> Result<Vec<u16>, AllocError>
+    ensures { IfOk result (λ ports. ports.items ≡ map port_of ends.now) }
+{
+    let mut ports = Vec::with_capacity(alloc, ends.len())?;
+    for end in ends {
+        ports.push(end.port)?;
+    }
+    Ok(ports)
+}
+
+/// What the first port of an element is joined to, where elements and ports stand apart.
+#[inline(always)]
+fn near_apart(places: &[usize], ports: &[u16], at: usize) -> ConnectionEnd
+    requires { length ports.now ≡ length places.now }
+    ensures { result ≡ end_apart places.now ports.now at }
+{
+    match places.get(at) {
+        Some(place) => ConnectionEnd {
+            element: *place,
+            port: ports[at],
+        },
+        None => NOWHERE,
+    }
+}
+
+/// What the ports of an element are joined to, as far as any is.
+#[inline(always)]
+fn row_at(rows: &[Vec<Option<ConnectionEnd>>], at: usize) -> &[Option<ConnectionEnd>]
+    ensures { result.now ≡ slice_index_or (rows_of rows.now) at [] }
+{
+    match rows.get(at) {
+        Some(row) => row.as_slice(),
+        None => &[],
+    }
+}
+
+/// What a port of a row is joined to.
+#[inline(always)]
+pub(crate) fn far_in(row: &[Option<ConnectionEnd>], port: usize) -> ConnectionEnd
+    ensures { result ≡ far_of (slice_index_or row.now port None) }
+{
+    match row.get(port) {
+        Some(noted) => far_of(*noted),
+        None => NOWHERE,
+    }
+}
+
 /// What the first port of an element is joined to.
 #[inline(always)]
 fn near(ports: &[ConnectionEnd], at: usize) -> ConnectionEnd
@@ -186,9 +247,9 @@ fn near(ports: &[ConnectionEnd], at: usize) -> ConnectionEnd
 }
 
 impl Adjacency {
-    ghost use Rattle.std.specs.Prelude.{◌≡◌, IfOk, length};
+    ghost use Rattle.std.specs.Prelude.{◌≡◌, ℕ, IfOk, None, length, slice_index_or};
     ghost use Rattle.click_engine.specs.Adjacency.{wiring_of};
-    ghost use Rattle.click_engine.specs.kept.Tables.{far_of, AreFirst};
+    ghost use Rattle.click_engine.specs.kept.Tables.{far_of, AreFirstApart};
 
     /// The tables of a net.
     pub fn new(alloc: Global, net: Net) -> Result<Adjacency, AllocError>
@@ -196,13 +257,16 @@ impl Adjacency {
     {
         let targets = joined(alloc, &net, Side::Output, Side::Input)?;
         let sources = joined(alloc, &net, Side::Input, Side::Output)?;
-        let ahead = first_ends(alloc, targets.as_slice())?;
+        let firsts = first_ends(alloc, targets.as_slice())?;
+        let ahead = elements_at(alloc, firsts.as_slice())?;
+        let ahead_ports = ports_at(alloc, firsts.as_slice())?;
         let behind = first_ends(alloc, sources.as_slice())?;
         Ok(Adjacency {
             net,
             targets,
             sources,
             ahead,
+            ahead_ports,
             behind,
         })
     }
@@ -214,13 +278,22 @@ impl Adjacency {
         &self.net
     }
 
-    /// The input that a push at the first output of each element goes to.
+    /// The elements that pushes at the first output of each element go to, and their inputs.
     #[inline(always)]
-    pub(crate) fn ahead(&self) -> &[ConnectionEnd]
-        ensures first { AreFirst result.now (wiring_of self.now).target }
-        ensures all { length result.now ≡ length self.now.shapes }
+    pub(crate) fn ahead(&self) -> (&[usize], &[u16])
+        ensures first { AreFirstApart result.0.now result.1.now (wiring_of self.now).target }
+        ensures all { length result.0.now ≡ length self.now.shapes }
+        ensures ports { length result.1.now ≡ length self.now.shapes }
     {
-        self.ahead.as_slice()
+        (self.ahead.as_slice(), self.ahead_ports.as_slice())
+    }
+
+    /// What the outputs of an element are joined to, as far as any is.
+    #[inline(always)]
+    pub(crate) fn targets(&self, at: usize) -> &[Option<ConnectionEnd>]
+        ensures { (output : ℕ) → slice_index_or result.now output None ≡ (wiring_of self.now).target at output }
+    {
+        row_at(self.targets.as_slice(), at)
     }
 
     /// How many elements there are.
@@ -237,7 +310,7 @@ impl Adjacency {
         ensures { result ≡ far_of ((wiring_of self.now).target at output) }
     {
         if output == 0 {
-            return near(self.ahead.as_slice(), at);
+            return near_apart(self.ahead.as_slice(), self.ahead_ports.as_slice(), at);
         }
         far_of(look_up(self.targets.as_slice(), at, output))
     }

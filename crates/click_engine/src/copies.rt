@@ -4,7 +4,7 @@ ghost use Rattle.click_engine.specs.Adjacency.{run_state_of, wiring_of};
 ghost use Rattle.click_engine.specs.kept.Transfers.{Served};
 ghost use Rattle.click_engine.specs.kept.Slots.{ServedAbove};
 
-use crate::adjacency::Adjacency;
+use crate::adjacency::{Adjacency, far_in};
 use crate::run_state::RunMemory;
 use crate::transfer_stack::PushFrame;
 use crate::transfers::push_copy;
@@ -20,12 +20,13 @@ fn push_copies(
     ensures { Served (wiring_of adjacency.now) (run_state_of run_memory.old) (run_state_of run_memory.new) push_frame.old push_frame.new copy.new }
 {
     copy.count = 0;
+    let row = adjacency.targets(push_frame.at);
     while copy.count == 0 && push_frame.count > 1 {
         copy.packet.copy_from(&push_frame.packet);
         let output = push_frame.first;
         push_frame.first += 1;
         push_frame.count -= 1;
-        push_copy(adjacency, run_memory, push_frame.at, output, copy);
+        push_copy(adjacency, run_memory, far_in(row, output), copy);
     }
 }
 

@@ -3,7 +3,7 @@ ghost use Rattle.std.specs.Prelude.{◌≡◌, ℕ, ◌+◌, ◌<◌, ◌⊎◌,
 ghost use Rattle.click_engine.specs.RunState.{Wiring};
 ghost use Rattle.click_engine.specs.Adjacency.{run_state_of, wiring_of};
 ghost use Rattle.click_engine.specs.kept.Transfers.{run_state_with, run_state_after, Along, Pushed, Reached};
-ghost use Rattle.click_engine.specs.kept.Tables.{far_of, AreFirst};
+ghost use Rattle.click_engine.specs.kept.Tables.{far_of, AreFirstApart};
 
 use crate::adjacency::Adjacency;
 use crate::run_state::{ConnectionEnd, Element, RunMemory, act_at};
@@ -72,13 +72,23 @@ pub(crate) fn push_over(
 
 /// The input that a push at an output goes to, of an element that is in the table of first outputs.
 #[inline(always)]
-fn far_from(adjacency: &Adjacency, ahead: &[ConnectionEnd], at: usize, output: u16) -> ConnectionEnd
-    requires ahead { AreFirst ahead.now (wiring_of adjacency.now).target }
-    requires there { at < length ahead.now }
+fn far_from(
+    adjacency: &Adjacency,
+    places: &[usize],
+    ports: &[u16],
+    at: usize,
+    output: u16,
+) -> ConnectionEnd
+    requires ahead { AreFirstApart places.now ports.now (wiring_of adjacency.now).target }
+    requires place { at < length places.now }
+    requires port { at < length ports.now }
     ensures { result ≡ far_of ((wiring_of adjacency.now).target at output) }
 {
     if output == 0 {
-        ahead[at]
+        ConnectionEnd {
+            element: places[at],
+            port: ports[at],
+        }
     } else {
         adjacency.target(at, output as usize)
     }
@@ -102,7 +112,7 @@ fn push_on(
     ensures ends { (push_frame.new.count ≡ 0) ⊎ (1 < push_frame.new.count) }
     ensures lost { result ≡ false → push_frame.new.count ≡ 0 }
 {
-    let ahead = adjacency.ahead();
+    let (places, ports) = adjacency.ahead();
     let mut far = first;
     while *left > 0 {
         let outputs = act_at(elements, far.element, far.port, &mut push_frame.packet);
@@ -117,7 +127,7 @@ fn push_on(
             push_frame.count = outputs.count as usize;
             return true;
         }
-        far = far_from(adjacency, ahead, far.element, outputs.first);
+        far = far_from(adjacency, places, ports, far.element, outputs.first);
         *left -= 1;
     }
     push_frame.count = 0;
@@ -206,20 +216,19 @@ pub(crate) fn push_along(
     }
 }
 
-/// The same for the packet of `push_frame` at an output. Its first step is made here: mostly a copy ends with it.
+/// The same for the packet of `push_frame` into an input. Its first step is made here: mostly a copy ends with it.
 #[inline(always)]
 pub(crate) fn push_copy(
     adjacency: &Adjacency,
     run_memory: &mut RunMemory,
-    at: usize,
-    output: usize,
+    far: ConnectionEnd,
     push_frame: &mut PushFrame,
 )
-    ensures along { Along (wiring_of adjacency.now) (run_state_of run_memory.old) (run_state_of run_memory.new) at output 1 push_frame.old.packet
-        push_frame.new.at push_frame.new.first push_frame.new.count push_frame.new.packet }
+    ensures along { (at output : ℕ) → far ≡ far_of ((wiring_of adjacency.now).target at output) → Along (wiring_of adjacency.now) (run_state_of run_memory.old) (run_state_of run_memory.new)
+        at output 1 push_frame.old.packet push_frame.new.at push_frame.new.first push_frame.new.count push_frame.new.packet }
     ensures ends { (push_frame.new.count ≡ 0) ⊎ (1 < push_frame.new.count) }
 {
-    push_over(adjacency, run_memory, at, output, push_frame);
+    push_into(run_memory, far, push_frame);
     push_along(adjacency, run_memory, push_frame);
 }
 

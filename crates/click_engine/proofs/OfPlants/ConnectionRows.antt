@@ -10,7 +10,7 @@ use Rattle.click_classes.specs.declared.ports.Side.{Side}
 use Rattle.click_classes.specs.declared.ports.Side.TheVariants.{Input, Output}
 use Rattle.click_expand.specs.declared.flat.Connection.{Connection}
 use Rattle.click_engine.specs.Adjacency.{end_of, is_port, first_joined}
-use Rattle.click_engine.specs.kept.Tables.{entry, far_of, first_far, first_of, nowhere, rows_of, AreFirst, IsNoted, IsTable}
+use Rattle.click_engine.specs.kept.Tables.{element_of, end_apart, entry, far_of, first_far, first_of, nowhere, port_of, rows_of, AreFirst, AreFirstApart, IsNoted, IsTable}
 use Rattle.click_engine.specs.declared.run_state.ConnectionEnd.{ConnectionEnd}
 
 pub padded : (xs : List (Option ConnectionEnd)) (n : ℕ) → get_or (xs ++ None ∷ []) n None ≡ get_or xs n None
@@ -99,3 +99,13 @@ first_at (row ∷ rows) (suc at) = first_at rows at
 
 pub firsts_are : (rows : List (List (Option ConnectionEnd))) (f : ℕ → ℕ → Option ConnectionEnd) (ports : List ConnectionEnd) → IsTable rows f → ports ≡ map first_far rows → AreFirst ports f
 firsts_are rows f ports table is at = rw is (first_at rows at ∙ ap far_of (table at 0))
+
+-- the same, where elements and ports stand apart
+apart_at : (rows : List (List (Option ConnectionEnd))) (at : ℕ) → end_apart (map element_of (map first_far rows)) (map port_of (map first_far rows)) at ≡ far_of (entry rows at 0)
+apart_at [] at = refl
+apart_at (row ∷ rows) zero = refl
+apart_at (row ∷ rows) (suc at) = apart_at rows at
+
+pub firsts_apart : (rows : List (List (Option ConnectionEnd))) (f : ℕ → ℕ → Option ConnectionEnd) (ends : List ConnectionEnd) (places ports : List ℕ) → IsTable rows f
+    → ends ≡ map first_far rows → places ≡ map element_of ends → ports ≡ map port_of ends → AreFirstApart places ports f
+firsts_apart rows f ends places ports table is at_places at_ports at = rw (at_places, at_ports, is) (apart_at rows at ∙ ap far_of (table at 0))

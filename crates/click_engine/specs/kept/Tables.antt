@@ -32,6 +32,19 @@ first_far row = far_of (slice_index_or row 0 None)
 abbrev pub AreFirst : List ConnectionEnd → (ℕ → ℕ → Option ConnectionEnd) → Type 0
 AreFirst ports f = (at : ℕ) → slice_index_or ports at nowhere ≡ far_of (f at 0)
 
+-- the same, where elements and ports stand apart
+abbrev pub element_of : ConnectionEnd → ℕ
+element_of p = p.element
+
+abbrev pub port_of : ConnectionEnd → ℕ
+port_of p = p.port
+
+abbrev pub end_apart : List ℕ → List ℕ → ℕ → ConnectionEnd
+end_apart places ports at = record { element = slice_index_or places at (2 ^ 64 - 1); port = slice_index_or ports at 0 }
+
+abbrev pub AreFirstApart : List ℕ → List ℕ → (ℕ → ℕ → Option ConnectionEnd) → Type 0
+AreFirstApart places ports f = (at : ℕ) → end_apart places ports at ≡ far_of (f at 0)
+
 -- what was noted, else the far port where it is its turn
 abbrev pub first_of : Option ConnectionEnd → Bool → ConnectionEnd → Option ConnectionEnd
 first_of None here far = if here then Some far else None
