@@ -242,7 +242,7 @@ fn states_of(alloc: Global, elements: &[FlatElement]) -> Result<Vec<State>, Conf
     ensures fresh { IfOk result (λ v. AreFresh elements.now v.items) }
     ensures err { IfErr result (λ f. IsMemoryOr f (IsUnfit elements.now f)) }
 {
-    let mut states = Vec::new(alloc);
+    let mut states = Vec::with_capacity(alloc, elements.len())?;
     for element in elements {
         push(&mut states, state_of(alloc, element)?)?;
     }
