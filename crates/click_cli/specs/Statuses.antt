@@ -1,0 +1,34 @@
+-- How a program ends.
+use Rattle.std.specs.Prelude.{ℕ}
+use Rattle.std.specs.declared.io.ErrorKind.{ErrorKind}
+use Rattle.std.specs.declared.io.ErrorKind.TheVariants as io
+use Rattle.clap.specs.declared.error.kind.ErrorKind.{ErrorKind as ParseErrorKind}
+use Rattle.clap.specs.declared.error.kind.ErrorKind.TheVariants as parse
+use Rattle.click_router.specs.declared.fault.FaultKind.{FaultKind}
+use Rattle.click_router.specs.declared.fault.FaultKind.TheVariants as kind
+use Rattle.click_cli.specs.declared.status.Status.{Status}
+use Rattle.click_cli.specs.declared.status.Status.TheVariants as status
+
+-- the number that the program's caller sees
+abbrev pub code : Status → ℕ
+code status.Good = 0
+code status.Faulty = 1
+code status.Wrong = 2
+code status.NoMemory = 3
+code status.Refused = 3
+code status.DeviceFailed = 4
+
+-- by the fault of a configuration
+abbrev pub config_status : FaultKind → Status
+config_status kind.NoMemory = status.NoMemory
+config_status _ = status.Faulty
+
+-- where the words of the command line cannot be read
+abbrev pub unread_status : ErrorKind → Status
+unread_status io.OutOfMemory = status.NoMemory
+unread_status _ = status.Wrong
+
+-- where clap has something to say of them
+abbrev pub parse_status : ParseErrorKind → Status
+parse_status parse.OutOfMemory = status.NoMemory
+parse_status _ = status.Wrong
