@@ -1,12 +1,9 @@
 -- What the words of a command line ask for.
-use Rattle.std.specs.Prelude.{◌≡◌, List, ℕ, Bool, true, false, Option, Some, None, codes, option_map}
+use Rattle.std.specs.Prelude.{◌≡◌, codes, option_map}
 use Rattle.clap.specs.Matches.{first_value, one_text}
 use Rattle.clap.specs.declared.parser.matches.Found.{Found}
+use Rattle.click_cli.specs.Options.{IsFlag}
 use Rattle.click_calls.specs.declared.arguments.Options.{Options}
-
--- the flag of this value, as clap keeps it
-abbrev pub IsFlag : Option (List ℕ) → Bool → Type 0
-IsFlag value flag = (value ≡ None → flag ≡ false) × (value ≡ Some (codes "true") → flag ≡ true) × (value ≡ Some (codes "false") → flag ≡ false)
 
 -- the options are what clap found
 pub record AsksFor (found : Found) (options : Options) : Type 0 where

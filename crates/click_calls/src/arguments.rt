@@ -1,13 +1,14 @@
 //! The program's command line.
 
-ghost use Rattle.std.specs.Prelude.{◌≡◌, IfOk, codes, false, is_some, true};
-ghost use Rattle.clap.specs.Built.{IsParsedFrom, IsPlainArg, TakesValue};
-ghost use Rattle.clap.specs.Matches.{first_value, found_of};
+ghost use Rattle.std.specs.Prelude.{◌≡◌, IfOk, is_some, true};
+ghost use Rattle.clap.specs.Built.{IsParsedFrom};
+ghost use Rattle.clap.specs.Matches.{found_of};
 ghost use Rattle.clap.specs.declared.builder.command.Command.{Command};
 ghost use Rattle.clap.specs.declared.parser.matches.ArgMatches.{ArgMatches};
 ghost use Rattle.click_calls.specs.Asked.{AsksFor};
 
-use clap::{Arg, ArgAction, ArgMatches, Command, Error};
+use clap::{ArgMatches, Command, Error};
+use click_cli::{CommandOption, OptionName, TEXT, Takes, parse};
 use std::alloc::Global;
 
 /// What the words of a command line ask for.
@@ -19,6 +20,17 @@ pub struct Options<'a> {
     pub replay: bool,
 }
 
+/// The options that the words may have.
+const OPTIONS: [CommandOption; 2] = [
+    TEXT,
+    CommandOption {
+        id: "replay",
+        name: OptionName::Long("replay"),
+        takes: Takes::Nothing,
+        help: "The lines are those of click_prog --book: makes their calls again, and tells at which line the first reply differs",
+    },
+];
+
 /// What the words of a command line ask for, or what clap has to say of them. `-e` takes the next word whatever it is.
 pub fn options_of<'a>(alloc: Global, words: &'a [String]) -> Result<Options<'a>, Error>
     // Where clap has nothing to say there is a text.
@@ -26,7 +38,12 @@ pub fn options_of<'a>(alloc: Global, words: &'a [String]) -> Result<Options<'a>,
     // They are what some parse found.
     ensures asked { IfOk result (λ options. (command : Command) × (matches : ArgMatches) × IsParsedFrom command matches × AsksFor (found_of matches) options) }
 {
-    let matches = parsed(alloc, words)?;
+    let command = Command::new(alloc, "click_calls")
+        .about("A Click router that answers calls, one a line, on standard input and output")
+        .after_help(
+            "Calls: arrive DEVICE HEX, poll DEVICE HEX,HEX,.., round, transmit DEVICE, read NAME [TEXT], write NAME [TEXT],\ncheckread NAME, checkwrite NAME, swap TEXT. HEX is a packet, - one of no bytes; NAME is a handler, as c.count of the\nelement c. docs/CALLS.md has the replies.",
+        );
+    let matches = parse(alloc, command, &OPTIONS, words)?;
     Ok(options_in(&matches))
 }
 
@@ -38,46 +55,4 @@ fn options_in<'a>(matches: &ArgMatches<'a>) -> Options<'a>
         text: matches.get_str("text"),
         replay: matches.get_flag("replay"),
     }
-}
-
-/// What clap finds in the words.
-fn parsed<'a>(alloc: Global, words: &'a [String]) -> Result<ArgMatches<'a>, Error>
-    ensures text { IfOk result (λ matches. is_some (first_value (found_of matches) (codes "text")) ≡ true) }
-    ensures parsed { IfOk result (λ matches. (command : Command) × IsParsedFrom command matches) }
-{
-    let command = Command::new(alloc, "click_calls")
-        .about("A Click router that answers calls, one a line, on standard input and output")
-        .after_help(
-            "Calls: arrive DEVICE HEX, poll DEVICE HEX,HEX,.., round, transmit DEVICE, read NAME [TEXT], write NAME [TEXT],\ncheckread NAME, checkwrite NAME, swap TEXT. HEX is a packet, - one of no bytes; NAME is a handler, as c.count of the\nelement c. docs/CALLS.md has the replies.",
-        )
-        .arg(text_argument(alloc))?
-        .arg(replay_argument(alloc))?;
-    let matches = command.try_get_matches_from(words)?;
-    Ok(matches)
-}
-
-/// The option of the configuration.
-fn text_argument<'a>(alloc: Global) -> Arg<'a>
-    ensures plain { (result.id.now ≡ codes "text") × IsPlainArg result × (result.global ≡ false) }
-    ensures takes { TakesValue result }
-{
-    Arg::new(alloc, "text")
-        .short('e')
-        .value_name("TEXT")
-        .help("The configuration of the router")
-        .required(true)
-        .allow_hyphen_values(true)
-        .action(ArgAction::Set)
-}
-
-/// The flag of lines that are made again.
-fn replay_argument<'a>(alloc: Global) -> Arg<'a>
-    ensures { (result.id.now ≡ codes "replay") × IsPlainArg result × (result.global ≡ false) }
-{
-    Arg::new(alloc, "replay")
-        .long("replay")
-        .help(
-            "The lines are those of click_prog --book: makes their calls again, and tells at which line the first reply differs",
-        )
-        .action(ArgAction::SetTrue)
 }

@@ -5,7 +5,7 @@ ghost use Rattle.std.specs.Prelude.{◌≡◌, IfOk, IfSome};
 ghost use Rattle.std.specs.Io.KnownBytes.{Appends};
 ghost use Rattle.click_calls.specs.InputLines.{lines_of};
 ghost use Rattle.click_calls.specs.Replays.{IsReplayed, replayed_line};
-ghost use Rattle.click_calls.specs.Statuses.{code, config_status, replayed_status, fault_status, unread_status};
+ghost use Rattle.click_calls.specs.Statuses.{fault_status, replayed_status};
 
 mod answering;
 mod arguments;
@@ -14,45 +14,15 @@ mod replay;
 
 use answering::{CallsFault, answer_all, lines_of};
 use arguments::options_of;
-use clap::error::ErrorKind;
+use click_cli::{Status, refuse_arguments, refuse_configuration, words_of};
 use click_handlers::{Table, TakesTable, with_table};
-use click_router::{ConfigFault, FaultKind, Handlers, Router, prepare};
+use click_router::{Handlers, Router, prepare};
 use replay::{ReplayOutcome, tell_replayed};
 use std::alloc::Global;
 use std::io::{BufRead, BufReader, Write};
 use std::process::ExitCode;
 use std::sync::Wait;
 use std::thread::Threads;
-use std::{env, io};
-
-/// How the program ends, for its caller.
-#[derive(Clone, Copy, Debug, PartialEq, Eq)]
-enum Status {
-    Good,
-    FaultyConfiguration,
-    /// A call that is made again gets another reply.
-    Differs,
-    /// The arguments are wrong, or a line is no call.
-    Wrong,
-    NoMemory,
-    DeviceFailed,
-}
-
-impl Status {
-    /// The number that the caller sees.
-    fn code(self) -> u8
-        ensures { result ≡ code self }
-    {
-        match self {
-            Status::Good => 0,
-            Status::FaultyConfiguration => 1,
-            Status::Differs => 1,
-            Status::Wrong => 2,
-            Status::NoMemory => 3,
-            Status::DeviceFailed => 4,
-        }
-    }
-}
 
 fn main(rt: HostRuntime) -> ExitCode {
     ExitCode::from(program(&rt, &rt).code())
@@ -61,12 +31,9 @@ fn main(rt: HostRuntime) -> ExitCode {
 /// Reads the command line and answers the calls on standard input.
 fn program<R: Threads + Wait + Sync>(threads: &R, rt: &HostRuntime) -> Status {
     let alloc = rt.alloc();
-    let words = match env::args(rt) {
+    let words = match words_of(rt, "click_calls") {
         Ok(words) => words,
-        Err(error) => return refuse_words(rt, error.kind()),
-    };
-    let Ok(words) = words.collect::<Vec<String>>(alloc) else {
-        return Status::NoMemory;
+        Err(status) => return status,
     };
     match options_of(alloc, words.as_slice()) {
         Ok(options) => {
@@ -80,25 +47,8 @@ fn program<R: Threads + Wait + Sync>(threads: &R, rt: &HostRuntime) -> Status {
                 Err(_) => Status::NoMemory,
             }
         }
-        Err(error) if error.kind() == ErrorKind::OutOfMemory => Status::NoMemory,
-        Err(error) => {
-            // A failed write changes nothing of the status.
-            let _ = rt.eprint(&error);
-            Status::Wrong
-        }
+        Err(error) => refuse_arguments(rt, &error),
     }
-}
-
-/// Tells why the words of the command line cannot be read: memory ran out, or one of them is no text.
-fn refuse_words(rt: &HostRuntime, kind: io::ErrorKind) -> Status
-    ensures { result ≡ unread_status kind }
-{
-    if kind == io::ErrorKind::OutOfMemory {
-        return Status::NoMemory;
-    }
-    // A failed write changes nothing of the status.
-    let _ = rt.eprintln("click_calls: an argument is not UTF-8");
-    Status::Wrong
 }
 
 /// The calls on standard input, to a router of this text; with their replies, where they are made again.
@@ -122,7 +72,7 @@ fn calls<T: Handlers + Drop>(rt: &HostRuntime, table: T, text: &[u8], replay: bo
     let alloc = rt.alloc();
     let mut router = match prepare(alloc, text) {
         Ok(prepared) => Router::open(table, prepared),
-        Err(fault) => return refuse(rt, &fault),
+        Err(fault) => return refuse_configuration(alloc, &mut rt.stderr(), b"", &fault),
     };
     let Ok(mut input) = BufReader::new(alloc, rt.stdin()) else {
         return Status::NoMemory;
@@ -160,30 +110,9 @@ fn replayed_status(replayed: &ReplayOutcome) -> Status
 {
     match replayed {
         ReplayOutcome::Same { .. } => Status::Good,
-        ReplayOutcome::Differs { .. } => Status::Differs,
+        ReplayOutcome::Differs { .. } => Status::Faulty,
         ReplayOutcome::NoLine { .. } => Status::Wrong,
     }
-}
-
-/// Tells why a configuration is refused; nothing where memory ran out.
-fn refuse(rt: &HostRuntime, fault: &ConfigFault) -> Status
-    ensures { result ≡ config_status fault.now.kind }
-{
-    if fault.kind == FaultKind::NoMemory {
-        return Status::NoMemory;
-    }
-    // A failed write changes nothing of the status.
-    let _ = match fault.text(rt.alloc()) {
-        Ok(text) => write_line(&mut rt.stderr(), text.as_slice()),
-        Err(_) => write_line(&mut rt.stderr(), b"faulty configuration"),
-    };
-    Status::FaultyConfiguration
-}
-
-/// Writes a line.
-fn write_line<W: Write>(to: &mut W, text: &[u8]) -> io::Result<()> {
-    to.write_all(text)?;
-    to.write_all(b"\n")
 }
 
 /// Tells which line is no call, if it is that.

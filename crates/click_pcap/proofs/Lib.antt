@@ -4,4 +4,3 @@ pub mod Routers
 pub mod Passing
 pub mod Outputs
 pub mod OneWay
-pub mod Options

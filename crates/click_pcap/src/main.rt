@@ -1,6 +1,9 @@
 //! A router that takes a capture of packets from standard input and writes one to standard output.
 #![tactic(auto)]
 
+ghost use Rattle.std.specs.Prelude.{◌≡◌};
+ghost use Rattle.click_pcap.specs.Statuses.{passage_status};
+
 mod arguments;
 mod carry_fault;
 mod carrying;
@@ -14,19 +17,13 @@ mod writing;
 use arguments::options_of;
 use carry_fault::CarryFault;
 use carrying::carry;
-use clap::error::ErrorKind;
+use click_cli::{Status, refuse_arguments, refuse_configuration, words_of};
 use click_control::{Reading, Writing};
 use passage::{Passage, PassageFault};
-use status::{Status, carry_status, passage_status, unread_status};
+use status::carry_status;
 use std::io::{BufReader, Write};
 use std::process::ExitCode;
-use std::{env, io};
 use tally::Tally;
-
-/// What is told where the router lacks a device.
-const NO_SOURCE: &[u8] = b"error: the configuration has no source of the device --in";
-
-const NO_SINK: &[u8] = b"error: the configuration has no sink of the device --out";
 
 fn main(rt: HostRuntime) -> ExitCode {
     ExitCode::from(program(&rt).code())
@@ -35,12 +32,9 @@ fn main(rt: HostRuntime) -> ExitCode {
 /// Reads the command line and carries the packets on standard input.
 fn program(rt: &HostRuntime) -> Status {
     let alloc = rt.alloc();
-    let words = match env::args(rt) {
+    let words = match words_of(rt, "click_pcap") {
         Ok(words) => words,
-        Err(error) => return refuse_words(rt, error.kind()),
-    };
-    let Ok(words) = words.collect::<Vec<String>>(alloc) else {
-        return Status::NoMemory;
+        Err(status) => return status,
     };
     match options_of(alloc, words.as_slice()) {
         Ok(options) => run(
@@ -49,23 +43,8 @@ fn program(rt: &HostRuntime) -> Status {
             options.source.unwrap().as_bytes(),
             options.sink.unwrap().as_bytes(),
         ),
-        Err(error) if error.kind() == ErrorKind::OutOfMemory => Status::NoMemory,
-        Err(error) => {
-            // A failed write changes nothing of the status.
-            let _ = rt.eprint(&error);
-            Status::WrongArguments
-        }
+        Err(error) => refuse_arguments(rt, &error),
     }
-}
-
-/// Tells why the words of the command line cannot be read: memory ran out, or one of them is no text.
-fn refuse_words(rt: &HostRuntime, kind: io::ErrorKind) -> Status {
-    let status = unread_status(kind);
-    if status == Status::WrongArguments {
-        // A failed write changes nothing of the status.
-        let _ = rt.eprintln("click_pcap: an argument is not UTF-8");
-    }
-    status
 }
 
 /// Opens the router of the text and carries the packets through it.
@@ -75,10 +54,7 @@ fn run(rt: &HostRuntime, text: &[u8], source: &[u8], sink: &[u8]) -> Status {
             Ok(()) => Status::Good,
             Err(carry_fault) => carry_status(carry_fault),
         },
-        Err(why) => {
-            refuse(rt, &why);
-            passage_status(&why)
-        }
+        Err(why) => refuse(rt, &why),
     }
 }
 
@@ -126,21 +102,24 @@ fn tell_tally(rt: &HostRuntime, tally: &Tally) {
 }
 
 /// Tells why there is no passage; nothing where memory ran out.
-fn refuse(rt: &HostRuntime, why: &PassageFault) {
-    // A failed write changes nothing of the status.
-    let _ = match why {
-        PassageFault::Config(fault) => match fault.text(rt.alloc()) {
-            Ok(text) => write_line(&mut rt.stderr(), text.as_slice()),
-            Err(_) => write_line(&mut rt.stderr(), b"faulty configuration"),
-        },
-        PassageFault::NoSource => write_line(&mut rt.stderr(), NO_SOURCE),
-        PassageFault::NoSink => write_line(&mut rt.stderr(), NO_SINK),
-        PassageFault::NoMemory => Ok(()),
-    };
+fn refuse(rt: &HostRuntime, why: &PassageFault) -> Status
+    ensures { result ≡ passage_status why.now }
+{
+    match why {
+        PassageFault::Config(fault) => {
+            refuse_configuration(rt.alloc(), &mut rt.stderr(), b"", fault)
+        }
+        PassageFault::NoSource => refuse_device(rt, "source of the device --in"),
+        PassageFault::NoSink => refuse_device(rt, "sink of the device --out"),
+        PassageFault::NoMemory => Status::NoMemory,
+    }
 }
 
-/// Writes a line.
-fn write_line<W: Write>(to: &mut W, text: &[u8]) -> io::Result<()> {
-    to.write_all(text)?;
-    to.write_all(b"\n")
+/// Tells what the router lacks.
+fn refuse_device(rt: &HostRuntime, lacks: &str) -> Status
+    ensures { result ≡ Status.Faulty }
+{
+    // A failed write changes nothing of the status.
+    let _ = eprintln!(rt; "error: the configuration has no {lacks}");
+    Status::Faulty
 }

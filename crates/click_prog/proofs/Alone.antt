@@ -2,7 +2,7 @@
 use Rattle.std.proofs.Common.{ℕ, List, Bool, Option}
 use Rattle.click_control.specs.Peers.{Input, Output}
 use Rattle.click_prog.specs.Running.{RunsTo, RunsAlone, fresh_input, fresh_output}
-use Rattle.click_prog.specs.declared.status.Status.{Status}
+use Rattle.click_cli.specs.declared.status.Status.{Status}
 
 -- a run with these peers is one with some
 pub alone-of : (text : List ℕ) (readonly : Bool) (input output : Option (List ℕ)) (left : Input) (holds : Output) (s : Status)

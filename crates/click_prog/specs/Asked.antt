@@ -6,6 +6,7 @@ use Rattle.clap.specs.declared.parser.matches.Found.{Found}
 use Rattle.clap.specs.Built.{IsParsedFrom}
 use Rattle.clap.specs.declared.builder.command.Command.{Command}
 use Rattle.clap.specs.declared.parser.matches.ArgMatches.{ArgMatches}
+use Rattle.click_cli.specs.Options.{IsFlag}
 use Rattle.click_prog.specs.declared.arguments.NoNumber.{NoNumber}
 use Rattle.click_prog.specs.declared.arguments.Options.{Options}
 use Rattle.click_prog.specs.declared.arguments.ArgumentRefusal.{ArgumentRefusal}
@@ -28,10 +29,6 @@ IsGivenOr least most usual (Some text) n = IsNumber least most text n
 -- the option of this id, which takes numbers of this range, has a value that is none
 abbrev pub IsMistyped : Found → List ℕ → ℕ → ℕ → NoNumber → Type 0
 IsMistyped found id least most n = (first_value found id ≡ Some n.text.now) × (n.least ≡ least) × (n.most ≡ most) × IsNoNumber least most n.text.now
-
--- the flag of this value, as clap keeps it
-abbrev pub IsFlag : Option (List ℕ) → Bool → Type 0
-IsFlag value flag = (value ≡ None → flag ≡ false) × (value ≡ Some (codes "true") → flag ≡ true) × (value ≡ Some (codes "false") → flag ≡ false)
 
 -- the values of an option that may be given several times, in order
 abbrev pub values_of : Found → List ℕ → List (List ℕ)

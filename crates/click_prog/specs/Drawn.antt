@@ -4,9 +4,9 @@ use Rattle.std.specs.Io.KnownBytes.{Appends}
 use Rattle.click_router.specs.Opened.{IsFirstFault, IsMemoryOr}
 use Rattle.click_router.specs.declared.fault.ConfigFault.{ConfigFault}
 use Rattle.click_page.specs.Drawn.{IsPicture}
-use Rattle.click_prog.specs.Statuses.{config_status}
-use Rattle.click_prog.specs.declared.status.Status.{Status}
-use Rattle.click_prog.specs.declared.status.Status.TheVariants as status
+use Rattle.click_cli.specs.Statuses.{config_status}
+use Rattle.click_cli.specs.declared.status.Status.{Status}
+use Rattle.click_cli.specs.declared.status.Status.TheVariants as status
 
 -- a picture was written, whole, and nothing else
 pub record HasDrawn (text : List ℕ) (held holds : Option (List ℕ)) (s : Status) : Type 0 where

@@ -16,8 +16,8 @@ use Rattle.click_workers.specs.declared.session.SessionEnd.{SessionEnd}
 use Rattle.click_prog.specs.Paging.{IsPaged}
 use Rattle.click_prog.specs.Running.{Planned}
 use Rattle.click_prog.specs.Statuses.{opening_status, sessions_status}
-use Rattle.click_prog.specs.declared.status.Status.{Status}
-use Rattle.click_prog.specs.declared.status.Status.TheVariants as status
+use Rattle.click_cli.specs.declared.status.Status.{Status}
+use Rattle.click_cli.specs.declared.status.Status.TheVariants as status
 
 -- Places for sessions, drivers, a forwarder of these receivers' devices and other work were at one desk of this text that keeps nothing, each with a seat of its own, at a gate that they share; each place served so many sessions,
 -- one after another; there is one history of one thread with just their calls and replies. By the link of each device just the packets of the replies to its Transmits in that history were sent, in order, after those

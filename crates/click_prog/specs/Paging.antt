@@ -16,7 +16,7 @@ use Rattle.click_workers.specs.Work.{AttendedInTurn, DroveFor}
 use Rattle.click_workers.specs.declared.session.SessionEnd.{SessionEnd}
 use Rattle.click_prog.specs.Running.{Planned, HaveNotRun}
 use Rattle.click_prog.specs.Statuses.{sessions_status}
-use Rattle.click_prog.specs.declared.status.Status.{Status}
+use Rattle.click_cli.specs.declared.status.Status.{Status}
 
 -- a page over what answers its calls, at this port
 abbrev pub page_at : {P : Type 0} → P → Bool → ℕ → Paged P

@@ -9,7 +9,7 @@ use Rattle.click_workers.specs.Work.{Attended, AttendedInTurn, Drove, DroveFor, 
 use Rattle.click_workers.specs.declared.session.SessionEnd.{SessionEnd}
 use Rattle.click_workers.specs.declared.runs.RunFault.{RunFault}
 use Rattle.click_prog.specs.Statuses.{end_status, fault_status, sessions_status}
-use Rattle.click_prog.specs.declared.status.Status.{Status}
+use Rattle.click_cli.specs.declared.status.Status.{Status}
 
 -- How many sessions and drivers there are, how many rounds each driver makes, whether sessions may only read, and whether the router stays.
 pub record Planned : Type 0 where

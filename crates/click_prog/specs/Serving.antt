@@ -5,7 +5,7 @@ use Rattle.click_prog.specs.Linking.{LinkedTo}
 use Rattle.click_prog.specs.Paging.{PagedRunTo}
 use Rattle.click_prog.specs.Running.{Planned, AllRunTo, LiveRunTo}
 use Rattle.click_prog.specs.declared.linking.OpenedLinks.{OpenedLinks}
-use Rattle.click_prog.specs.declared.status.Status.{Status}
+use Rattle.click_cli.specs.declared.status.Status.{Status}
 
 -- whether a session on standard input and output is all that there is: nothing is beside it, no driver either, and the router ends
 abbrev pub is_alone : Bool → Planned → Bool

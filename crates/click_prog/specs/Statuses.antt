@@ -1,12 +1,8 @@
 -- How the program ends.
 use Rattle.std.specs.Prelude.{ℕ, List, [], ◌∷◌, ◌++◌, Bool, true, false, Result, Ok, Err, codes, if◌then◌else◌}
 use Rattle.std.specs.List.{list_any}
-use Rattle.std.specs.declared.io.ErrorKind.{ErrorKind}
-use Rattle.std.specs.declared.io.ErrorKind.TheVariants as io
 use Rattle.click_router.specs.declared.check.Check.{Check}
 use Rattle.click_router.specs.declared.check.Check.TheVariants as check
-use Rattle.click_router.specs.declared.fault.FaultKind.{FaultKind}
-use Rattle.click_router.specs.declared.fault.FaultKind.TheVariants as kind
 use Rattle.click_control.specs.declared.serving.Ended.{Ended}
 use Rattle.click_control.specs.declared.serving.Ended.TheVariants as ended
 use Rattle.click_control.specs.declared.serving.ServeFault.{ServeFault}
@@ -17,22 +13,9 @@ use Rattle.click_workers.specs.declared.runs.RunFault.{RunFault}
 use Rattle.click_workers.specs.declared.runs.RunFault.TheVariants as fault
 use Rattle.click_workers.specs.declared.session.SessionEnd.{SessionEnd}
 use Rattle.click_workers.specs.declared.session.SessionEnd.TheVariants as end
-use Rattle.click_prog.specs.declared.status.Status.{Status}
-use Rattle.click_prog.specs.declared.status.Status.TheVariants as status
-
--- the number that the program's caller sees
-abbrev pub code : Status → ℕ
-code status.Good = 0
-code status.FaultyConfiguration = 1
-code status.WrongArguments = 2
-code status.NoMemory = 3
-code status.Refused = 3
-code status.DeviceFailed = 4
-
--- by the fault of a configuration
-abbrev pub config_status : FaultKind → Status
-config_status kind.NoMemory = status.NoMemory
-config_status _ = status.FaultyConfiguration
+use Rattle.click_cli.specs.Statuses.{config_status}
+use Rattle.click_cli.specs.declared.status.Status.{Status}
+use Rattle.click_cli.specs.declared.status.Status.TheVariants as status
 
 -- by the fault of a session
 abbrev pub serve_status : ServeFault → Status
@@ -97,8 +80,3 @@ check_word check.WrongWay = codes "WrongWay"
 -- the line that tells it
 abbrev pub check_line : List ℕ → Check → List ℕ
 check_line name answer = codes "check " ++ name ++ codes ": " ++ check_word answer ++ 10 ∷ []
-
--- where the words of the command line cannot be read
-abbrev pub unread_status : ErrorKind → Status
-unread_status io.OutOfMemory = status.NoMemory
-unread_status _ = status.WrongArguments

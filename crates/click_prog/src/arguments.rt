@@ -1,7 +1,7 @@
 //! The program's command line.
 
-ghost use Rattle.std.specs.Prelude.{◌≡◌, ◌≤◌, IfOk, IfErr, IfSome, MatchOption, codes, false, is_some, true, option_map};
-ghost use Rattle.clap.specs.Built.{IsPlainArg, IsParsedFrom, TakesValue};
+ghost use Rattle.std.specs.Prelude.{◌≡◌, ◌≤◌, IfOk, IfErr, IfSome, MatchOption, codes, is_some, true};
+ghost use Rattle.clap.specs.Built.{IsParsedFrom};
 ghost use Rattle.clap.specs.Matches.{first_value, found_of};
 ghost use Rattle.clap.specs.declared.builder.command.Command.{Command};
 ghost use Rattle.clap.specs.declared.parser.matches.ArgMatches.{ArgMatches};
@@ -10,7 +10,8 @@ ghost use Rattle.click_prog.specs.Links.{AreLinks, IsLinkFault};
 
 use crate::link::{Link, LinkFault, links_of};
 use crate::number::number_in;
-use clap::{Arg, ArgAction, ArgMatches, Command, Error};
+use clap::{ArgMatches, Command, Error};
+use click_cli::{CommandOption, OptionName, TEXT, Takes, parse};
 use std::alloc::Global;
 
 /// What the words of a command line ask for.
@@ -109,6 +110,83 @@ pub struct NoNumber<'a> {
     most: u64,
 }
 
+/// The options that the words may have.
+const OPTIONS: [CommandOption; 13] = [
+    TEXT,
+    CommandOption {
+        id: "port",
+        name: OptionName::Short('p'),
+        takes: Takes::Number("PORT"),
+        help: "Listens on this port of 127.0.0.1, not on standard input (1 to 65535)",
+    },
+    CommandOption {
+        id: "sessions",
+        name: OptionName::Short('n'),
+        takes: Takes::Number("SESSIONS"),
+        help: "How many sessions it accepts (1 to 64; 1 if not given)",
+    },
+    CommandOption {
+        id: "workers",
+        name: OptionName::Short('w'),
+        takes: Takes::Number("WORKERS"),
+        help: "How many workers drive the router (0 to 16; 0 if not given)",
+    },
+    CommandOption {
+        id: "number",
+        name: OptionName::Long("rounds"),
+        takes: Takes::Number("N"),
+        help: "How many rounds each worker makes (0 to 1000000; 1000 if not given)",
+    },
+    CommandOption {
+        id: "readonly",
+        name: OptionName::Long("readonly"),
+        takes: Takes::Nothing,
+        help: "Denies what would write a handler",
+    },
+    CommandOption {
+        id: "check",
+        name: OptionName::Long("check"),
+        takes: Takes::Text("NAME"),
+        help: "At the end tells on standard error whether this handler can be read",
+    },
+    CommandOption {
+        id: "book",
+        name: OptionName::Long("book"),
+        takes: Takes::Nothing,
+        help: "At the end writes each call with its seat and its reply to standard error, as lines that click_calls --replay makes again",
+    },
+    CommandOption {
+        id: "live",
+        name: OptionName::Long("live"),
+        takes: Takes::Nothing,
+        help: "Keeps no book and takes no more memory however long it runs: with a port it serves without end, up to SESSIONS at once",
+    },
+    CommandOption {
+        id: "device",
+        name: OptionName::Long("link"),
+        takes: Takes::Texts("DEVICE=HERE,THERE"),
+        help: "With --live carries the device's packets as UDP datagrams between two places, each PORT (of 127.0.0.1) or ADDRESS:PORT; up to 16 times",
+    },
+    CommandOption {
+        id: "every",
+        name: OptionName::Long("tell"),
+        takes: Takes::Number("SECONDS"),
+        help: "With --live tells its counts on standard error each so many seconds (0 to 86400; 0, never, if not given)",
+    },
+    CommandOption {
+        id: "front",
+        name: OptionName::Long("page"),
+        takes: Takes::Number("PORT"),
+        help: "Shows the router to browsers on this port of 127.0.0.1 (1 to 65535)",
+    },
+    CommandOption {
+        id: "image",
+        name: OptionName::Long("draw"),
+        takes: Takes::Nothing,
+        help: "Writes a picture of the configuration to standard output, as SVG, and serves nothing",
+    },
+];
+
 /// What the words of a command line ask for, or why they are refused. `-e` takes the next word whatever it is.
 pub fn options_of<'a>(
     alloc: Global,
@@ -132,45 +210,13 @@ fn parsed<'a>(alloc: Global, words: &'a [String]) -> Result<ArgMatches<'a>, Erro
     ensures text { IfOk result (λ matches. is_some (first_value (found_of matches) (codes "text")) ≡ true) }
     ensures parsed { IfOk result (λ matches. (command : Command) × IsParsedFrom command matches) }
 {
-    let port = number(alloc, "port", "PORT").short('p').help(
-        "Listens on this port of 127.0.0.1, not on standard input (1 to 65535)",
-    );
-    let sessions = number(alloc, "sessions", "SESSIONS")
-        .short('n')
-        .help("How many sessions it accepts (1 to 64; 1 if not given)");
-    let workers = number(alloc, "workers", "WORKERS").short('w').help(
-        "How many workers drive the router (0 to 16; 0 if not given)",
-    );
-    // Its id has a first letter of its own, by which the proof tells the ids apart; so has that of `tell`.
-    let rounds = number(alloc, "number", "N").long("rounds").help(
-        "How many rounds each worker makes (0 to 1000000; 1000 if not given)",
-    );
-    let tell = number(alloc, "every", "SECONDS").long("tell").help(
-        "With --live tells its counts on standard error each so many seconds (0 to 86400; 0, never, if not given)",
-    );
-    let page = number(alloc, "front", "PORT").long("page").help(
-        "Shows the router to browsers on this port of 127.0.0.1 (1 to 65535)",
-    );
     let command = Command::new(alloc, "click_prog")
         .version("1")
         .about("A Click router with control sessions on standard input and output")
         .after_help(
             "Commands of a session, a line each: READ NAME [TEXT], WRITE NAME [TEXT], READDATA NAME BYTES, WRITEDATA NAME BYTES,\nCHECKREAD NAME, CHECKWRITE NAME, QUIT. NAME is a handler, as c.count of the element c. docs/CONTROL.md has the replies.",
-        )
-        .arg(text_argument(alloc))?
-        .arg(port)?
-        .arg(sessions)?
-        .arg(workers)?
-        .arg(rounds)?
-        .arg(readonly_argument(alloc))?
-        .arg(check_argument(alloc))?
-        .arg(book_argument(alloc))?
-        .arg(live_argument(alloc))?
-        .arg(link_argument(alloc))?
-        .arg(tell)?
-        .arg(page)?
-        .arg(draw_argument(alloc))?;
-    let matches = command.try_get_matches_from(words)?;
+        );
+    let matches = parse(alloc, command, &OPTIONS, words)?;
     Ok(matches)
 }
 
@@ -324,100 +370,6 @@ fn live_only_option(matches: &ArgMatches, options: &Options) -> Option<&'static 
         return Some("--tell");
     }
     None
-}
-
-/// The option of the configuration.
-fn text_argument<'a>(alloc: Global) -> Arg<'a>
-    ensures plain { (result.id.now ≡ codes "text") × IsPlainArg result × (result.global ≡ false) }
-    ensures takes { TakesValue result }
-{
-    Arg::new(alloc, "text")
-        .short('e')
-        .value_name("TEXT")
-        .help("The configuration of the router")
-        .required(true)
-        .allow_hyphen_values(true)
-        .action(ArgAction::Set)
-}
-
-/// The flag of a session that only reads.
-fn readonly_argument<'a>(alloc: Global) -> Arg<'a>
-    ensures { (result.id.now ≡ codes "readonly") × IsPlainArg result × (result.global ≡ false) }
-{
-    Arg::new(alloc, "readonly")
-        .long("readonly")
-        .help("Denies what would write a handler")
-        .action(ArgAction::SetTrue)
-}
-
-/// The option of a handler that is checked at the end.
-fn check_argument<'a>(alloc: Global) -> Arg<'a>
-    ensures { (result.id.now ≡ codes "check") × IsPlainArg result × (result.global ≡ false) }
-{
-    Arg::new(alloc, "check")
-        .long("check")
-        .value_name("NAME")
-        .help("At the end tells on standard error whether this handler can be read")
-        .action(ArgAction::Set)
-}
-
-/// The flag of a book that is written at the end.
-fn book_argument<'a>(alloc: Global) -> Arg<'a>
-    ensures { (result.id.now ≡ codes "book") × IsPlainArg result × (result.global ≡ false) }
-{
-    Arg::new(alloc, "book")
-        .long("book")
-        .help(
-            "At the end writes each call with its seat and its reply to standard error, as lines that click_calls --replay makes again",
-        )
-        .action(ArgAction::SetTrue)
-}
-
-/// The flag of a router that stays.
-fn live_argument<'a>(alloc: Global) -> Arg<'a>
-    ensures { (result.id.now ≡ codes "live") × IsPlainArg result × (result.global ≡ false) }
-{
-    Arg::new(alloc, "live")
-        .long("live")
-        .help(
-            "Keeps no book and takes no more memory however long it runs: with a port it serves without end, up to SESSIONS at once",
-        )
-        .action(ArgAction::SetTrue)
-}
-
-/// The option of links, one each time that it is given.
-fn link_argument<'a>(alloc: Global) -> Arg<'a>
-    ensures { (result.id.now ≡ codes "device") × IsPlainArg result × (result.global ≡ false) }
-{
-    Arg::new(alloc, "device")
-        .long("link")
-        .value_name("DEVICE=HERE,THERE")
-        .help(
-            "With --live carries the device's packets as UDP datagrams between two places, each PORT (of 127.0.0.1) or ADDRESS:PORT; up to 16 times",
-        )
-        .action(ArgAction::Append)
-}
-
-/// The flag of a picture.
-fn draw_argument<'a>(alloc: Global) -> Arg<'a>
-    ensures { (result.id.now ≡ codes "image") × IsPlainArg result × (result.global ≡ false) }
-{
-    Arg::new(alloc, "image")
-        .long("draw")
-        .help(
-            "Writes a picture of the configuration to standard output, as SVG, and serves nothing",
-        )
-        .action(ArgAction::SetTrue)
-}
-
-/// An option that takes a number. Clap takes any text, `-1` too, and which number that is, if it is one, is looked at after it (`given`).
-fn number<'a>(alloc: Global, id: &'a str, name: &'a str) -> Arg<'a>
-    ensures { (result.id.now ≡ id.entry.now) × IsPlainArg result × (result.global ≡ false) }
-{
-    Arg::new(alloc, id)
-        .value_name(name)
-        .allow_negative_numbers(true)
-        .action(ArgAction::Set)
 }
 
 /// The port that was given to the option, if one was.

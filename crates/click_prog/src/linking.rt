@@ -10,9 +10,10 @@ ghost use Rattle.click_workers.specs.Linked.{AreQuiet, IsTrueOpening};
 
 use crate::counts::{Ending, tell_counts, tell_on};
 use crate::paging::Paging;
-use crate::serving::{Arrivals, RunSetup, clients_of, tell};
+use crate::serving::{Arrivals, RunSetup, clients_of};
 use crate::sockets::Sockets;
-use crate::status::{Status, opening_status, sessions_status};
+use crate::status::{BEFORE, sessions_status};
+use click_cli::{Status, refuse_configuration};
 use click_control::{Sink, Source};
 use click_desk::OpenFault;
 use click_http::PageListener;
@@ -140,12 +141,19 @@ fn conclude(host: &HostRuntime, devices: &[Device], ended: &[SessionEnd]) -> Sta
     sessions_status(ended)
 }
 
-/// Writes why there was no run; nothing where memory ran out. The status is that of the fault.
+/// Tells why there was no run; nothing where memory ran out.
 fn refuse(host: &HostRuntime, fault: &OpenFault) -> Status
     ensures { result ≡ opening_status fault.now }
 {
-    if let OpenFault::Config(fault) = fault {
-        tell(host.alloc(), &mut host.stderr(), fault);
+    match fault {
+        OpenFault::Config(fault) => {
+            refuse_configuration(host.alloc(), &mut host.stderr(), BEFORE, fault)
+        }
+        OpenFault::NoMemory => Status::NoMemory,
+        OpenFault::SeatCount
+        | OpenFault::DeviceTwice
+        | OpenFault::InletCount
+        | OpenFault::ViewCount
+        | OpenFault::NoView => Status::Refused,
     }
-    opening_status(fault)
 }

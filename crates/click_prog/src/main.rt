@@ -19,7 +19,7 @@ mod sockets;
 mod status;
 
 use arguments::{ArgumentRefusal, Options, options_of};
-use clap::error::ErrorKind;
+use click_cli::{Status, refuse_arguments, words_of};
 use click_handlers::with_table;
 use drawing::draw;
 use link::{Link, LinkFault};
@@ -27,13 +27,11 @@ use linking::OpenedLinks;
 use runs::{Serving, SessionSource, config_fault_status};
 use serving::{EndReport, RunSetup, plan_of};
 use sockets::{SocketFault, open_sockets};
-use status::{Status, unread_status};
 use std::alloc::Global;
 use std::net::{Ipv4Addr, Net, TcpListener, TcpStream};
 use std::process::ExitCode;
 use std::sync::Wait;
 use std::thread::Threads;
-use std::{env, io};
 
 fn main(rt: HostRuntime) -> ExitCode {
     ExitCode::from(program(&rt, &rt).code())
@@ -45,12 +43,9 @@ fn program<R: Threads + Wait + Net<Listener = TcpListener, Stream = TcpStream> +
     host: &HostRuntime,
 ) -> Status {
     let alloc = host.alloc();
-    let words = match env::args(host) {
+    let words = match words_of(host, "click_prog") {
         Ok(words) => words,
-        Err(error) => return refuse_words(host, error.kind()),
-    };
-    let Ok(words) = words.collect::<Vec<String>>(alloc) else {
-        return Status::NoMemory;
+        Err(status) => return status,
     };
     match options_of(alloc, words.as_slice()) {
         Ok(options) if options.draw => draw(
@@ -144,39 +139,14 @@ fn address_of(port: u16) -> (Ipv4Addr, u16)
 /// Tells why the command line is refused; nothing where memory ran out.
 fn refused(host: &HostRuntime, refusal: &ArgumentRefusal) -> Status {
     // A failed write changes nothing of the status.
-    match refusal {
-        ArgumentRefusal::Clap(error) if error.kind() == ErrorKind::OutOfMemory => {
-            return Status::NoMemory;
-        }
+    let _ = match refusal {
+        ArgumentRefusal::Clap(error) => return refuse_arguments(host, error),
         ArgumentRefusal::Link(LinkFault::NoMemory) => return Status::NoMemory,
-        ArgumentRefusal::Clap(error) => {
-            let _ = host.eprint(error);
-        }
-        ArgumentRefusal::NoNumber(number) => {
-            let _ = eprintln!(host; "click_prog: {number}");
-        }
-        ArgumentRefusal::NotDrawn(option) => {
-            let _ = eprintln!(host; "click_prog: {option}");
-        }
-        ArgumentRefusal::NotLive(option) => {
-            let _ = eprintln!(host; "click_prog: {option}");
-        }
-        ArgumentRefusal::OnlyLive(option) => {
-            let _ = eprintln!(host; "click_prog: {option}");
-        }
-        ArgumentRefusal::Link(fault) => {
-            let _ = eprintln!(host; "click_prog: {fault}");
-        }
-    }
-    Status::WrongArguments
-}
-
-/// Tells why the words of the command line cannot be read: memory ran out, or one of them is no text.
-fn refuse_words(host: &HostRuntime, kind: io::ErrorKind) -> Status {
-    let status = unread_status(kind);
-    if status == Status::WrongArguments {
-        // A failed write changes nothing of the status.
-        let _ = host.eprintln("click_prog: an argument is not UTF-8");
-    }
-    status
+        ArgumentRefusal::NoNumber(number) => eprintln!(host; "click_prog: {number}"),
+        ArgumentRefusal::NotDrawn(option) => eprintln!(host; "click_prog: {option}"),
+        ArgumentRefusal::NotLive(option) => eprintln!(host; "click_prog: {option}"),
+        ArgumentRefusal::OnlyLive(option) => eprintln!(host; "click_prog: {option}"),
+        ArgumentRefusal::Link(fault) => eprintln!(host; "click_prog: {fault}"),
+    };
+    Status::Wrong
 }

@@ -4,7 +4,7 @@ ghost use Rattle.std.specs.Prelude.{◌≡◌, ◌<◌};
 ghost use Rattle.click_prog.specs.Paging.{IsPagedOver, PagedRunTo, room_of, rounds_of};
 
 use crate::serving::{Arrivals, RunSetup, clients_of, conclude, refuse};
-use crate::status::Status;
+use click_cli::Status;
 use click_control::{Port, Sink, Source};
 use click_desk::{Desk, Seat};
 use click_http::{Ended, PageListener, serve_until};

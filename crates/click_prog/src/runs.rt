@@ -8,8 +8,9 @@ ghost use Rattle.click_prog.specs.Serving.{ServesTo, ServesFrom, is_alone, turns
 use crate::doors::{ClosedDoor, Standard};
 use crate::linking::{OpenedLinks, serve_linked};
 use crate::paging::serve_paged;
-use crate::serving::{Arrivals, Plan, RunSetup, serve_all, serve_live, session, tell};
-use crate::status::{Status, config_status};
+use crate::serving::{Arrivals, Plan, RunSetup, serve_all, serve_live, session};
+use crate::status::BEFORE;
+use click_cli::{Status, refuse_configuration};
 use click_control::{Reading, Sink, Source, Writing};
 use click_desk::BoxedTable;
 use click_handlers::{Table, TakesTable};
@@ -87,8 +88,8 @@ pub fn config_fault_status(host: &HostRuntime, text: &[u8]) -> Option<Status> {
     match prepare(alloc, text) {
         Ok(_) => None,
         Err(fault) => {
-            tell(alloc, &mut host.stderr(), &fault);
-            Some(config_status(&fault))
+            let mut errors = host.stderr();
+            Some(refuse_configuration(alloc, &mut errors, BEFORE, &fault))
         }
     }
 }

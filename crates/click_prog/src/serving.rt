@@ -8,10 +8,11 @@ ghost use Rattle.click_prog.specs.Statuses.{fault_status, sessions_status, check
 
 use crate::arguments::Options;
 use crate::book_lines::write_book;
-use crate::status::{Status, end_status, fault_status, sessions_status};
+use crate::status::{BEFORE, end_status, sessions_status};
+use click_cli::{Status, refuse_configuration};
 use click_control::{InputDevice, OutputDevice, Reading, Sink, Source, Writing};
 use click_desk::Entry;
-use click_router::{Check, ConfigFault, Handlers};
+use click_router::{Check, Handlers};
 use click_workers::{
     AllRan, Clients, Door, Gate, OpenGate, Ran, RunFault, run, run_live, run_workers,
 };
@@ -247,32 +248,17 @@ fn tell_end(host: &HostRuntime, end: EndReport, checked: Option<Check>, entries:
     tell_book(host.alloc(), &mut errors, end.book, entries);
 }
 
-/// Writes why there was no run; nothing where memory ran out. The status is that of the fault.
+/// Tells why there was no run; nothing where memory ran out.
 pub(crate) fn refuse(host: &HostRuntime, fault: &RunFault) -> Status
     ensures { result ≡ fault_status fault.now }
 {
-    if let RunFault::Config(fault) = fault {
-        tell(host.alloc(), &mut host.stderr(), fault);
+    match fault {
+        RunFault::Config(fault) => {
+            refuse_configuration(host.alloc(), &mut host.stderr(), BEFORE, fault)
+        }
+        RunFault::NoMemory => Status::NoMemory,
+        RunFault::Close(_) | RunFault::NoView => Status::Refused,
     }
-    fault_status(fault)
-}
-
-/// Writes why a configuration is refused.
-pub fn tell<E: Write>(alloc: Global, errors: &mut E, fault: &ConfigFault) {
-    // A failed write changes nothing of the status.
-    let _ = match fault.text(alloc) {
-        Ok(text) => write_line(errors, text.as_slice()),
-        Err(_) => write_line(errors, b"faulty configuration"),
-    };
-}
-
-/// Writes a fault as a line of the program's.
-fn write_line<W: Write>(to: &mut W, fault: &[u8]) -> io::Result<()>
-    ensures { OnOk result (Appends (W.contents to.old) (W.contents to.new) (codes "click_prog: " ++ fault.now ++ 10 ∷ [])) }
-{
-    to.write_all(b"click_prog: ")?;
-    to.write_all(fault)?;
-    to.write_all(b"\n")
 }
 
 /// Tells what was checked, if anything was.

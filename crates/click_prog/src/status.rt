@@ -4,39 +4,12 @@ ghost use Rattle.std.specs.Prelude.{◌≡◌};
 ghost use Rattle.std.specs.List.{list_any};
 ghost use Rattle.click_prog.specs.Statuses as spec;
 
+use click_cli::Status;
 use click_control::{Ended, ServeFault};
-use click_desk::OpenFault;
-use click_router::{ConfigFault, FaultKind};
-use click_workers::{RunFault, SessionEnd};
-use std::io;
+use click_workers::SessionEnd;
 
-/// How the program ends, for its caller.
-#[derive(Clone, Copy, Debug, PartialEq, Eq)]
-pub enum Status {
-    Good,
-    FaultyConfiguration,
-    WrongArguments,
-    NoMemory,
-    /// A session's turn was refused, the desk was not closed, or there was no view for the check: none of these comes of a run of the program.
-    Refused,
-    DeviceFailed,
-}
-
-impl Status {
-    /// The number that the caller sees.
-    pub fn code(self) -> u8
-        ensures { result ≡ spec.code self }
-    {
-        match self {
-            Status::Good => 0,
-            Status::FaultyConfiguration => 1,
-            Status::WrongArguments => 2,
-            Status::NoMemory => 3,
-            Status::Refused => 3,
-            Status::DeviceFailed => 4,
-        }
-    }
-}
+/// What stands before a line of the program's on standard error.
+pub const BEFORE: &[u8] = b"click_prog: ";
 
 /// The status of a session.
 pub fn end_status(ended: &Result<Ended, ServeFault>) -> Status
@@ -47,42 +20,6 @@ pub fn end_status(ended: &Result<Ended, ServeFault>) -> Status
         Ok(Ended::GateClosed) => Status::Refused,
         Err(ServeFault::NoMemory) => Status::NoMemory,
         Err(ServeFault::ReadFailed | ServeFault::WriteFailed) => Status::DeviceFailed,
-    }
-}
-
-/// The status of a run that has no book.
-pub fn fault_status(fault: &RunFault) -> Status
-    ensures { result ≡ spec.fault_status fault.now }
-{
-    match fault {
-        RunFault::Config(fault) => config_status(fault),
-        RunFault::NoMemory => Status::NoMemory,
-        RunFault::Close(_) | RunFault::NoView => Status::Refused,
-    }
-}
-
-/// The status where a desk with links was not opened.
-pub fn opening_status(fault: &OpenFault) -> Status
-    ensures { result ≡ spec.opening_status fault.now }
-{
-    match fault {
-        OpenFault::Config(fault) => config_status(fault),
-        OpenFault::NoMemory => Status::NoMemory,
-        OpenFault::SeatCount
-        | OpenFault::DeviceTwice
-        | OpenFault::InletCount
-        | OpenFault::ViewCount
-        | OpenFault::NoView => Status::Refused,
-    }
-}
-
-/// The status of a faulty configuration.
-pub fn config_status(fault: &ConfigFault) -> Status
-    ensures { result ≡ spec.config_status fault.now.kind }
-{
-    match fault.kind {
-        FaultKind::NoMemory => Status::NoMemory,
-        _ => Status::FaultyConfiguration,
     }
 }
 
@@ -144,16 +81,5 @@ pub fn sessions_status(ends: &[SessionEnd]) -> Status
         Status::DeviceFailed
     } else {
         Status::Good
-    }
-}
-
-/// The status where the words of the command line cannot be read.
-pub fn unread_status(kind: io::ErrorKind) -> Status
-    ensures { result ≡ spec.unread_status kind }
-{
-    if kind == io::ErrorKind::OutOfMemory {
-        Status::NoMemory
-    } else {
-        Status::WrongArguments
     }
 }
