@@ -3,6 +3,7 @@ pub mod FirstBreach
 pub mod InnerLinks
 pub mod Lawfulness
 pub mod MarkedKinds
+pub mod NamesInTable
 pub mod OneConnection
 pub mod PortNumbers
 pub mod PortUses

@@ -1,9 +1,11 @@
-pub mod Wiring
-pub mod Used
-pub mod Numbered
-pub mod LaidOut
-pub mod Passages
 pub mod Ends
-pub mod Search
+pub mod LaidOut
 pub mod Marks
+pub mod NameTables
 pub mod Nets
+pub mod Numbered
+pub mod Passages
+pub mod Rows
+pub mod Search
+pub mod Used
+pub mod Wiring

@@ -13,7 +13,7 @@ use crate::fault::{FaultKind, PortFault};
 use crate::kinds::Kinds;
 use crate::layout::Layout;
 use crate::port::Port;
-use click_base::sequence::Sequence;
+use crate::row::Row;
 use click_classes::Side;
 
 /// A fault at a port.
@@ -29,7 +29,7 @@ fn fault_at(kind: FaultKind, port: Port) -> PortFault
 }
 
 /// The first port without a connection.
-pub fn first_unused(layout: &Layout, ends: &[Sequence<usize>]) -> Option<PortFault>
+pub fn first_unused(layout: &Layout, ends: &[Row]) -> Option<PortFault>
     requires ends { AreFarEnds layout.now ends.now }
     requires counted { AllCounted layout.now.shapes layout.now.connections }
     ensures { MatchOption result (AllConnected layout.now.connections) (IsFirstBreach layout.now.shapes layout.now.connections) }
@@ -69,7 +69,7 @@ fn is_single(side: Side, pull: bool) -> bool
 }
 
 /// The first push output or pull input with more than one connection.
-pub fn first_twice(layout: &Layout, ends: &[Sequence<usize>], pulls: &[bool]) -> Option<PortFault>
+pub fn first_twice(layout: &Layout, ends: &[Row], pulls: &[bool]) -> Option<PortFault>
     requires ends { AreFarEnds layout.now ends.now }
     requires pulls { AreMarks layout.now Pull pulls.now }
     requires counted { AllCounted layout.now.shapes layout.now.connections }

@@ -4,32 +4,32 @@ ghost use Rattle.std.specs.Prelude.{◌≡◌, ◌<◌, [], ◌∷◌, ◌++◌,
 ghost use Rattle.click_ports.specs.kept.Ends.{AreFarEnds};
 
 use crate::layout::Layout;
+use crate::row::Row;
 use crate::sizes::joined_port;
-use click_base::sequence::Sequence;
 use click_classes::Side;
 use std::alloc::{AllocError, Global};
 
 /// So many empty rows.
-fn empty_rows(alloc: Global, count: usize) -> Result<Vec<Sequence<usize>>, AllocError>
+fn empty_rows(alloc: Global, count: usize) -> Result<Vec<Row>, AllocError>
     ensures { IfOk result (λ rows. rows.items ≡ replicate count []) }
 {
-    let mut rows = Vec::new(alloc);
+    let mut rows = Vec::with_capacity(alloc, count)?;
     for _row in 0..count {
-        rows.push(Sequence::new(alloc))?;
+        rows.push(Row::new())?;
     }
     Ok(rows)
 }
 
 /// Adds a number at the end of a row.
-fn add_to(rows: &mut Vec<Sequence<usize>>, row: usize, number: usize) -> Result<(), AllocError>
+fn add_to(alloc: Global, rows: &mut Vec<Row>, row: usize, number: usize) -> Result<(), AllocError>
     requires { row < vec_len rows.old }
     ensures { OnOk result (rows.new.items ≡ slice_set rows.old.items row (slice_index_or rows.old.items row [] ++ number ∷ [])) }
 {
-    rows[row].push(number)
+    rows[row].push(alloc, number)
 }
 
 /// For each port the numbers of the ports at the other ends of its connections, one for each connection.
-pub fn ends_of(alloc: Global, layout: &Layout) -> Result<Vec<Sequence<usize>>, AllocError>
+pub fn ends_of(alloc: Global, layout: &Layout) -> Result<Vec<Row>, AllocError>
     ensures { IfOk result (λ rows. AreFarEnds layout.now rows.items) }
 {
     let mut rows = empty_rows(alloc, layout.ports().len())?;
@@ -38,8 +38,8 @@ pub fn ends_of(alloc: Global, layout: &Layout) -> Result<Vec<Sequence<usize>>, A
         let input = joined_port(Side::Input, *connection);
         let from = layout.number(output);
         let to = layout.number(input);
-        add_to(&mut rows, from, to)?;
-        add_to(&mut rows, to, from)?;
+        add_to(alloc, &mut rows, from, to)?;
+        add_to(alloc, &mut rows, to, from)?;
     }
     Ok(rows)
 }

@@ -8,8 +8,8 @@ ghost use Rattle.click_ports.specs.kept.Wiring.{AreWithin};
 
 use crate::layout::Layout;
 use crate::passages::all_passages;
+use crate::row::Row;
 use crate::search::ports_reaching;
-use click_base::sequence::Sequence;
 use click_classes::Code;
 use std::alloc::{AllocError, Global};
 
@@ -25,7 +25,7 @@ fn codes_of(alloc: Global, layout: &Layout) -> Result<Vec<Code>, AllocError>
     ensures codes { IfOk result (λ codes. AreCodes layout.now codes.items) }
     ensures within { AreWithin (length layout.now.shapes) layout.now.connections }
 {
-    let mut codes = Vec::new(alloc);
+    let mut codes = Vec::with_capacity(alloc, layout.ports().len())?;
     for port in layout.ports() {
         codes.push(layout.code(*port))?;
     }
@@ -33,11 +33,7 @@ fn codes_of(alloc: Global, layout: &Layout) -> Result<Vec<Code>, AllocError>
 }
 
 /// The kinds of all ports, by the other ends of their connections.
-pub fn kinds_of(
-    alloc: Global,
-    layout: &Layout,
-    ends: &[Sequence<usize>],
-) -> Result<Kinds, AllocError>
+pub fn kinds_of(alloc: Global, layout: &Layout, ends: &[Row]) -> Result<Kinds, AllocError>
     requires { AreFarEnds layout.now ends.now }
     ensures pushes { IfOk result (λ kinds. AreMarks layout.now Push kinds.pushes.items) }
     ensures pulls { IfOk result (λ kinds. AreMarks layout.now Pull kinds.pulls.items) }

@@ -8,9 +8,9 @@ ghost use Rattle.click_ports.specs.Ports as spec;
 ghost use Rattle.click_ports.specs.Ports.{Has};
 
 use crate::layout::Layout;
+use crate::name_table::NameTable;
 use crate::port::Port;
 use crate::shape::Shape;
-use click_base::sequence::Sequence;
 use click_classes::Side;
 use click_expand::Connection;
 use std::marker::Model;
@@ -18,7 +18,7 @@ use std::marker::Model;
 /// Elements and the connections between them, by which every port is push or pull and no rule of ports is broken.
 #[derive(Drop)]
 pub struct Net {
-    element_names: Sequence<Sequence<u8>>,
+    element_names: NameTable,
     layout: Layout,
     pulling: Vec<bool>,
 }
@@ -36,11 +36,7 @@ impl Model for Net {
 
 impl Net {
     /// The net of these parts.
-    pub(crate) fn of(
-        element_names: Sequence<Sequence<u8>>,
-        layout: Layout,
-        pulling: Vec<bool>,
-    ) -> Net
+    pub(crate) fn of(element_names: NameTable, layout: Layout, pulling: Vec<bool>) -> Net
         requires { KeepsNet element_names layout pulling.items }
         ensures { result ≡ record { names = element_names; shapes = layout.shapes; connections = layout.connections } }
     {
@@ -57,7 +53,7 @@ impl Net {
         ensures value { result.now ≡ slice_index_or self.now.names element [] }
         ensures sound { IsLawfulNet self.now }
     {
-        self.element_names.as_slice()[element].as_slice()
+        self.element_names.at(element)
     }
 
     /// What the net knows of the elements' states, in flat order.

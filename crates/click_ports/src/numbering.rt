@@ -73,7 +73,7 @@ pub fn numbered(
 {
     let inputs = used(alloc, connections, elements, Side::Input)?;
     let outputs = used(alloc, connections, elements, Side::Output)?;
-    let mut blocks = Vec::new(alloc);
+    let mut blocks = Vec::with_capacity(alloc, elements)?;
     let mut ports = Vec::new(alloc);
     for element in 0..elements {
         let block = Block {

@@ -8,8 +8,8 @@ ghost use Rattle.click_ports.specs.kept.Passages.{IsRow, AreRows};
 
 use crate::layout::Layout;
 use crate::port::Port;
+use crate::row::Row;
 use click_base::Class;
-use click_base::sequence::Sequence;
 use click_classes::{Side, passes};
 use std::alloc::{AllocError, Global};
 
@@ -48,12 +48,12 @@ fn passes_between(class: Class, side: Side, number: u16, other: u16) -> bool
 }
 
 /// The numbers of the ports that the port is linked with inside its element.
-fn passages(alloc: Global, layout: &Layout, port: Port) -> Result<Sequence<usize>, AllocError>
+fn passages(alloc: Global, layout: &Layout, port: Port) -> Result<Row, AllocError>
     requires there { Has layout.now.connections port }
     requires within { port.element < length layout.now.shapes }
     ensures { IfOk result (λ row. IsRow layout.now port row) }
 {
-    let mut row = Sequence::new(alloc);
+    let mut row = Row::new();
     if !layout.is_agnostic(port) {
         return Ok(row);
     }
@@ -67,17 +67,17 @@ fn passages(alloc: Global, layout: &Layout, port: Port) -> Result<Sequence<usize
             number,
         };
         if layout.is_agnostic(other) && passes_between(class, port.side, port.number, number) {
-            row.push(layout.number(other))?;
+            row.push(alloc, layout.number(other))?;
         }
     }
     Ok(row)
 }
 
 /// For each port the numbers of the ports that it is linked with inside its element.
-pub fn all_passages(alloc: Global, layout: &Layout) -> Result<Vec<Sequence<usize>>, AllocError>
+pub fn all_passages(alloc: Global, layout: &Layout) -> Result<Vec<Row>, AllocError>
     ensures { IfOk result (λ rows. AreRows layout.now rows.items) }
 {
-    let mut rows = Vec::new(alloc);
+    let mut rows = Vec::with_capacity(alloc, layout.ports().len())?;
     for port in layout.ports() {
         rows.push(passages(alloc, layout, *port)?)?;
     }

@@ -3,7 +3,7 @@
 ghost use Rattle.std.specs.Prelude.{◌≡◌, IfOk, IfErr, map, filter};
 ghost use Rattle.click_ports.specs.Breaches.{IsFirstBreach, IsMemoryOr, no_memory};
 ghost use Rattle.click_ports.specs.Lawful.{Lawful};
-ghost use Rattle.click_ports.specs.Net.{AreStatesOf, IsLawfulNet, is_there, joined, names_of, net_of, shape_of};
+ghost use Rattle.click_ports.specs.Net.{AreStatesOf, IsLawfulNet, is_there, joined, net_of, shape_of};
 
 use crate::breaches::{first_mixed, first_twice, first_unused};
 use crate::counted::first_miscount;
@@ -11,29 +11,18 @@ use crate::ends::ends_of;
 use crate::fault::PortFault;
 use crate::kinds::kinds_of;
 use crate::layout::Layout;
+use crate::name_table::NameTable;
 use crate::net::Net;
 use crate::shape::Shape;
-use click_base::sequence::Sequence;
 use click_classes::{State, counts};
-use click_expand::{Connection, Flat, FlatElement};
+use click_expand::{Connection, Flat};
 use std::alloc::{AllocError, Global};
-
-/// The elements' names.
-fn names_of(alloc: Global, elements: &[FlatElement]) -> Result<Sequence<Sequence<u8>>, AllocError>
-    ensures { IfOk result (λ names. names ≡ names_of elements.now) }
-{
-    let mut names = Sequence::new(alloc);
-    for element in elements {
-        names.push(Sequence::copy_of(alloc, element.name.as_slice())?)?;
-    }
-    Ok(names)
-}
 
 /// The states' shapes.
 fn shapes_of(alloc: Global, states: &[State]) -> Result<Vec<Shape>, AllocError>
     ensures { IfOk result (λ shapes. shapes.items ≡ map shape_of states.now) }
 {
-    let mut shapes = Vec::new(alloc);
+    let mut shapes = Vec::with_capacity(alloc, states.len())?;
     for state in states {
         shapes.push(Shape {
             class: state.class(),
@@ -51,7 +40,7 @@ fn joined(
 ) -> Result<Vec<Connection>, AllocError>
     ensures { IfOk result (λ kept. kept.items ≡ filter (is_there elements) connections.now) }
 {
-    let mut kept = Vec::new(alloc);
+    let mut kept = Vec::with_capacity(alloc, connections.len())?;
     for connection in connections {
         if connection.from < elements && connection.to < elements {
             kept.push(*connection)?;
@@ -89,6 +78,6 @@ pub fn resolve(alloc: Global, flat: &Flat, states: &[State]) -> Result<Net, Port
     if let Some(fault) = first_twice(&layout, ends.as_slice(), kinds.pulls.as_slice()) {
         return Err(fault);
     }
-    let names = names_of(alloc, elements)?;
+    let names = NameTable::of(alloc, elements)?;
     Ok(Net::of(names, layout, kinds.pulls))
 }

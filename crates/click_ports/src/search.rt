@@ -4,7 +4,7 @@ ghost use Rattle.std.specs.Prelude.{◌≡◌, ◌↔◌, ◌⊎◌, ℕ, ◌<�
 ghost use Rattle.click_classes.specs.declared.ports.Code.TheVariants.{Agnostic};
 ghost use Rattle.click_ports.specs.kept.Search.{code_of, IsGraph, Spreads, RowMarked, AreMarked};
 
-use click_base::sequence::Sequence;
+use crate::row::Row;
 use click_classes::Code;
 use std::alloc::{AllocError, Global};
 
@@ -56,8 +56,8 @@ fn mark_row(
 pub fn ports_reaching(
     alloc: Global,
     codes: &[Code],
-    outside: &[Sequence<usize>],
-    inside: &[Sequence<usize>],
+    outside: &[Row],
+    inside: &[Row],
     code: Code,
 ) -> Result<Vec<bool>, AllocError>
     requires { IsGraph (length codes.now) outside.now inside.now }

@@ -13,7 +13,7 @@ passages-requires-clause-within c =
     has-within (length w.shapes) w.connections (get_or ports i d) c.ports-port-items.ensures.within (read-place w.connections ports i d c.ports-port-items.ensures.right c.loop-port-test.true).0
 
 pub loop-port-init : goal.loop-port-init
-loop-port-init c = subst (AreRowsBelow c.args.layout.now 0) (sym c.new-rows.ensures.items) (rows-none c.args.layout.now)
+loop-port-init c = subst (AreRowsBelow c.args.layout.now 0) (sym c.in_ok-rows.ensures.items) (rows-none c.args.layout.now)
 
 pub loop-port-preserved : goal.loop-port-preserved
 loop-port-preserved c =
