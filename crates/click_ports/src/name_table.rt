@@ -41,7 +41,7 @@ fn part(bytes: &[u8], place: NamePlace) -> &[u8]
 
 impl NameTable {
     /// The names of these elements.
-    pub fn of(alloc: Global, elements: &[FlatElement]) -> Result<NameTable, AllocError>
+    pub fn gather(alloc: Global, elements: &[FlatElement]) -> Result<NameTable, AllocError>
         ensures { IfOk result (λ names. names ≡ names_of elements.now) }
     {
         let mut bytes = Vec::new(alloc);

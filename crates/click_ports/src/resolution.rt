@@ -78,6 +78,6 @@ pub fn resolve(alloc: Global, flat: &Flat, states: &[State]) -> Result<Net, Port
     if let Some(fault) = first_twice(&layout, ends.as_slice(), kinds.pulls.as_slice()) {
         return Err(fault);
     }
-    let names = NameTable::of(alloc, elements)?;
+    let names = NameTable::gather(alloc, elements)?;
     Ok(Net::of(names, layout, kinds.pulls))
 }

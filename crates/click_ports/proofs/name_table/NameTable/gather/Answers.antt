@@ -5,7 +5,7 @@ use Rattle.click_expand.specs.declared.flat.FlatElement.{FlatElement}
 use Rattle.click_ports.specs.Net.{names_of}
 use Rattle.click_ports.specs.kept.NameTables.{name_within, IsWithin}
 use Rattle.click_ports.proofs.NamesInTable.{names-added, within-added}
-use Rattle.click_ports.proofs.name_table.NameTable.of.Goals as goal
+use Rattle.click_ports.proofs.name_table.NameTable.gather.Goals as goal
 
 pub loop-element-init : goal.loop-element-init
 loop-element-init c = record {

@@ -1,7 +1,7 @@
 use Rattle.std.proofs.Common.{◌≡◌, All, length, map, take}
 use Rattle.click_ports.specs.Net.{names_of}
 use Rattle.click_ports.specs.kept.NameTables.{name_within, IsWithin}
-use Rattle.click_ports.proofs.name_table.NameTable.of.Given as goal
+use Rattle.click_ports.proofs.name_table.NameTable.gather.Given as goal
 
 abbrev pub invariant-loop-element : goal.invariant-loop-element
 invariant-loop-element l = record {
