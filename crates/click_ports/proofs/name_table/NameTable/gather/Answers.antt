@@ -1,4 +1,4 @@
-use Rattle.std.proofs.Common.{◌≡◌, ◌++◌, ◌∷◌, [], All, length, map, take, get_or, refl, sym, ap, subst, ◌∙◌}
+use Rattle.std.proofs.Common.{◌≡◌, ◌++◌, ◌∷◌, [], All, length, map, take, refl, sym, ap, subst, ◌∙◌}
 use Rattle.std.proofs.lemmas.List.{take_more, take_all, map_push}
 use Rattle.std.proofs.lemmas.List.Elements.{All-nil}
 use Rattle.click_expand.specs.declared.flat.FlatElement.{FlatElement}
@@ -19,12 +19,13 @@ loop-element-preserved c =
     let bytes = c.loop-element.bytes.items in let name = c.as_slice.result.now in let ps = c.loop-element.places.items in
     let new = c.extend_from_slice.new.self.items in
     let grown : new ≡ bytes ++ name = c.in_ok-extend_from_slice.ensures.items in
+    let e = c.element-item.result in
     let start = c.len-start.ensures ∙ c.loop-element.bytes.ok.0 in
     let end = c.len.ensures ∙ c.extend_from_slice.new.self.ok.0 ∙ ap length grown in
     record {
       names = ap (λ x. map (name_within x) c.push.new.self.items) grown ∙ ap (map (name_within (bytes ++ name))) c.in_ok-push.ensures.items
           ∙ names-added bytes name ps _ _ start end v.within ∙ ap (λ ns. ns ++ name ∷ []) v.names ∙ ap (λ n. names_of (take i es) ++ n ∷ []) c.as_slice.ensures
-          ∙ sym (ap names_of (take_more es i _ c.loop-element-test.true) ∙ map_push (λ (e : FlatElement). e.name) (take i es) (get_or es i _));
+          ∙ sym (ap names_of (take_more es i e c.loop-element-test.true ∙ ap (λ x. take i es ++ x ∷ []) (sym c.element-item.is)) ∙ map_push (λ (e : FlatElement). e.name) (take i es) e);
       within = subst (λ x. All (IsWithin (length x)) c.push.new.self.items) (sym grown)
           (subst (All (IsWithin (length (bytes ++ name)))) (sym c.in_ok-push.ensures.items) (within-added bytes name ps _ _ start end v.within));
     }
