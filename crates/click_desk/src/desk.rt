@@ -118,6 +118,7 @@ pub(crate) fn give<T, R: Wait>(
 }
 
 /// The reply of what was entered. It is made last of all, since one has a packet's room and costs to move.
+#[inline(always)]
 fn entered_reply(entered: Result<StoredReply, DeskFault>) -> Result<Reply, DeskFault>
     ensures { result ≡ entered }
 {
@@ -138,6 +139,7 @@ impl<T, R: Wait + Drop> Desk<T, R> {
 
 impl<T: Handlers, R: Wait + Drop> Desk<T, R> {
     /// One call of a seat that belongs to this desk. A poll is made by `poll`.
+    #[inline(always)]
     pub fn call<S: Wait>(&self, rt: &S, seat: &mut Seat<T>, call: Call) -> Result<Reply, DeskFault>
         requires seat { seat.old.desk ≡ self.now }
         requires call { is_poll call ≡ false }
@@ -149,6 +151,7 @@ impl<T: Handlers, R: Wait + Drop> Desk<T, R> {
     }
 
     /// One call as `call` makes it, with the reply as the history keeps it, which is small.
+    #[inline(always)]
     pub fn record<S: Wait>(
         &self,
         rt: &S,
@@ -188,6 +191,7 @@ impl<T: Handlers, R: Wait + Drop> Desk<T, R> {
     }
 
     /// Up to `most` packets of a device's feed, 1 to 32, enter in one call. Nothing is drawn where the configuration has no such device, or the desk no feed of it.
+    #[inline(always)]
     pub fn poll<S: Wait>(
         &self,
         rt: &S,

@@ -135,6 +135,7 @@ impl<T> LoggedRouter<T> {
 }
 
 /// Room for a packet in the reply, in the history and in a seat's list.
+#[derive(Drop)]
 pub(crate) struct Rooms {
     told: Option<PacketRoom>,
     entered: Option<PacketRoom>,
@@ -151,25 +152,33 @@ fn room_for(alloc: Global, call: &Call) -> Result<Option<PacketRoom>, AllocError
     }
 }
 
-/// The same in the reply, in the history and in a seat's list.
-fn rooms_for(alloc: Global, call: &Call) -> Result<Rooms, AllocError>
-    ensures { IfOk result (λ rooms. is_transmit call.now ≡ true → (is_some rooms.told ≡ true) × (is_some rooms.entered ≡ true) × (is_some rooms.listed ≡ true)) }
-{
-    match call {
-        Call::Transmit { .. } => Ok(Rooms {
+impl Rooms {
+    /// For a packet.
+    #[cold]
+    #[inline(never)]
+    fn new(alloc: Global) -> Result<Rooms, AllocError>
+        ensures { IfOk result (λ rooms. (is_some rooms.told ≡ true) × (is_some rooms.entered ≡ true) × (is_some rooms.listed ≡ true)) }
+    {
+        Ok(Rooms {
             told: Some(PacketRoom::new(alloc)?),
             entered: Some(PacketRoom::new(alloc)?),
             listed: Some(PacketRoom::new(alloc)?),
-        }),
-        _ => Ok(Rooms {
+        })
+    }
+
+    /// For a call that sends none.
+    #[inline(always)]
+    fn none() -> Rooms {
+        Rooms {
             told: None,
             entered: None,
             listed: None,
-        }),
+        }
     }
 }
 
 /// What is kept of a reply, in the history and in a seat's list.
+#[inline(always)]
 pub(crate) fn copy_twice(
     alloc: Global,
     reply: &StoredReply,
@@ -185,6 +194,7 @@ pub(crate) fn copy_twice(
 
 /// The configuration of a text is published and takes the place of the running one, or is refused. All memory is taken before either; to publish is the last that
 /// may be refused.
+#[inline(never)]
 fn swap<T, R: Wait>(
     rt: &R,
     alloc: Global,
@@ -220,6 +230,7 @@ fn swap<T, R: Wait>(
 }
 
 /// Answers one call, and publishes what it installs. Where memory is refused nothing has changed.
+#[inline(always)]
 fn answer<T: Handlers, R: Wait>(
     rt: &R,
     alloc: Global,
@@ -271,6 +282,7 @@ pub(crate) fn note(
 
 impl<T: Handlers> LoggedRouter<T> {
     /// One call of the seat with this number, which is no poll, entered in the history and in the seat's list. All memory is taken before the router changes.
+    #[inline(always)]
     pub fn enter<R: Wait>(
         &mut self,
         rt: &R,
@@ -338,6 +350,7 @@ impl<T: Handlers> LoggedRouter<T> {
     }
 
     /// A call as `enter` makes it, which may send a packet and may take memory.
+    #[inline(always)]
     fn enter_any<R: Wait>(
         &mut self,
         rt: &R,
@@ -356,15 +369,20 @@ impl<T: Handlers> LoggedRouter<T> {
         ensures keeps { calls.new.keeps ≡ calls.old.keeps }
         ensures fault { IfErr result (λ fault. fault ≡ DeskFault.NoMemory) }
     {
-        if self.router_log.options.room.is_some() {
-            self.enter_with_history(rt, alloc, number, calls, call)
-        } else {
-            self.enter_without_history(rt, alloc, number, calls, call)
+        if self.router_log.options.room.is_none() {
+            return self.enter_without_history(rt, alloc, number, calls, call);
         }
+        if let Call::Transmit { .. } = &call {
+            let Ok(rooms) = Rooms::new(alloc) else {
+                return Err(DeskFault::NoMemory);
+            };
+            return self.enter_with_history(rt, alloc, number, calls, call, rooms);
+        }
+        self.enter_with_history(rt, alloc, number, calls, call, Rooms::none())
     }
 
-    /// A call, with copies of it and of its reply in both lists.
-    #[inline(never)]
+    /// A call, with copies of it and of its reply in both lists. The rooms are for a packet that it sends.
+    #[inline(always)]
     fn enter_with_history<R: Wait>(
         &mut self,
         rt: &R,
@@ -372,8 +390,10 @@ impl<T: Handlers> LoggedRouter<T> {
         number: usize,
         calls: &mut Trail<(Call, StoredReply)>,
         call: Call,
+        rooms: Rooms,
     ) -> Result<StoredReply, DeskFault>
         requires call { is_poll call ≡ false }
+        requires rooms { is_transmit call ≡ true → (is_some rooms.told ≡ true) × (is_some rooms.entered ≡ true) × (is_some rooms.listed ≡ true) }
         requires keeps { (is_some self.old.options.room ≡ true) × (calls.old.keeps ≡ true) }
         ensures options { self.new.options ≡ self.old.options }
         ensures legal { Legal self.new.options.opening self.new.entries self.new.state }
@@ -388,9 +408,6 @@ impl<T: Handlers> LoggedRouter<T> {
             return Err(DeskFault::NoMemory);
         }
         let Ok(listed) = call.copy(alloc) else {
-            return Err(DeskFault::NoMemory);
-        };
-        let Ok(rooms) = rooms_for(alloc, &call) else {
             return Err(DeskFault::NoMemory);
         };
         let Rooms {
@@ -422,6 +439,7 @@ impl<T: Handlers> LoggedRouter<T> {
     }
 
     /// A call of which nothing is kept. It takes no memory but what its step takes and its reply holds.
+    #[inline(always)]
     fn enter_without_history<R: Wait>(
         &mut self,
         rt: &R,
