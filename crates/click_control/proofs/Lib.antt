@@ -2,6 +2,7 @@ pub mod KnownWords
 pub mod LineMeanings
 pub mod LineRests
 pub mod PartialLines
+pub mod ReplyLines
 pub mod SessionLines
 pub mod SessionProgress
 pub mod StreamCommands

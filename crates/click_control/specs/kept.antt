@@ -2,3 +2,4 @@
 pub mod Going
 pub mod Lines
 pub mod ReplyRef
+pub mod Topics

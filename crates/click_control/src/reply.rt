@@ -1,10 +1,11 @@
 //! The text that answers a command.
 
-ghost use Rattle.std.specs.Prelude.{◌≡◌, ◌++◌, IfOk, codes};
+ghost use Rattle.std.specs.Prelude.{◌≡◌, ◌++◌, ℕ, List, IfOk, OnOk, codes};
 ghost use Rattle.std.specs.List.{before_last};
 ghost use Rattle.click_base.specs.Dotted.{is_dot};
 ghost use Rattle.click_control.specs.ReplyText.{text_of, read_text, done_text, good_text, refused_text, failed_text, denied_text, quoting, data_text, error_text};
 ghost use Rattle.click_control.specs.kept.ReplyRef.{shown_reply, refusal_of};
+ghost use Rattle.click_control.specs.kept.Topics.{topic_text};
 
 use crate::command::{Answer, Command};
 use crate::direction::Direction;
@@ -15,250 +16,316 @@ use click_router::StoredReply;
 use itoa::Buffer;
 use std::alloc::{AllocError, Global};
 
+/// Room for most replies.
+const SHORT_REPLY: usize = 128;
+
+/// How many bytes the lines of a read that has a value may have, beside the handler's name and the value.
+const VALUE_LINES: usize = 51;
+
+/// What a reply needs of its command, but for the handler's name.
+#[derive(Drop)]
+pub(crate) enum Topic {
+    /// A read.
+    Read,
+    /// A write, or whether a handler can be used that way.
+    Done(Direction),
+    /// A command that makes no call.
+    Uncalled(Command),
+}
+
 /// The lines that a session writes for a command with its answer. For an answer that the command cannot have there are none.
 pub fn reply_text(alloc: Global, command: &Command, answer: &Answer) -> Result<Vec<u8>, AllocError>
     ensures { IfOk result (λ text. text.items ≡ text_of command.now answer.now) }
 {
+    let mut text = Vec::with_capacity(alloc, SHORT_REPLY)?;
     match answer {
-        Answer::Replied(reply) => shown_text(alloc, command, borrow_reply(reply)),
-        Answer::Failed(fault) => unreplied_text(alloc, command, *fault),
-        Answer::NoCall => uncalled_text(alloc, command),
+        Answer::Replied(reply) => push_shown(&mut text, alloc, command, borrow_reply(reply))?,
+        Answer::Failed(fault) => push_unreplied(&mut text, command, *fault)?,
+        Answer::NoCall => push_uncalled(&mut text, command)?,
+    }
+    Ok(text)
+}
+
+/// Adds the lines for a command whose call has this reply.
+#[inline(always)]
+pub(crate) fn push_replied(
+    text: &mut Vec<u8>,
+    alloc: Global,
+    topic: &Topic,
+    handler: &[u8],
+    reply: &StoredReply,
+) -> Result<(), AllocError>
+    ensures { OnOk result (text.new.items ≡ text.old.items ++ topic_text topic.now handler.now (Answer.Replied reply.now)) }
+{
+    let reply_ref = borrow_stored_reply(reply);
+    match topic {
+        Topic::Read => push_read(text, alloc, handler, reply_ref),
+        Topic::Done(direction) => push_done(text, alloc, *direction, handler, reply_ref),
+        Topic::Uncalled(command) => push_shown(text, alloc, command, reply_ref),
     }
 }
 
-/// The lines for a command whose call has this reply.
-pub(crate) fn replied_text(
-    alloc: Global,
-    command: &Command,
-    reply: &StoredReply,
-) -> Result<Vec<u8>, AllocError>
-    ensures { IfOk result (λ text. text.items ≡ text_of command.now (Answer.Replied reply.now)) }
+/// Adds the lines for a command whose call failed.
+pub(crate) fn push_failed_topic(
+    text: &mut Vec<u8>,
+    topic: &Topic,
+    fault: AskFault,
+) -> Result<(), AllocError>
+    ensures { (handler : List ℕ) → OnOk result (text.new.items ≡ text.old.items ++ topic_text topic.now handler (Answer.Failed fault)) }
 {
-    shown_text(alloc, command, borrow_stored_reply(reply))
+    match topic {
+        Topic::Read | Topic::Done(_) => push_failed(text, fault),
+        Topic::Uncalled(command) => push_unreplied(text, command, fault),
+    }
 }
 
-/// The lines for a command of whose reply this is shown.
-fn shown_text(alloc: Global, command: &Command, reply_ref: ReplyRef) -> Result<Vec<u8>, AllocError>
-    ensures { IfOk result (λ text. text.items ≡ text_of command.now (Answer.Replied (shown_reply reply_ref.entry))) }
+/// Adds the lines for a command that makes no call.
+pub(crate) fn push_uncalled_topic(
+    text: &mut Vec<u8>,
+    topic: &Topic,
+    handler: &[u8],
+) -> Result<(), AllocError>
+    ensures { OnOk result (text.new.items ≡ text.old.items ++ topic_text topic.now handler.now Answer.NoCall) }
+{
+    match topic {
+        Topic::Read => Ok(()),
+        Topic::Done(direction) => push_denied(text, *direction, handler),
+        Topic::Uncalled(command) => push_uncalled(text, command),
+    }
+}
+
+/// Adds the lines for a command of whose reply this is shown.
+fn push_shown(
+    text: &mut Vec<u8>,
+    alloc: Global,
+    command: &Command,
+    reply_ref: ReplyRef,
+) -> Result<(), AllocError>
+    ensures { OnOk result (text.new.items ≡ text.old.items ++ text_of command.now (Answer.Replied (shown_reply reply_ref.entry))) }
 {
     match command {
-        Command::Read { handler, .. } => read_text(alloc, handler.as_slice(), reply_ref),
-        Command::CheckRead { handler } => done_text(
-            alloc,
-            Direction::Read,
-            handler.as_slice(),
-            reply_ref,
-        ),
+        Command::Read { handler, .. } => push_read(text, alloc, handler.as_slice(), reply_ref),
+        Command::CheckRead { handler } => {
+            push_done(text, alloc, Direction::Read, handler.as_slice(), reply_ref)
+        }
         Command::Write { handler, .. } | Command::CheckWrite { handler } => {
-            done_text(alloc, Direction::Write, handler.as_slice(), reply_ref)
+            push_done(text, alloc, Direction::Write, handler.as_slice(), reply_ref)
         }
         Command::Quit
         | Command::Syntax
         | Command::LineTooLong
         | Command::DataTooLong
-        | Command::Unknown { .. } => Ok(Vec::new(alloc)),
+        | Command::Unknown { .. } => Ok(()),
     }
 }
 
-/// The lines for a command whose call has no reply.
-pub(crate) fn unreplied_text(
-    alloc: Global,
-    command: &Command,
-    fault: AskFault,
-) -> Result<Vec<u8>, AllocError>
-    ensures { IfOk result (λ text. text.items ≡ text_of command.now (Answer.Failed fault)) }
+/// Adds the lines for a command whose call has no reply.
+fn push_unreplied(text: &mut Vec<u8>, command: &Command, fault: AskFault) -> Result<(), AllocError>
+    ensures { OnOk result (text.new.items ≡ text.old.items ++ text_of command.now (Answer.Failed fault)) }
 {
     match command {
         Command::Read { .. }
         | Command::Write { .. }
         | Command::CheckRead { .. }
-        | Command::CheckWrite { .. } => failed_text(alloc, fault),
+        | Command::CheckWrite { .. } => push_failed(text, fault),
         Command::Quit
         | Command::Syntax
         | Command::LineTooLong
         | Command::DataTooLong
-        | Command::Unknown { .. } => Ok(Vec::new(alloc)),
+        | Command::Unknown { .. } => Ok(()),
     }
 }
 
-/// The lines for a command that makes no call.
-pub(crate) fn uncalled_text(alloc: Global, command: &Command) -> Result<Vec<u8>, AllocError>
-    ensures { IfOk result (λ text. text.items ≡ text_of command.now Answer.NoCall) }
+/// Adds the lines for a command that makes no call.
+fn push_uncalled(text: &mut Vec<u8>, command: &Command) -> Result<(), AllocError>
+    ensures { OnOk result (text.new.items ≡ text.old.items ++ text_of command.now Answer.NoCall) }
 {
     match command {
-        Command::Read { handler, .. } | Command::CheckRead { handler } => {
-            denied_text(alloc, Direction::Read, handler.as_slice())
-        }
+        Command::Read { .. } | Command::CheckRead { .. } => Ok(()),
         Command::Write { handler, .. } | Command::CheckWrite { handler } => {
-            denied_text(alloc, Direction::Write, handler.as_slice())
+            push_denied(text, Direction::Write, handler.as_slice())
         }
-        Command::Quit => Vec::from_slice(alloc, b"200 Goodbye!\r\n"),
-        Command::Syntax => Vec::from_slice(alloc, b"500 Syntax error\r\n"),
-        Command::LineTooLong => Vec::from_slice(alloc, b"500 Line too long\r\n"),
-        Command::DataTooLong => Vec::from_slice(alloc, b"500 Data too long\r\n"),
+        Command::Quit => text.extend_from_slice(b"200 Goodbye!\r\n"),
+        Command::Syntax => text.extend_from_slice(b"500 Syntax error\r\n"),
+        Command::LineTooLong => text.extend_from_slice(b"500 Line too long\r\n"),
+        Command::DataTooLong => text.extend_from_slice(b"500 Data too long\r\n"),
         Command::Unknown { word } => {
-            quoting(alloc, b"501 Unimplemented command ", word.as_slice(), b"")
+            push_quoting(text, b"501 Unimplemented command ", word.as_slice(), b"")
         }
     }
 }
 
-/// The reply to a read of a handler.
-fn read_text(alloc: Global, handler: &[u8], reply_ref: ReplyRef) -> Result<Vec<u8>, AllocError>
-    ensures { IfOk result (λ text. text.items ≡ read_text handler.now (Answer.Replied (shown_reply reply_ref.entry))) }
+/// Adds the reply to a read of a handler.
+fn push_read(
+    text: &mut Vec<u8>,
+    alloc: Global,
+    handler: &[u8],
+    reply_ref: ReplyRef,
+) -> Result<(), AllocError>
+    ensures { OnOk result (text.new.items ≡ text.old.items ++ read_text handler.now (Answer.Replied (shown_reply reply_ref.entry))) }
 {
     match reply_ref {
-        ReplyRef::Value(bytes) => value_text(alloc, handler, bytes),
-        ReplyRef::Refused(why) => refused_text(alloc, Direction::Read, handler, why),
-        ReplyRef::Done | ReplyRef::Nothing => Ok(Vec::new(alloc)),
+        ReplyRef::Value(bytes) => push_value(text, handler, bytes),
+        ReplyRef::Refused(why) => push_refused(text, alloc, Direction::Read, handler, why),
+        ReplyRef::Done | ReplyRef::Nothing => Ok(()),
     }
 }
 
-/// The reply to a write, and to the question whether a handler can be used that way.
-fn done_text(
+/// Adds the reply to a write, and to the question whether a handler can be used that way.
+fn push_done(
+    text: &mut Vec<u8>,
     alloc: Global,
     direction: Direction,
     handler: &[u8],
     reply_ref: ReplyRef,
-) -> Result<Vec<u8>, AllocError>
-    ensures { IfOk result (λ text. text.items ≡ done_text direction handler.now (Answer.Replied (shown_reply reply_ref.entry))) }
+) -> Result<(), AllocError>
+    ensures { OnOk result (text.new.items ≡ text.old.items ++ done_text direction handler.now (Answer.Replied (shown_reply reply_ref.entry))) }
 {
     match reply_ref {
-        ReplyRef::Done => good_text(alloc, direction, handler),
-        ReplyRef::Refused(why) => refused_text(alloc, direction, handler, why),
-        ReplyRef::Value(_) | ReplyRef::Nothing => Ok(Vec::new(alloc)),
+        ReplyRef::Done => push_good(text, direction, handler),
+        ReplyRef::Refused(why) => push_refused(text, alloc, direction, handler, why),
+        ReplyRef::Value(_) | ReplyRef::Nothing => Ok(()),
     }
 }
 
-/// The line of a read or a write that is good.
-fn good_text(alloc: Global, direction: Direction, handler: &[u8]) -> Result<Vec<u8>, AllocError>
-    ensures { IfOk result (λ text. text.items ≡ good_text direction handler.now) }
+/// Adds the line of a read or a write that is good.
+fn push_good(text: &mut Vec<u8>, direction: Direction, handler: &[u8]) -> Result<(), AllocError>
+    ensures { OnOk result (text.new.items ≡ text.old.items ++ good_text direction handler.now) }
 {
     match direction {
-        Direction::Read => quoting(alloc, b"200 Read handler ", handler, b" OK"),
-        Direction::Write => quoting(alloc, b"200 Write handler ", handler, b" OK"),
+        Direction::Read => push_around(text, b"200 Read handler '", handler, b"' OK\r\n"),
+        Direction::Write => push_around(text, b"200 Write handler '", handler, b"' OK\r\n"),
     }
 }
 
-/// How many bytes a line `DATA n` may have, with its end.
-const LONGEST_DATA: usize = 27;
-
-/// The lines of a read that has a value.
-fn value_text(alloc: Global, handler: &[u8], bytes: &[u8]) -> Result<Vec<u8>, AllocError>
-    ensures { IfOk result (λ text. text.items ≡ quoting (codes "200 Read handler ") handler.now (codes " OK") ++ data_text bytes.now) }
+/// Adds the lines of a read that has a value.
+fn push_value(text: &mut Vec<u8>, handler: &[u8], bytes: &[u8]) -> Result<(), AllocError>
+    ensures { OnOk result (text.new.items ≡ text.old.items ++ (quoting (codes "200 Read handler ") handler.now (codes " OK") ++ data_text bytes.now)) }
 {
     let mut digits = Buffer::new();
-    let more = bytes.len().saturating_add(LONGEST_DATA);
-    let mut text = quoting_with(alloc, b"200 Read handler ", handler, b" OK", more)?;
-    text.extend_from_slice(b"DATA ")?;
-    text.extend_from_slice(digits.format(bytes.len()).as_bytes())?;
-    text.extend_from_slice(b"\r\n")?;
-    text.extend_from_slice(bytes)?;
-    Ok(text)
+    let digits = digits.format(bytes.len()).as_bytes();
+    push_counted(text, handler, digits, bytes)
 }
 
-/// Why a read or a write was refused.
-fn refused_text(
+/// Adds the lines of a read whose value has so many bytes.
+fn push_counted(
+    text: &mut Vec<u8>,
+    handler: &[u8],
+    digits: &[u8],
+    bytes: &[u8],
+) -> Result<(), AllocError>
+    ensures { OnOk result (text.new.items ≡ text.old.items ++ (codes "200 Read handler '" ++ (handler.now ++ (codes "' OK\r\nDATA " ++ (digits.now ++ (codes "\r\n" ++ bytes.now)))))) }
+{
+    let room = handler.len().saturating_add(bytes.len());
+    text.reserve(room.saturating_add(VALUE_LINES))?;
+    text.extend_from_slice(b"200 Read handler '")?;
+    text.extend_from_slice(handler)?;
+    text.extend_from_slice(b"' OK\r\nDATA ")?;
+    text.extend_from_slice(digits)?;
+    text.extend_from_slice(b"\r\n")?;
+    text.extend_from_slice(bytes)
+}
+
+/// Adds why a read or a write was refused.
+fn push_refused(
+    text: &mut Vec<u8>,
     alloc: Global,
     direction: Direction,
     handler: &[u8],
     why: RefusalRef,
-) -> Result<Vec<u8>, AllocError>
-    ensures { IfOk result (λ text. text.items ≡ refused_text direction handler.now (refusal_of why.entry)) }
+) -> Result<(), AllocError>
+    ensures { OnOk result (text.new.items ≡ text.old.items ++ refused_text direction handler.now (refusal_of why.entry)) }
 {
     match why {
-        RefusalRef::NoElement => quoting(alloc, b"510 No element named ", element_of(handler), b""),
-        RefusalRef::NoHandler => quoting(alloc, b"511 No handler named ", handler, b""),
-        RefusalRef::WrongWay => wrong_way_text(alloc, direction, handler),
-        RefusalRef::Handler(fault) => error_text(alloc, direction, handler, fault.text()),
+        RefusalRef::NoElement => {
+            push_quoting(text, b"510 No element named ", element_of(handler), b"")
+        }
+        RefusalRef::NoHandler => push_quoting(text, b"511 No handler named ", handler, b""),
+        RefusalRef::WrongWay => push_wrong_way(text, direction, handler),
+        RefusalRef::Handler(fault) => push_error(text, direction, handler, fault.text()),
         RefusalRef::Config(fault) => {
-            let text = fault.text(alloc)?;
-            error_text(alloc, direction, handler, &text)
+            let said = fault.text(alloc)?;
+            push_error(text, direction, handler, &said)
         }
     }
 }
 
-/// A handler is for the other way alone.
-fn wrong_way_text(
-    alloc: Global,
+/// Adds that a handler is for the other way alone.
+fn push_wrong_way(
+    text: &mut Vec<u8>,
     direction: Direction,
     handler: &[u8],
-) -> Result<Vec<u8>, AllocError>
-    ensures { IfOk result (λ text. text.items ≡ refused_text direction handler.now (refusal_of RefusalRef.WrongWay)) }
+) -> Result<(), AllocError>
+    ensures { OnOk result (text.new.items ≡ text.old.items ++ refused_text direction handler.now (refusal_of RefusalRef.WrongWay)) }
 {
     match direction {
-        Direction::Read => quoting(alloc, b"530 Handler ", handler, b" write-only"),
-        Direction::Write => quoting(alloc, b"530 Handler ", handler, b" read-only"),
+        Direction::Read => push_quoting(text, b"530 Handler ", handler, b" write-only"),
+        Direction::Write => push_quoting(text, b"530 Handler ", handler, b" read-only"),
     }
 }
 
-/// Why there was no reply.
-fn failed_text(alloc: Global, fault: AskFault) -> Result<Vec<u8>, AllocError>
-    ensures { IfOk result (λ text. text.items ≡ failed_text fault) }
+/// Adds why there was no reply.
+fn push_failed(text: &mut Vec<u8>, fault: AskFault) -> Result<(), AllocError>
+    ensures { OnOk result (text.new.items ≡ text.old.items ++ failed_text fault) }
 {
     match fault {
-        AskFault::NoMemory => Vec::from_slice(alloc, b"520 Out of memory\r\n"),
-        AskFault::HistoryFull => Vec::from_slice(alloc, b"520 History full\r\n"),
+        AskFault::NoMemory => text.extend_from_slice(b"520 Out of memory\r\n"),
+        AskFault::HistoryFull => text.extend_from_slice(b"520 History full\r\n"),
     }
 }
 
-/// Where a session may not make the call: it may always read.
-fn denied_text(alloc: Global, direction: Direction, handler: &[u8]) -> Result<Vec<u8>, AllocError>
-    ensures { IfOk result (λ text. text.items ≡ denied_text direction handler.now) }
+/// Adds what is said where a session may not make the call: it may always read.
+fn push_denied(text: &mut Vec<u8>, direction: Direction, handler: &[u8]) -> Result<(), AllocError>
+    ensures { OnOk result (text.new.items ≡ text.old.items ++ denied_text direction handler.now) }
 {
     match direction {
-        Direction::Read => Ok(Vec::new(alloc)),
-        Direction::Write => quoting(alloc, b"530 Permission denied for ", handler, b""),
+        Direction::Read => Ok(()),
+        Direction::Write => push_quoting(text, b"530 Permission denied for ", handler, b""),
     }
 }
 
-/// The lines that say what a handler, or a configuration, finds wrong.
-fn error_text(
-    alloc: Global,
+/// Adds the lines that say what a handler, or a configuration, finds wrong.
+fn push_error(
+    text: &mut Vec<u8>,
     direction: Direction,
     handler: &[u8],
     fault: &[u8],
-) -> Result<Vec<u8>, AllocError>
-    ensures { IfOk result (λ text. text.items ≡ error_text direction handler.now fault.now) }
+) -> Result<(), AllocError>
+    ensures { OnOk result (text.new.items ≡ text.old.items ++ error_text direction handler.now fault.now) }
 {
-    let mut text = match direction {
-        Direction::Read => quoting(alloc, b"520-Read handler ", handler, b" error:")?,
-        Direction::Write => quoting(alloc, b"520-Write handler ", handler, b" error:")?,
-    };
+    match direction {
+        Direction::Read => push_quoting(text, b"520-Read handler ", handler, b" error:")?,
+        Direction::Write => push_quoting(text, b"520-Write handler ", handler, b" error:")?,
+    }
     text.extend_from_slice(b"520 ")?;
     text.extend_from_slice(fault)?;
-    text.extend_from_slice(b"\r\n")?;
-    Ok(text)
+    text.extend_from_slice(b"\r\n")
 }
 
-/// A line with a name in quotes.
-fn quoting(alloc: Global, front: &[u8], name: &[u8], back: &[u8]) -> Result<Vec<u8>, AllocError>
-    ensures { IfOk result (λ text. text.items ≡ quoting front.now name.now back.now) }
+/// Adds a name with what stands before and behind it.
+fn push_around(text: &mut Vec<u8>, front: &[u8], name: &[u8], back: &[u8]) -> Result<(), AllocError>
+    ensures { OnOk result (text.new.items ≡ text.old.items ++ (front.now ++ (name.now ++ back.now))) }
 {
-    quoting_with(alloc, front, name, back, 0)
+    text.extend_from_slice(front)?;
+    text.extend_from_slice(name)?;
+    text.extend_from_slice(back)
 }
 
-/// The same, with room for so many bytes behind it.
-fn quoting_with(
-    alloc: Global,
+/// Adds a line with a name in quotes.
+fn push_quoting(
+    text: &mut Vec<u8>,
     front: &[u8],
     name: &[u8],
     back: &[u8],
-    more: usize,
-) -> Result<Vec<u8>, AllocError>
-    ensures { IfOk result (λ text. text.items ≡ quoting front.now name.now back.now) }
+) -> Result<(), AllocError>
+    ensures { OnOk result (text.new.items ≡ text.old.items ++ quoting front.now name.now back.now) }
 {
-    let room = front
-        .len()
-        .saturating_add(name.len())
-        .saturating_add(back.len());
-    let mut text = Vec::with_capacity(alloc, room.saturating_add(more).saturating_add(4))?;
     text.extend_from_slice(front)?;
     text.push(b'\'')?;
     text.extend_from_slice(name)?;
     text.push(b'\'')?;
     text.extend_from_slice(back)?;
-    text.extend_from_slice(b"\r\n")?;
-    Ok(text)
+    text.extend_from_slice(b"\r\n")
 }
 
 /// The element in a handler's name: what stands before its last dot.

@@ -6,19 +6,30 @@ ghost use Rattle.click_control.specs.Serving.{Serves, ServesTurns, Answered, cal
 ghost use Rattle.click_control.specs.Taking.{Pending, GivesOne, to_come};
 ghost use Rattle.click_control.specs.Peers.{Input, Output, HasWritten};
 ghost use Rattle.click_control.specs.kept.Going.{SoFar, Goes, Written, WroteFront, TakesIn, ending_of};
+ghost use Rattle.click_control.specs.kept.Topics.{topic_text};
 ghost use Rattle.click_control.specs.ReplyText.{text_of, greeting};
 ghost use Rattle.click_control.specs.declared.command.Answer.{Answer};
 
 use crate::command::Command;
+use crate::direction::Direction;
 use crate::peer::{Failed, Sink, Source};
 use crate::port::Port;
-use crate::reply::{replied_text, uncalled_text, unreplied_text};
+use crate::reply::{Topic, push_failed_topic, push_replied, push_uncalled_topic};
 use crate::session::Session;
 use crate::turns::{Open, Turns};
-use click_base::sequence::Sequence;
 use click_router::Call;
 use std::alloc::{AllocError, Global};
 use thiserror::Error;
+
+/// What a session keeps from command to command, so that a command takes no memory for it.
+#[derive(Drop)]
+struct ReplyBuffers {
+    alloc: Global,
+    /// The name of the handler of the last command that has one.
+    handler: Vec<u8>,
+    /// The lines of the last reply.
+    lines: Vec<u8>,
+}
 
 /// How a session ends.
 #[derive(Clone, Copy, Debug, PartialEq, Eq)]
@@ -51,6 +62,9 @@ pub const MOST_READS: u32 = 4_294_967_295;
 /// How many bytes one read may give.
 const PIECE: usize = 4096;
 
+/// How much room for a reply's lines is kept for the next reply.
+const MOST_KEPT: usize = 65_536;
+
 /// Greets, and answers each command as soon as it is whole, before the next read. Bytes may come in any pieces.
 ///
 /// A read-only session makes no call for `WRITE`, `WRITEDATA` and `CHECKWRITE`: it denies them. No session ends at a closed gate.
@@ -82,6 +96,11 @@ pub fn serve_turns<R: Source, W: Sink, P: Port, T: Turns>(
 {
     greet(writer)?;
     let mut session = Session::new(alloc);
+    let mut buffers = ReplyBuffers {
+        alloc,
+        handler: Vec::new(alloc),
+        lines: Vec::new(alloc),
+    };
     let mut piece = [0; PIECE];
     let mut taken = 0;
     for _reads in 0..reads {
@@ -89,7 +108,7 @@ pub fn serve_turns<R: Source, W: Sink, P: Port, T: Turns>(
             return Ok(Ended::EndOfInput);
         }
         if let Some(ended) = answer_commands(
-            alloc,
+            &mut buffers,
             writer,
             port,
             readonly,
@@ -135,8 +154,9 @@ fn feed_piece<R: Source>(
 }
 
 /// Takes up each command that is whole, and answers it; says how the session ends, where one of them ends it. So many were taken up before, and `taken` counts on.
+#[inline(always)]
 fn answer_commands<W: Sink, P: Port, T: Turns>(
-    alloc: Global,
+    buffers: &mut ReplyBuffers,
     writer: &mut W,
     port: &mut P,
     readonly: bool,
@@ -153,11 +173,11 @@ fn answer_commands<W: Sink, P: Port, T: Turns>(
     ensures bound { taken.new + length session.new.bytes ≤ taken.old + length session.old.bytes }
 {
     loop {
-        match session.next(alloc) {
+        match session.next(buffers.alloc) {
             Err(_) => return Err(ServeFault::NoMemory),
             Ok(None) => return Ok(None),
             Ok(Some(command)) => {
-                match take_up(alloc, writer, port, readonly, turns, *taken, command) {
+                match take_up(buffers, writer, port, readonly, turns, *taken, command) {
                     Ok(None) => *taken += 1,
                     Ok(Some(ended)) => return Ok(Some(ended)),
                     Err(fault) => return Err(fault),
@@ -168,8 +188,9 @@ fn answer_commands<W: Sink, P: Port, T: Turns>(
 }
 
 /// Answers the command after so many, where its turn is given; says how the session ends, where the command ends it or its turn is refused.
+#[inline(always)]
 fn take_up<W: Sink, P: Port, T: Turns>(
-    alloc: Global,
+    buffers: &mut ReplyBuffers,
     writer: &mut W,
     port: &mut P,
     readonly: bool,
@@ -186,101 +207,128 @@ fn take_up<W: Sink, P: Port, T: Turns>(
     let nth = taken + 1;
     let ending = ending_of(&command);
     // All memory that the call takes is taken before the turn: where it runs out no turn was given.
-    let Ok((call, command)) = call_of(alloc, readonly, command) else {
+    let Ok((call, topic)) = call_of(&mut buffers.handler, readonly, command) else {
         return Err(ServeFault::NoMemory);
     };
     if !turns.before(nth) {
         return Ok(Some(Ended::GateClosed));
     }
-    ask_and_reply(alloc, writer, port, &command, call)?;
+    ask_and_reply(buffers, writer, port, &topic, call)?;
     turns.after(nth);
     Ok(ending)
 }
 
-/// The call that a command makes, and the command for its reply: the text goes into the call, since no reply needs it.
+/// The call that a command makes, and what its reply needs: the command's handler and text go into the call, and the handler's name is kept for the reply.
+#[inline(always)]
 fn call_of(
-    alloc: Global,
+    kept: &mut Vec<u8>,
     readonly: bool,
     command: Command,
-) -> Result<(Option<Call>, Command), AllocError>
+) -> Result<(Option<Call>, Topic), AllocError>
     ensures call { IfOk result (λ parts. parts.0 ≡ call_of readonly command) }
     ensures no_poll { IfOk result (λ parts. IfSome parts.0 (λ c. is_poll c ≡ false)) }
-    ensures replies { IfOk result (λ parts. (answer : Answer) → text_of parts.1 answer ≡ text_of command answer) }
+    ensures replies { IfOk result (λ parts. (answer : Answer) → topic_text parts.1 kept.new.items answer ≡ text_of command answer) }
 {
     match command {
-        Command::Write { .. } | Command::CheckWrite { .. } if readonly => Ok((None, command)),
+        Command::Write { .. } | Command::CheckWrite { .. } if readonly => {
+            Ok((None, Topic::Uncalled(command)))
+        }
         Command::Read { handler, text } => {
-            let name = handler.copy(alloc)?;
-            let text_left = Sequence::new(alloc);
-            let command = Command::Read {
-                handler,
-                text: text_left,
-            };
-            Ok((Some(Call::Read { name, text }), command))
+            keep(kept, handler.as_slice())?;
+            let name = handler;
+            Ok((Some(Call::Read { name, text }), Topic::Read))
         }
         Command::Write { handler, text } => {
-            let name = handler.copy(alloc)?;
-            let text_left = Sequence::new(alloc);
-            let command = Command::Write {
-                handler,
-                text: text_left,
-            };
-            Ok((Some(Call::Write { name, text }), command))
-        }
-        Command::CheckRead { handler } => {
-            let name = handler.copy(alloc)?;
+            keep(kept, handler.as_slice())?;
+            let name = handler;
             Ok((
-                Some(Call::CheckRead { name }),
-                Command::CheckRead { handler },
+                Some(Call::Write { name, text }),
+                Topic::Done(Direction::Write),
             ))
         }
+        Command::CheckRead { handler } => {
+            keep(kept, handler.as_slice())?;
+            let name = handler;
+            Ok((Some(Call::CheckRead { name }), Topic::Done(Direction::Read)))
+        }
         Command::CheckWrite { handler } => {
-            let name = handler.copy(alloc)?;
+            keep(kept, handler.as_slice())?;
+            let name = handler;
             Ok((
                 Some(Call::CheckWrite { name }),
-                Command::CheckWrite { handler },
+                Topic::Done(Direction::Write),
             ))
         }
         Command::Quit
         | Command::Syntax
         | Command::LineTooLong
         | Command::DataTooLong
-        | Command::Unknown { .. } => Ok((None, command)),
+        | Command::Unknown { .. } => Ok((None, Topic::Uncalled(command))),
     }
 }
 
+/// Keeps these bytes in the place of those before.
+fn keep(kept: &mut Vec<u8>, bytes: &[u8]) -> Result<(), AllocError>
+    ensures { OnOk result (kept.new.items ≡ bytes.now) }
+{
+    kept.clear();
+    kept.extend_from_slice(bytes)
+}
+
 /// Asks the port, where there is a call, and writes the reply to the command in full.
+#[inline(always)]
 fn ask_and_reply<W: Sink, P: Port>(
-    alloc: Global,
+    buffers: &mut ReplyBuffers,
     writer: &mut W,
     port: &mut P,
-    command: &Command,
+    topic: &Topic,
     call: Option<Call>,
 ) -> Result<(), ServeFault>
     requires { IfSome call (λ c. is_poll c ≡ false) }
     ensures { (answer : Answer) × Answered P.asks port.old call answer port.new
-        × Written result (W.output writer.old) (W.output writer.new) (text_of command.now answer) }
+        × Written result (W.output writer.old) (W.output writer.new) (topic_text topic.now buffers.old.handler.items answer) }
 {
+    let lines = &mut buffers.lines;
+    let handler = buffers.handler.as_slice();
+    lines.clear();
     match call {
-        None => reply(writer, uncalled_text(alloc, command)),
+        None => {
+            let added = push_uncalled_topic(lines, topic, handler);
+            reply(writer, lines, added)
+        }
         Some(call) => {
-            let recorded = port.record(alloc, call);
+            let recorded = port.record(buffers.alloc, call);
             match &recorded {
-                Ok(answer) => reply(writer, replied_text(alloc, command, answer)),
-                Err(fault) => reply(writer, unreplied_text(alloc, command, *fault)),
+                Ok(answer) => {
+                    let added = push_replied(lines, buffers.alloc, topic, handler, answer);
+                    reply(writer, lines, added)
+                }
+                Err(fault) => {
+                    let added = push_failed_topic(lines, topic, *fault);
+                    reply(writer, lines, added)
+                }
             }
         }
     }
 }
 
-/// Writes the lines of a reply in full, where there was memory for them.
-fn reply<W: Sink>(writer: &mut W, lines: Result<Vec<u8>, AllocError>) -> Result<(), ServeFault>
-    ensures { (text : List ℕ) → IfOk lines (λ l. l.items ≡ text) → Written result (W.output writer.old) (W.output writer.new) text }
+/// Writes the lines of a reply in full, where there was memory for them. Much room is given back.
+fn reply<W: Sink>(
+    writer: &mut W,
+    lines: &mut Vec<u8>,
+    added: Result<(), AllocError>,
+) -> Result<(), ServeFault>
+    ensures { (text : List ℕ) → OnOk added (lines.old.items ≡ text) → Written result (W.output writer.old) (W.output writer.new) text }
 {
-    let Ok(text) = lines else {
+    let Ok(()) = added else {
         return Err(ServeFault::NoMemory);
     };
-    match write_all(writer, &text) {
+    let written = write_all(writer, lines);
+    if lines.capacity() > MOST_KEPT {
+        lines.clear();
+        lines.shrink_to_fit();
+    }
+    match written {
         Ok(()) => Ok(()),
         Err(Failed) => Err(ServeFault::WriteFailed),
     }

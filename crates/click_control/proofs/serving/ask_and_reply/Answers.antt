@@ -1,7 +1,7 @@
 use Rattle.std.proofs.Common.{sym, ap, subst, Option}
 use Rattle.click_router.specs.declared.call.Call.{Call}
 use Rattle.click_control.specs.Serving.{Answered, answer_of}
-use Rattle.click_control.specs.ReplyText.{text_of}
+use Rattle.click_control.specs.kept.Topics.{topic_text}
 use Rattle.click_control.specs.declared.command.Answer.TheVariants as answer
 use Rattle.click_control.proofs.serving.ask_and_reply.Goals as goal
 
@@ -10,11 +10,12 @@ returns-in-Ok g c =
     let told = answer.Replied c.in-Ok.answer in
     let asked = subst (λ (k : Option Call). Answered g.P.Port.asks c.args.port.now k told c.record-recorded.new.self) (sym c.in-Some.is)
     (c.record-recorded.result, c.record-recorded.ensures, sym (ap answer_of c.in-Ok.is)) in
-    (told, asked, c.reply-in-Ok.ensures (text_of c.args.command.now told) c.replied_text.ensures)
+    (told, asked, c.reply-in-Ok.ensures (topic_text c.args.topic.now c.args.buffers.now.handler.items told) (rw c.as_slice-handler.ensures at (rw c.clear.ensures.items at c.push_replied-added.ensures)))
 
 pub returns : goal.returns
 returns g c =
     let told = answer.Failed c.in-Err.fault in
     let asked = subst (λ (k : Option Call). Answered g.P.Port.asks c.args.port.now k told c.record-recorded.new.self) (sym c.in-Some.is)
     (c.record-recorded.result, c.record-recorded.ensures, sym (ap answer_of c.in-Err.is)) in
-    (told, asked, c.reply-in-Err.ensures (text_of c.args.command.now told) c.unreplied_text.ensures)
+    let handler = c.args.buffers.now.handler.items in
+    (told, asked, c.reply-in-Err.ensures (topic_text c.args.topic.now handler told) (rw c.clear.ensures.items at (c.push_failed_topic-added.ensures handler)))
