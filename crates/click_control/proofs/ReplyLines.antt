@@ -1,5 +1,5 @@
 -- The lines of replies, as a session writes them.
-use Rattle.std.proofs.Common.{◌≡◌, ℕ, List, [], ◌++◌, append_assoc, refl}
+use Rattle.std.proofs.Common.{◌≡◌, ℕ, List, [], ◌++◌, append_assoc, sym, ap, ◌∙◌}
 use Rattle.std.specs.Prelude.{codes}
 use Rattle.click_control.specs.declared.direction.Direction.{Direction}
 use Rattle.click_control.specs.declared.direction.Direction.TheVariants as direction
@@ -8,9 +8,24 @@ use Rattle.click_control.specs.declared.command.Command.TheVariants as command
 use Rattle.click_control.specs.declared.command.Answer.{Answer}
 use Rattle.click_control.specs.ReplyText.{quoting, good_text, read_text, done_text, text_of}
 
+-- what is written in two steps, behind room that was taken for both
+regrouped : (text front name back rest : List ℕ) → (text ++ (front ++ (name ++ back))) ++ rest ≡ text ++ (front ++ (name ++ (back ++ rest)))
+regrouped text front name back rest = simp append_assoc
+
+pub joined : (text room front name back between rest : List ℕ) → room ≡ text → between ≡ room ++ (front ++ (name ++ back))
+    → between ++ rest ≡ text ++ (front ++ (name ++ (back ++ rest)))
+joined text room front name back between rest e f =
+    ap (λ t. t ++ rest) (f ∙ ap (λ t. t ++ (front ++ (name ++ back))) e) ∙ regrouped text front name back rest
+
 -- the quotes stand in what is written around the name
-pub value_lines : (name rest : List ℕ) → codes "200 Read handler '" ++ (name ++ (codes "' OK\r\nDATA " ++ rest)) ≡ quoting (codes "200 Read handler ") name (codes " OK") ++ (codes "DATA " ++ rest)
-value_lines name rest = simp append_assoc
+unquoted : (name quote back line_end rest : List ℕ) → (((name ++ quote) ++ back) ++ line_end) ++ rest ≡ name ++ (quote ++ (back ++ (line_end ++ rest)))
+unquoted name quote back line_end rest = simp append_assoc
+
+pub value_lines : (name digits bytes : List ℕ) → codes "200 Read handler '" ++ (name ++ (codes "' OK\r\nDATA " ++ (digits ++ (codes "\r\n" ++ bytes)))) ≡ quoting (codes "200 Read handler ") name (codes " OK") ++ (codes "DATA " ++ digits ++ codes "\r\n" ++ bytes)
+value_lines name digits bytes =
+    let value : List ℕ = codes "DATA " ++ digits ++ codes "\r\n" ++ bytes in
+    ap (λ t. codes "200 Read handler '" ++ t) (ap (λ t. name ++ (codes "' OK\r\nDATA " ++ t)) (sym (append_assoc digits (codes "\r\n") bytes))
+    ∙ sym (unquoted name (codes "'") (codes " OK") (codes "\r\n") value))
 
 pub good_write : (name : List ℕ) → codes "200 Write handler '" ++ (name ++ codes "' OK\r\n") ≡ good_text direction.Write name
 good_write name = simp append_assoc

@@ -1,8 +1,8 @@
 -- Lemmas on the words of a line.
-use Rattle.std.proofs.Common.{◌≡◌, ℕ, ◌+◌, ◌-◌, ◌<◌, List, [], ◌∷◌, Bool, true, false, not, length, get_or, take, drop, refl, sym, ap, ◌∙◌, inl, inr, one-add, arith}
+use Rattle.std.proofs.Common.{◌≡◌, ℕ, ◌-◌, ◌<◌, List, [], ◌∷◌, Bool, true, false, not, length, get_or, take, drop, refl, sym, ap, ◌∙◌, inl, inr, one-add, arith}
 use Rattle.std.specs.List.{prefix_len, suffix_len, before_last, list_any}
 use Rattle.std.proofs.lemmas.List.Folds.{list_any_at}
-use Rattle.std.proofs.lemmas.Bool.{cases_Bool, not_from_false, not_from_true}
+use Rattle.std.proofs.lemmas.Bool.{cases_Bool, not_from_false}
 use Rattle.std.proofs.lemmas.List.Sums.{suffix_len_is}
 use Rattle.click_base.specs.Blanks.{is_blank}
 use Rattle.click_base.specs.Dotted.{is_dot}

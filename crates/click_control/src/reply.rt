@@ -218,12 +218,8 @@ fn push_counted(
 {
     let room = handler.len().saturating_add(bytes.len());
     text.reserve(room.saturating_add(VALUE_LINES))?;
-    text.extend_from_slice(b"200 Read handler '")?;
-    text.extend_from_slice(handler)?;
-    text.extend_from_slice(b"' OK\r\nDATA ")?;
-    text.extend_from_slice(digits)?;
-    text.extend_from_slice(b"\r\n")?;
-    text.extend_from_slice(bytes)
+    push_around(text, b"200 Read handler '", handler, b"' OK\r\nDATA ")?;
+    push_around(text, digits, b"\r\n", bytes)
 }
 
 /// Adds why a read or a write was refused.

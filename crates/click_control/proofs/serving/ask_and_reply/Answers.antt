@@ -10,7 +10,7 @@ returns-in-Ok g c =
     let told = answer.Replied c.in-Ok.answer in
     let asked = subst (λ (k : Option Call). Answered g.P.Port.asks c.args.port.now k told c.record-recorded.new.self) (sym c.in-Some.is)
     (c.record-recorded.result, c.record-recorded.ensures, sym (ap answer_of c.in-Ok.is)) in
-    (told, asked, c.reply-in-Ok.ensures (topic_text c.args.topic.now c.args.buffers.now.handler.items told) (rw c.as_slice-handler.ensures at (rw c.clear.ensures.items at c.push_replied-added.ensures)))
+    (told, asked, c.reply-in-Ok.ensures (topic_text c.args.topic.now c.args.buffers.now.handler.items told) (rw c.as_slice-handler.ensures.value at (rw c.clear.ensures.items at c.push_replied-added.ensures)))
 
 pub returns : goal.returns
 returns g c =
