@@ -19,6 +19,7 @@ use click_workers::{
 use std::alloc::Global;
 use std::io::{self, Write};
 use std::marker::Model;
+use std::mem;
 use std::sync::Wait;
 use std::thread::Threads;
 
@@ -171,6 +172,8 @@ fn serve_text<T: Handlers + Drop, S: Source, W: Sink, R: Wait>(
             },
         ) => {
             tell_end(host, end, checked, book.entries.as_slice());
+            // The process ends, and its memory with it.
+            mem::forget(book);
             end_status(&ended)
         }
         Err(fault) => refuse(host, &fault),
@@ -238,6 +241,8 @@ pub(crate) fn conclude<T: Drop>(host: &HostRuntime, end: EndReport, all: AllRan<
         checked,
     } = all;
     tell_end(host, end, checked, book.entries.as_slice());
+    // The process ends, and its memory with it.
+    mem::forget(book);
     sessions_status(ended.as_slice())
 }
 
