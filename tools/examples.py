@@ -230,9 +230,13 @@ def fault_rows(page):
         yield cells[1], code(cells[4]), code(cells[5])
 
 
+# Where the layers name their faults.
+FAULT_KINDS = ["crates/click_text/src/syntax.rt", *(f"crates/click_{it}/src/fault.rt" for it in ("scopes", "expand", "classes", "ports"))]
+
+
 def faults(row):
     """There is a row for each fault's number, in order and with its name in the code, and each row's example is refused with just the line that it shows."""
-    (page, kinds), (prog, bench), tried = row.pages, map(program, row.programs), []
+    (page, *layers), (prog, bench), tried = row.pages, map(program, row.programs), []
     for fault, example, line in fault_rows(page):
         tried.append(fault)
         if fault == "6 TooLarge":
@@ -244,8 +248,9 @@ def faults(row):
             if line != f"click_prog: {fault}" and not line.startswith(f"click_prog: {fault} "):
                 fail(f"the row of {fault} shows the line {line}")
             is_refused(prog, f"the example of fault {fault}", example, line)
-    enum = text_of(kinds).partition("pub enum FaultKind")[2].partition("\n}")[0]
-    same([f"{number} {name}" for name, number in re.findall(r"^ *(\w+) = (\d+),$", enum, re.M)], tried, f"the faults of {page}, in order")
+    # Each layer's own, and want of memory in each of them.
+    kinds = {kind for it in layers for kind in re.findall(r'^ *\w+::\w+ => "(\d+ \w+)",$', text_of(it), re.M)}
+    same(sorted(kinds, key=lambda it: int(it.split()[0])), tried, f"the faults of {page}, in order")
     return f"{len(tried)} faults, each shown by its example"
 
 
@@ -567,7 +572,7 @@ TABLE = (
     Row(["docs/LINKS.md"], ["click_prog"], script),
     Row(["docs/PICTURE.md", "examples", "examples/calls", "examples/gateway", "examples/pcap"], ["click_prog"], pictures),
     Row(["docs/FEEDS.md", "crates/click_desk_tests/src/drivers.rt"], [], driver),
-    Row(["docs/FAULTS.md", "crates/click_router/src/fault.rt"], ["click_prog", "click_bench"], faults),
+    Row(["docs/FAULTS.md", *FAULT_KINDS], ["click_prog", "click_bench"], faults),
     Row(["docs/ELEMENTS.md"], ["click_calls"], sections),
     Row(["examples/readings.txt", "docs/LANGUAGE.md", "docs/ELEMENTS.md"], ["click_prog", "click_bench"], readings),
     Row(["examples/texts.txt"], ["click_bench"], texts),

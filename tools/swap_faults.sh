@@ -29,9 +29,9 @@ fault_rows() {
     done < <(grep '^| [0-9]' "$1")
 }
 
-# fault_kinds: the number and the name of each fault in crates/click_router/src/fault.rt, one a line.
+# fault_kinds: the number and the name of each fault, as the layers name them, one a line, in order.
 fault_kinds() {
-    sed -n '/^pub enum FaultKind/,/^}/s/^ *\([A-Za-z]*\) = \([0-9]*\),$/\2 \1/p' "$top/crates/click_router/src/fault.rt"
+    sed -n 's/^ *[A-Za-z]*::[A-Za-z]* => "\([0-9]* [A-Za-z]*\)",$/\1/p' "$top"/crates/click_text/src/syntax.rt "$top"/crates/click_{scopes,expand,classes,ports}/src/fault.rt | sort -n -u
 }
 
 hex() { printf '%s' "$1" | od -An -v -tx1 | tr -d ' \n'; }

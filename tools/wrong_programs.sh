@@ -568,7 +568,7 @@ wrong_example sections docs/ELEMENTS.md 's/^## Tee$/## Tea/' '/^## Tee$/,/^## Pu
 wrong_example sections crates/click_base/src/class.rt '/^    Class::Tee,/d'
 wrong_example faults docs/FAULTS.md '/^| 23 /d' 's/^| 23 BadText/| 23 BadWord/' 's/^| 23 /| 27 /' '/^| 23 /p' 's/at 1:48/at 1:49/' \
     's/17 BrokenText in P@2/17 BrokenText in P@3/' 's/Idle => Discard/Idle -> Discard/' 's/^| /- /'
-wrong_example faults crates/click_router/src/fault.rt 's/ = 23,/ = 99,/'
+wrong_example faults crates/click_classes/src/fault.rt 's/"23 /"99 /'
 # The examples of the language: a page and the list of what is read have to agree.
 wrong_example readings docs/LANGUAGE.md '0,/^```click$/s//```/' '/^Fault: 11 /d' 's/^Fault: 13 UnknownClass at 1:6/Fault: 13 UnknownClass at 1:7/' '/^Fault: 12 /p' \
     's/^x :: { y :: Idle };/x :: { z :: Idle };/' '$a ```click\nIdle;\n```' '$a ```click\nIdle;' '$a Fault: 1 BadByte at 1:1' 's/```click/```/'
