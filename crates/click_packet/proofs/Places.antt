@@ -36,3 +36,13 @@ refilled xs ys e =
 -- how many bytes there are
 pub held : (xs : List ℕ) (start len : ℕ) → start + len ≤ length xs → length (take len (drop start xs)) ≡ len
 held xs start len h = length-take-le len (drop start xs) (omega (arith, length-drop start xs))
+
+-- the bytes once a front was written before them
+pub fronted : (items written front : List ℕ) (start len count : ℕ) → length front ≡ count → count ≤ start → length written ≡ length items →
+    drop (start - count) written ≡ front ++ drop (start - count + count) items →
+    take (len + count) (drop (start - count) (take (length items) (written ++ drop (length written) items))) ≡ front ++ take len (drop start items)
+fronted items written front start len count short room same put =
+    let place : start - count + count ≡ start = omega arith in
+    ap (λ bytes. take (len + count) (drop (start - count) bytes)) (refilled items written same)
+    ∙ ap (λ n. take (len + n) (drop (start - count) written)) (sym short)
+    ∙ prepended front (drop start items) _ len (put ∙ ap (λ n. front ++ drop n items) place)

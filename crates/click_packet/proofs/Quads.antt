@@ -1,50 +1,42 @@
 -- Facts on a header's bytes as 32-bit words.
-use Rattle.std.proofs.Common.{◌≡◌, ℕ, zero, suc, ◌+◌, ◌-◌, ◌*◌, ◌/◌, ◌%◌, ◌<◌, ◌≤◌, ◌↔◌, List, [], ◌∷◌, length, get_or, set, drop, length-set, refl, sym, ◌∙◌, ap, arith}
+use Rattle.std.proofs.Common.{◌≡◌, ℕ, ◌+◌, ◌-◌, ◌*◌, ◌/◌, ◌%◌, ◌<◌, ◌≤◌, ◌↔◌, List, [], ◌∷◌, length, get_or, set, drop, length-set, refl, arith}
 use Rattle.std.proofs.lemmas.List.{drop_more}
-use Rattle.click_packet.proofs.Sums.{total, sum_of_words-total, ones_sum-is, ones_sum_at, ones_sum-positive}
+use Rattle.std.specs.Int.{w16, to_le_bytes}
+use Rattle.click_packet.proofs.Sums.{total, sum_of_words-total, ones_sum-positive}
 use Rattle.click_packet.specs.Checksum.{sum_of_words, ones_sum}
 use Rattle.click_packet.specs.Header.{with_checksum_field, checksum}
 use Rattle.click_packet.specs.kept.Quads.{quads}
 
--- the sum of the first halves of the words
-abbrev highs : List ℕ → ℕ
-highs (a ∷ b ∷ c ∷ d ∷ rest) = a * 256 + b + highs rest
-highs xs = 0
+-- the sum of the words' first bytes
+abbrev firsts : List ℕ → ℕ
+firsts (a ∷ b ∷ c ∷ d ∷ rest) = a + firsts rest
+firsts xs = 0
 
--- a word of 32 bits counts its first half 65,536 times, once for itself and 65,535 times more
-quads-total : (xs : List ℕ) → length xs % 4 ≡ 0 → quads xs ≡ total xs + 65535 * highs xs
+-- the sum of their last bytes
+abbrev lasts : List ℕ → ℕ
+lasts (a ∷ b ∷ c ∷ d ∷ rest) = d + lasts rest
+lasts xs = 0
+
+-- a word of 32 bits with its low byte first counts the first byte of its first half once and not 65,536 times, and the
+-- last byte of its second half 16,777,216 times and not 256 times; the others 256 times what they count in their half
+quads-total : (xs : List ℕ) → length xs % 4 ≡ 0 → quads xs + 65535 * firsts xs ≡ 256 * total xs + 16776960 * lasts xs
 quads-total [] h = refl
 quads-total (a ∷ []) h = absurd (omega arith)
 quads-total (a ∷ b ∷ []) h = absurd (omega arith)
 quads-total (a ∷ b ∷ c ∷ []) h = absurd (omega arith)
 quads-total (a ∷ b ∷ c ∷ d ∷ rest) h = let e = quads-total rest (omega arith) in omega (arith, e)
 
-highs-total : (xs : List ℕ) → highs xs ≤ total xs
-highs-total [] = omega arith
-highs-total (a ∷ []) = omega arith
-highs-total (a ∷ b ∷ []) = omega arith
-highs-total (a ∷ b ∷ c ∷ []) = omega arith
-highs-total (a ∷ b ∷ c ∷ d ∷ rest) = let e = highs-total rest in omega (arith, e)
-
--- a number of times 65,535 more leaves the ones' complement sum
-ones_sum-more : (n k : ℕ) → k ≤ n → ones_sum (n + 65535 * k) ≡ ones_sum n
-ones_sum-more zero k h =
-    let e : zero + 65535 * k ≡ zero = omega arith in
-    ap ones_sum e
-ones_sum-more (suc n) k h =
-    let i = ones_sum-is (suc n) (omega arith) in
-    ones_sum_at (suc n + 65535 * k) (ones_sum (suc n)) ((suc n - 1) / 65535 + k) (omega (arith, i.1)) (omega (arith, i.2)) (omega (arith, i.0))
-
--- words of 32 bits and words of 16 have the same ones' complement sum
-pub ones_sum-quads : (xs : List ℕ) → length xs % 4 ≡ 0 → ones_sum (quads xs) ≡ ones_sum (sum_of_words xs)
-ones_sum-quads xs h =
-    let e : quads xs ≡ sum_of_words xs + 65535 * highs xs = omega (arith, quads-total xs h, sum_of_words-total xs) in
-    ap ones_sum e ∙ ones_sum-more (sum_of_words xs) (highs xs) (omega (arith, highs-total xs, sum_of_words-total xs))
+lasts-total : (xs : List ℕ) → lasts xs ≤ total xs
+lasts-total [] = omega arith
+lasts-total (a ∷ []) = omega arith
+lasts-total (a ∷ b ∷ []) = omega arith
+lasts-total (a ∷ b ∷ c ∷ []) = omega arith
+lasts-total (a ∷ b ∷ c ∷ d ∷ rest) = let e = lasts-total rest in omega (arith, e)
 
 -- the next word of a list from a place on
 pub quads-drop : (xs : List ℕ) (i : ℕ) → 4 * i + 3 < length xs →
     quads (drop (4 * i) xs)
-    ≡ get_or xs (4 * i) 0 * 16777216 + get_or xs (4 * i + 1) 0 * 65536 + get_or xs (4 * i + 2) 0 * 256 + get_or xs (4 * i + 3) 0 + quads (drop (4 * (i + 1)) xs)
+    ≡ get_or xs (4 * i) 0 + get_or xs (4 * i + 1) 0 * 256 + get_or xs (4 * i + 2) 0 * 65536 + get_or xs (4 * i + 3) 0 * 16777216 + quads (drop (4 * (i + 1)) xs)
 quads-drop xs i h =
     let a : 4 * i < length xs = omega arith in
     let b : 4 * i + 1 < length xs = omega arith in
@@ -60,7 +52,7 @@ quads-drop xs i h =
 
 -- the word at a place
 abbrev pub quad_at : List ℕ → ℕ → ℕ
-quad_at xs i = get_or xs i 0 * 16777216 + get_or xs (i + 1) 0 * 65536 + get_or xs (i + 2) 0 * 256 + get_or xs (i + 3) 0
+quad_at xs i = get_or xs i 0 + get_or xs (i + 1) 0 * 256 + get_or xs (i + 2) 0 * 65536 + get_or xs (i + 3) 0 * 16777216
 
 -- the words of a header without options, and those of its options
 pub quads-header : (xs : List ℕ) → 20 ≤ length xs →
@@ -71,32 +63,58 @@ quads-header xs long = absurd (omega arith)
 -- the same with another time to live and the checksum zero
 pub quads-bare : (xs : List ℕ) (ttl : ℕ) → 20 ≤ length xs →
     quads (with_checksum_field (set xs 8 ttl) 0)
-    ≡ quad_at xs 0 + quad_at xs 4 + (ttl * 16777216 + get_or xs 9 0 * 65536) + quad_at xs 12 + quad_at xs 16 + quads (drop 20 xs)
+    ≡ quad_at xs 0 + quad_at xs 4 + (ttl + get_or xs 9 0 * 256) + quad_at xs 12 + quad_at xs 16 + quads (drop 20 xs)
 quads-bare (a ∷ b ∷ c ∷ d ∷ e ∷ f ∷ g ∷ h ∷ i ∷ j ∷ k ∷ l ∷ m ∷ n ∷ o ∷ p ∷ q ∷ r ∷ s ∷ t ∷ rest) ttl long = omega arith
 quads-bare xs ttl long = absurd (omega arith)
 
+-- a number and 256 times another that are congruent modulo 65,535 are divided by it together
+divides-turned : (n t f l : ℕ) → n + 65535 * f ≡ 256 * t + 16776960 * l → (n % 65535 ≡ 0) ↔ (t % 65535 ≡ 0)
+divides-turned n t f l e = (λ h. omega arith, λ h. omega arith)
+
 -- the sum is ffff where 65,535 divides a plain sum that is not 0
-pub divides : (n : ℕ) → 0 < n → (n % 65535 ≡ 0) ↔ (ones_sum n ≡ 65535)
+divides : (n : ℕ) → 0 < n → (n % 65535 ≡ 0) ↔ (ones_sum n ≡ 65535)
 divides n h =
     let e = ones_sum-positive n h in
     (λ f. omega (arith, e), λ f. omega (arith, e))
 
+-- where a header's words do not sum to 0, its halves do not
+total-positive : (xs : List ℕ) → length xs % 4 ≡ 0 → 0 < quads xs → 0 < sum_of_words xs
+total-positive xs whole some =
+    omega (arith, quads-total xs whole, lasts-total xs, sum_of_words-total xs)
+
 -- the test of the words of 32 bits is that of the words of 16
 pub sums_by_quads : (xs : List ℕ) (n : ℕ) → length xs % 4 ≡ 0 → 0 < n → n ≡ quads xs → (n % 65535 ≡ 0) ↔ (ones_sum (sum_of_words xs) ≡ 65535)
 sums_by_quads xs n whole some e =
-    let same = ap ones_sum e ∙ ones_sum-quads xs whole in
-    let d = divides n some in
-    (λ f. sym same ∙ d.0 f, λ f. d.1 (same ∙ f))
+    let t = sum_of_words xs in
+    let turned = divides-turned n t (firsts xs) (lasts xs) (omega (arith, e, quads-total xs whole, sum_of_words-total xs)) in
+    let test = divides t (total-positive xs whole (omega (arith, e))) in
+    (λ h. test.0 (turned.0 h), λ h. turned.1 (test.1 h))
 
--- the checksum by the words of 32 bits
+-- the complement of the sum of words with their low byte first is that of the others with its bytes exchanged
+exchanged : (n t f l v w : ℕ) → 0 < n → 0 < t → n + 65535 * f ≡ 256 * t + 16776960 * l → v ≡ 65534 - (n - 1) % 65535 → w ≡ 65534 - (t - 1) % 65535 →
+    v ≡ w % 256 * 256 + w / 256
+exchanged n t f l v w some positive e g h = omega arith
+
+two_bytes : (v w : ℕ) → w < 65536 → v ≡ w % 256 * 256 + w / 256 → to_le_bytes w16 v ≡ w / 256 ∷ w % 256 ∷ []
+two_bytes v w short e =
+    let high : v % 256 ≡ w / 256 = omega arith in
+    let low : v / 256 % 256 ≡ w % 256 = omega arith in
+    rw (high, low) refl
+
+-- the checksum's bytes by the words of 32 bits
 pub checksum_by_quads : (xs : List ℕ) (ttl n : ℕ) → length xs % 4 ≡ 0 → 0 < n → n ≡ quads (with_checksum_field (set xs 8 ttl) 0) →
-    65534 - (n - 1) % 65535 ≡ checksum (set xs 8 ttl)
+    to_le_bytes w16 (65534 - (n - 1) % 65535) ≡ checksum (set xs 8 ttl) / 256 ∷ checksum (set xs 8 ttl) % 256 ∷ []
 unfolding checksum
 checksum_by_quads xs ttl n whole some e =
     let bare = with_checksum_field (set xs 8 ttl) 0 in
     let len : length bare ≡ length xs = simp length-set in
-    let same = ap ones_sum e ∙ ones_sum-quads bare (omega (arith, whole, len)) in
-    let f : 65534 - (n - 1) % 65535 ≡ 65535 - ones_sum n = omega (arith, ones_sum-positive n some) in
-    f ∙ ap (λ m. 65535 - m) same
+    let fit : length bare % 4 ≡ 0 = omega (arith, whole, len) in
+    let t = sum_of_words bare in
+    let positive = total-positive bare fit (omega (arith, e)) in
+    let v = 65534 - (n - 1) % 65535 in
+    let w = 65535 - ones_sum t in
+    let turned : n + 65535 * firsts bare ≡ 256 * t + 16776960 * lasts bare = omega (arith, e, quads-total bare fit, sum_of_words-total bare) in
+    let complement : w ≡ 65534 - (t - 1) % 65535 = omega (arith, ones_sum-positive t positive) in
+    two_bytes v w (omega arith) (exchanged n t (firsts bare) (lasts bare) v w some positive turned refl complement)
 
 pub ruleset quad_steps = (quads-drop)

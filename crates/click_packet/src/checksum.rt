@@ -1,19 +1,20 @@
-//! The checksum of an internet header (RFC 791, section 3.1). Words of 32 bits are summed, half as many as of 16:
-//! 65,536 leaves 1 modulo 65,535, so their ones' complement sum is the same.
-ghost use Rattle.std.specs.Prelude.{◌≡◌, ◌+◌, ◌-◌, ◌*◌, ◌%◌, ◌<◌, ◌≤◌, ◌↔◌, length, drop, slice_index, slice_set, IsTrue};
+//! The checksum of an internet header (RFC 791, section 3.1). Words of 32 bits are summed, half as many as of 16, and with
+//! their low byte first, as the machine reads them: 65,536 leaves 1 modulo 65,535, so their ones' complement sum is that
+//! of the 16-bit words with its two bytes exchanged (RFC 1071, section 2).
+ghost use Rattle.std.specs.Prelude.{◌≡◌, ◌+◌, ◌-◌, ◌*◌, ◌/◌, ◌%◌, ◌<◌, ◌≤◌, ◌↔◌, [], ◌∷◌, length, drop, slice_index, slice_set, IsTrue};
 ghost use Rattle.click_packet.specs.Checksum.{sum_of_words, ones_sum};
 ghost use Rattle.click_packet.specs.Header.{checksum};
 ghost use Rattle.click_packet.specs.kept.Quads.{quads};
 
-/// The 32-bit word from a byte on, the high byte first.
+/// The 32-bit word from a byte on, the low byte first.
 fn quad(header: &[u8], at: usize) -> u64
     requires { at + 4 ≤ length header.now }
-    ensures value { result ≡ slice_index header.now at * 16777216 + slice_index header.now (at + 1) * 65536
-        + slice_index header.now (at + 2) * 256 + slice_index header.now (at + 3) }
+    ensures value { result ≡ slice_index header.now at + slice_index header.now (at + 1) * 256
+        + slice_index header.now (at + 2) * 65536 + slice_index header.now (at + 3) * 16777216 }
     ensures fits { result < 4294967296 }
 {
     let word = [header[at], header[at + 1], header[at + 2], header[at + 3]];
-    u64::from(u32::from_be_bytes(word))
+    u64::from(u32::from_le_bytes(word))
 }
 
 /// The sum of the 32-bit words of a header's options, which follow its first 20 bytes.
@@ -49,21 +50,22 @@ pub fn sums_to_ones(header: &[u8]) -> bool
     total % 65535 == 0
 }
 
-/// The checksum that belongs into a header with this time to live, whatever stands in its bytes 8, 10 and 11 now.
-pub fn checksum_at(header: &[u8], ttl: u8) -> u16
+/// The two bytes of the checksum that belongs into a header with this time to live, whatever stands in its bytes 8, 10 and
+/// 11 now.
+pub fn checksum_at(header: &[u8], ttl: u8) -> [u8; 2]
     requires whole { length header.now % 4 ≡ 0 }
     requires long { 20 ≤ length header.now }
     requires short { length header.now ≤ 60 }
     requires begun { 0 < slice_index header.now 0 }
-    ensures { result ≡ checksum (slice_set header.now 8 ttl) }
+    ensures { result ≡ checksum (slice_set header.now 8 ttl) / 256 ∷ checksum (slice_set header.now 8 ttl) % 256 ∷ [] }
 {
     // The third word ends with the checksum itself, which counts as zero.
-    let third = u32::from(ttl) * 0x100_0000 + u32::from(header[9]) * 0x1_0000;
+    let third = u64::from(ttl) + u64::from(header[9]) * 256;
     let total = sum_of_options(header)
         + quad(header, 0)
         + quad(header, 4)
-        + u64::from(third)
+        + third
         + quad(header, 12)
         + quad(header, 16);
-    (65534 - (total - 1) % 65535) as u16
+    ((65534 - (total - 1) % 65535) as u16).to_le_bytes()
 }

@@ -81,10 +81,10 @@ fn write_ttl(bytes: &mut [u8], len: usize, ttl: u8)
     requires there { len ≤ length bytes.old }
     ensures { bytes.new ≡ with_ttl bytes.old ttl }
 {
-    let word = checksum_at(&bytes[..len], ttl);
+    let [high, low] = checksum_at(&bytes[..len], ttl);
     bytes[8] = ttl;
-    bytes[10] = (word / 256) as u8;
-    bytes[11] = (word % 256) as u8;
+    bytes[10] = high;
+    bytes[11] = low;
 }
 
 /// Sets byte 8 and the checksum that goes with it, where there is a header, and says whether there is.

@@ -3,7 +3,7 @@
 ghost use Rattle.std.specs.Prelude.{◌≡◌, ◌≤◌, [], length, IfOk, vec_capacity};
 ghost use Rattle.click_packet.specs.Packet.{longest_packet};
 
-use crate::packet::{LIMIT, Packet};
+use crate::packet::{LIMIT, Marks, Packet};
 use std::alloc::{AllocError, Global};
 use std::marker::Model;
 
@@ -11,8 +11,7 @@ use std::marker::Model;
 #[derive(Drop)]
 pub struct StoredPacket {
     bytes: Vec<u8>,
-    colour: u8,
-    next: [u8; 4],
+    marks: Marks,
 }
 
 impl Model for StoredPacket {
@@ -23,7 +22,7 @@ impl Model for StoredPacket {
 
     ghost invariant = { λ p. length p.bytes.items ≤ longest_packet };
 
-    ghost view = { λ p. record { bytes = p.bytes.items; paint = p.colour; destination = p.next } };
+    ghost view = { λ p. record { bytes = p.bytes.items; paint = p.marks.paint; destination = p.marks.destination } };
 }
 
 impl StoredPacket {
@@ -33,8 +32,7 @@ impl StoredPacket {
     {
         Ok(StoredPacket {
             bytes: Vec::from_slice(alloc, packet.bytes())?,
-            colour: packet.paint(),
-            next: packet.destination(),
+            marks: packet.marks(),
         })
     }
 
@@ -44,8 +42,7 @@ impl StoredPacket {
     {
         Ok(StoredPacket {
             bytes: Vec::from_slice(alloc, self.bytes.as_slice())?,
-            colour: self.colour,
-            next: self.next,
+            marks: self.marks,
         })
     }
 
@@ -60,13 +57,13 @@ impl StoredPacket {
     pub fn paint(&self) -> u8
         ensures { result ≡ self.now.paint }
     {
-        self.colour
+        self.marks.paint
     }
 
     pub fn destination(&self) -> [u8; 4]
         ensures { result ≡ self.now.destination }
     {
-        self.next
+        self.marks.destination
     }
 
     /// Makes the packet equal to this one. It takes no memory.
@@ -74,10 +71,7 @@ impl StoredPacket {
         ensures { packet.new ≡ self.now }
     {
         match packet.fill(self.bytes.as_slice()) {
-            Ok(()) => {
-                packet.set_paint(self.colour);
-                packet.set_destination(self.next);
-            }
+            Ok(()) => packet.set_marks(self.marks),
             Err(_) => unreachable!(),
         }
     }
@@ -119,8 +113,7 @@ impl PacketRoom {
     {
         StoredPacket {
             bytes: self.filled(packet.bytes()),
-            colour: packet.paint(),
-            next: packet.destination(),
+            marks: packet.marks(),
         }
     }
 
@@ -130,8 +123,7 @@ impl PacketRoom {
     {
         StoredPacket {
             bytes: self.filled(packet.bytes()),
-            colour: packet.colour,
-            next: packet.next,
+            marks: packet.marks,
         }
     }
 }
