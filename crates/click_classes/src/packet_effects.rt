@@ -1,6 +1,6 @@
 //! What an element does with a packet. What a class does stands in the class's own file; here are the lists of the classes.
 
-ghost use Rattle.std.specs.Prelude.{◌≡◌, MatchOption, None, true, false, nat_lt, if◌then◌else◌};
+ghost use Rattle.std.specs.Prelude.{◌≡◌, ℕ, MatchOption, None, true, false, nat_lt, if◌then◌else◌};
 ghost use Rattle.click_classes.specs.Acts.{after, range, side_output, pushed_to, copied_to, is_answer, is_active, pass, passed, act, sent, tries, stored, emission, burst_of, gives};
 
 use crate::classes::address::take_address;
@@ -335,6 +335,26 @@ impl State {
             | State::FromDevice { .. }
             | State::ToDevice { .. } => NONE,
         }
+    }
+
+    /// Stores a packet that is pushed into a Queue, which reads it where it lies; false, and without change, in a state of another class.
+    #[tactic(auto, unfolding(crate::specs::Acts::act))]
+    #[inline(always)]
+    pub fn store(&mut self, packet: &Packet) -> bool
+        ensures stored { result ≡ true → (outputs input : ℕ)
+            → act outputs self.old input packet.now ≡ record { state = self.new; packet = packet.now; outputs = record { first = 0; count = 0 } } }
+        ensures other { result ≡ false → self.new ≡ self.old }
+    {
+        let State::Queue {
+            list,
+            drops,
+            highest,
+        } = self
+        else {
+            return false;
+        };
+        store(list, drops, highest, packet);
+        true
     }
 
     /// Takes out what the element itself has stored, and makes `packet` equal to it; false, and without change, where there is nothing.

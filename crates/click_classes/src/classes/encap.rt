@@ -56,7 +56,5 @@ fn ether_header(ether_type: u16, source: [u8; 6], destination: [u8; 6]) -> [u8; 
 pub fn encapsulate(header: &[u8; 14], packet: &mut Packet) -> bool
     ensures { (state : State) → encapsulated state header.now packet.old ≡ passed state packet.new (if result then Verdict.Forward else Verdict.Dropped) }
 {
-    // (a copy lies apart from the packet, so that whether they overlap is not tested)
-    let front = *header;
-    packet.prepend(front.as_slice()).is_ok()
+    packet.prepend_array(header).is_ok()
 }
