@@ -1,7 +1,7 @@
 //! The connections of a net, in tables.
-ghost use Rattle.std.specs.Prelude.{◌≡◌, ◌<◌, ◌≤◌, ◌^◌, ℕ, [], length, vec_len, slice_index_or, IfOk, OnOk, None, nat_eq, replicate, map};
+ghost use Rattle.std.specs.Prelude.{◌≡◌, ◌<◌, ◌≤◌, ◌^◌, ℕ, [], ◌∷◌, length, vec_len, slice_index_or, IfOk, OnOk, None, true, nat_eq, replicate, map};
 ghost use Rattle.click_engine.specs.Adjacency.{end_of, first_joined};
-ghost use Rattle.click_engine.specs.kept.Tables.{element_of, end_apart, entry, far_of, first_far, first_of, nowhere, port_of, rows_of, IsNoted, IsTable};
+ghost use Rattle.click_engine.specs.kept.Tables.{element_of, end_apart, ends_of, entry, far_of, first_far, first_of, nowhere, port_of, rows_of, IsNoted, IsTable};
 
 use crate::run_state::ConnectionEnd;
 use click_classes::Side;
@@ -9,13 +9,21 @@ use click_expand::Connection;
 use click_ports::Net;
 use std::alloc::{AllocError, Global};
 use std::marker::Model;
+use std::slice;
+
+/// What the ports of an element at a side are joined to, where that is noted. Mostly there is none but the first: that one takes no memory.
+#[derive(Drop)]
+enum PortRow {
+    First(Option<ConnectionEnd>),
+    Several(Vec<Option<ConnectionEnd>>),
+}
 
 /// A net, with tables of where a push at an output goes and which output a pull at an input asks.
 #[derive(Drop)]
 pub struct Adjacency {
     net: Net,
-    targets: Vec<Vec<Option<ConnectionEnd>>>,
-    sources: Vec<Vec<Option<ConnectionEnd>>>,
+    targets: Vec<PortRow>,
+    sources: Vec<PortRow>,
     /// The element that a push at the first output of each element goes to: mostly there is no other output.
     ahead: Vec<usize>,
     /// The inputs of these. They stand apart, so that a step finds each by the place alone.
@@ -72,8 +80,17 @@ fn extend_row(row: &mut Vec<Option<ConnectionEnd>>, count: usize) -> Result<(), 
     Ok(())
 }
 
-/// Notes in a row what a port is joined to, unless something is noted there.
-fn note_port(
+/// Notes what a port is joined to, unless something is noted there.
+fn note(slot: &mut Option<ConnectionEnd>, far: ConnectionEnd)
+    ensures { slot.new ≡ first_of slot.old true far }
+{
+    if slot.is_none() {
+        *slot = Some(far);
+    }
+}
+
+/// The same in a row of several ports.
+fn note_among(
     row: &mut Vec<Option<ConnectionEnd>>,
     port: usize,
     far: ConnectionEnd,
@@ -82,27 +99,64 @@ fn note_port(
     ensures { OnOk result ((n : ℕ) → slice_index_or row.new.items n None ≡ first_of (slice_index_or row.old.items n None) (nat_eq port n) far) }
 {
     extend_row(row, port + 1)?;
-    let slot = &mut row[port];
-    if slot.is_none() {
-        *slot = Some(far);
-    }
+    note(&mut row[port], far);
     Ok(())
 }
 
+/// A row of several ports, which begins with what the first is joined to, with what a port is joined to noted.
+fn several_with(
+    alloc: Global,
+    first: Option<ConnectionEnd>,
+    port: usize,
+    far: ConnectionEnd,
+) -> Result<Vec<Option<ConnectionEnd>>, AllocError>
+    requires { port < 2 ^ 32 }
+    ensures { IfOk result (λ row. (n : ℕ) → slice_index_or row.items n None ≡ first_of (slice_index_or (first ∷ []) n None) (nat_eq port n) far) }
+{
+    let mut row = Vec::new(alloc);
+    row.push(first)?;
+    note_among(&mut row, port, far)?;
+    Ok(row)
+}
+
+/// Notes in a row what a port is joined to, unless something is noted there.
+fn note_port(
+    alloc: Global,
+    row: &mut PortRow,
+    port: usize,
+    far: ConnectionEnd,
+) -> Result<(), AllocError>
+    requires { port < 2 ^ 32 }
+    ensures { OnOk result ((n : ℕ) → slice_index_or (ends_of row.new) n None ≡ first_of (slice_index_or (ends_of row.old) n None) (nat_eq port n) far) }
+{
+    match row {
+        PortRow::First(first) if port == 0 => {
+            note(first, far);
+            Ok(())
+        }
+        PortRow::First(first) => {
+            *row = PortRow::Several(several_with(alloc, *first, port, far)?);
+            Ok(())
+        }
+        PortRow::Several(several) => note_among(several, port, far),
+    }
+}
+
 /// So many rows without an entry.
-fn empty_rows(alloc: Global, count: usize) -> Result<Vec<Vec<Option<ConnectionEnd>>>, AllocError>
-    ensures { IfOk result (λ rows. rows_of rows.items ≡ replicate count []) }
+fn empty_rows(alloc: Global, count: usize) -> Result<Vec<PortRow>, AllocError>
+    ensures { IfOk result (λ rows. rows_of rows.items ≡ replicate count (None ∷ [])) }
 {
     let mut rows = Vec::with_capacity(alloc, count)?;
     for _row in 0..count {
-        rows.push(Vec::new(alloc))?;
+        rows.push(PortRow::First(None))?;
     }
     Ok(rows)
 }
 
 /// Notes what a connection joins.
 fn note_connection(
-    rows: &mut Vec<Vec<Option<ConnectionEnd>>>,
+    alloc: Global,
+    rows: &mut Vec<PortRow>,
     near: ConnectionEnd,
     far: ConnectionEnd,
 ) -> Result<(), AllocError>
@@ -110,36 +164,24 @@ fn note_connection(
     ensures noted { OnOk result (IsNoted (rows_of rows.old.items) (rows_of rows.new.items) near far) }
     ensures all { OnOk result (vec_len rows.new ≡ vec_len rows.old) }
 {
-    note_port(&mut rows[near.element], usize::from(near.port), far)
+    note_port(alloc, &mut rows[near.element], usize::from(near.port), far)
 }
 
 /// For each port of a side the other end of the first connection there.
-fn joined(
-    alloc: Global,
-    net: &Net,
-    side: Side,
-    other: Side,
-) -> Result<Vec<Vec<Option<ConnectionEnd>>>, AllocError>
+fn joined(alloc: Global, net: &Net, side: Side, other: Side) -> Result<Vec<PortRow>, AllocError>
     ensures table { IfOk result (λ rows. IsTable (rows_of rows.items) (first_joined side other net.now.connections)) }
     ensures all { IfOk result (λ rows. vec_len rows ≡ length net.now.shapes) }
 {
     let mut rows = empty_rows(alloc, net.shapes().len())?;
     for connection in net.connections() {
         note_connection(
+            alloc,
             &mut rows,
             end_of(side, *connection),
             end_of(other, *connection),
         )?;
     }
     Ok(rows)
-}
-
-/// What the tables say of a port.
-fn look_up(rows: &[Vec<Option<ConnectionEnd>>], at: usize, port: usize) -> Option<ConnectionEnd>
-    ensures { result ≡ entry (rows_of rows.now) at port }
-{
-    let row = rows.get(at)?;
-    *row.get(port)?
 }
 
 /// What a port is joined to, if it is joined.
@@ -149,6 +191,17 @@ fn far_of(noted: Option<ConnectionEnd>) -> ConnectionEnd
     match noted {
         Some(far) => far,
         None => NOWHERE,
+    }
+}
+
+/// What the ports of a row are joined to.
+#[inline(always)]
+fn ends_of(row: &PortRow) -> &[Option<ConnectionEnd>]
+    ensures { result.now ≡ ends_of row.now }
+{
+    match row {
+        PortRow::First(first) => slice::from_ref(first),
+        PortRow::Several(several) => several.as_slice(),
     }
 }
 
@@ -163,39 +216,29 @@ fn first_far(row: &[Option<ConnectionEnd>]) -> ConnectionEnd
 }
 
 /// What the first port of each row is joined to.
-fn first_ends(
-    alloc: Global,
-    rows: &[Vec<Option<ConnectionEnd>>],
-) -> Result<Vec<ConnectionEnd>, AllocError>
+fn first_ends(alloc: Global, rows: &[PortRow]) -> Result<Vec<ConnectionEnd>, AllocError>
     ensures { IfOk result (λ ports. ports.items ≡ map first_far (rows_of rows.now)) }
 {
     let mut ports = Vec::with_capacity(alloc, rows.len())?;
     for row in rows {
-        ports.push(first_far(row.as_slice()))?;
+        ports.push(first_far(ends_of(row)))?;
     }
     Ok(ports)
 }
 
-/// The elements of ends of connections.
-fn elements_at(alloc: Global, ends: &[ConnectionEnd]) -> Result<Vec<usize>, AllocError>
-    ensures { IfOk result (λ places. places.items ≡ map element_of ends.now) }
+/// The same, with elements and ports apart.
+fn first_ends_apart(alloc: Global, rows: &[PortRow]) -> Result<(Vec<usize>, Vec<u16>), AllocError>
+    ensures places { IfOk result (λ ends. ends.0.items ≡ map element_of (map first_far (rows_of rows.now))) }
+    ensures ports { IfOk result (λ ends. ends.1.items ≡ map port_of (map first_far (rows_of rows.now))) }
 {
-    let mut places = Vec::with_capacity(alloc, ends.len())?;
-    for end in ends {
+    let mut places = Vec::with_capacity(alloc, rows.len())?;
+    let mut ports = Vec::with_capacity(alloc, rows.len())?;
+    for row in rows {
+        let end = first_far(ends_of(row));
         places.push(end.element)?;
-    }
-    Ok(places)
-}
-
-/// The ports of ends of connections.
-fn ports_at(alloc: Global, ends: &[ConnectionEnd]) -> Result<Vec<u16>, AllocError>
-    ensures { IfOk result (λ ports. ports.items ≡ map port_of ends.now) }
-{
-    let mut ports = Vec::with_capacity(alloc, ends.len())?;
-    for end in ends {
         ports.push(end.port)?;
     }
-    Ok(ports)
+    Ok((places, ports))
 }
 
 /// What the first port of an element is joined to, where elements and ports stand apart.
@@ -215,16 +258,23 @@ fn near_apart(places: &[usize], ports: &[u16], at: usize) -> ConnectionEnd
 
 /// What the ports of an element are joined to, as far as any is.
 #[inline(always)]
-fn row_at(rows: &[Vec<Option<ConnectionEnd>>], at: usize) -> &[Option<ConnectionEnd>]
+fn row_at(rows: &[PortRow], at: usize) -> &[Option<ConnectionEnd>]
     ensures { result.now ≡ slice_index_or (rows_of rows.now) at [] }
 {
     match rows.get(at) {
-        Some(row) => row.as_slice(),
+        Some(row) => ends_of(row),
         None => &[],
     }
 }
 
-/// What a port of a row is joined to.
+/// What the tables say of a port.
+fn look_up(rows: &[PortRow], at: usize, port: usize) -> Option<ConnectionEnd>
+    ensures { result ≡ entry (rows_of rows.now) at port }
+{
+    *row_at(rows, at).get(port)?
+}
+
+/// What a port of a row is joined to, if it is joined.
 #[inline(always)]
 pub(crate) fn far_in(row: &[Option<ConnectionEnd>], port: usize) -> ConnectionEnd
     ensures { result ≡ far_of (slice_index_or row.now port None) }
@@ -257,9 +307,7 @@ impl Adjacency {
     {
         let targets = joined(alloc, &net, Side::Output, Side::Input)?;
         let sources = joined(alloc, &net, Side::Input, Side::Output)?;
-        let firsts = first_ends(alloc, targets.as_slice())?;
-        let ahead = elements_at(alloc, firsts.as_slice())?;
-        let ahead_ports = ports_at(alloc, firsts.as_slice())?;
+        let (ahead, ahead_ports) = first_ends_apart(alloc, targets.as_slice())?;
         let behind = first_ends(alloc, sources.as_slice())?;
         Ok(Adjacency {
             net,

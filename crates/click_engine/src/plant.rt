@@ -6,9 +6,10 @@ use crate::adjacency::Adjacency;
 use crate::devices::{Devices, PacketDirection};
 use crate::element_names::ElementNames;
 use crate::run_state::{Element, RunMemory};
-use crate::runs::{pull_packet, pull_task, push_answer, push_packet};
+use crate::runs::{pull_packet, pull_task, push_answer, push_packet, take_one};
 use crate::tasks::{Task, tasks_of};
 use crate::transfer_stack::TransferStack;
+use crate::transfers::queues_ahead;
 use click_base::Class;
 use click_classes::{Side, State};
 use click_packet::Packet;
@@ -30,6 +31,8 @@ pub struct Plant {
     sinks: Devices,
     run_memory: RunMemory,
     transfer_stack: TransferStack,
+    /// Of each element, whether its output 0 leads straight to a Queue. A hint alone: either way means the same.
+    queues_ahead: Vec<bool>,
 }
 
 impl Model for Plant {
@@ -81,7 +84,7 @@ impl Plant {
     ghost use Rattle.click_engine.specs.declared.run_state.Element.{Element};
     ghost use Rattle.click_engine.specs.TakeOver.{place_of, taken};
     ghost use Rattle.click_engine.specs.kept.Taking.{taken_at, IsKeptBefore};
-    ghost use Rattle.click_engine.specs.kept.Tasks.{IsTaskIn};
+    ghost use Rattle.click_engine.specs.kept.Tasks.{IsTaskIn, task_apart};
     ghost use Rattle.click_engine.specs.RunState.{blank};
 
     /// The plant of a net whose elements begin with these states, one for each, in flat order. It takes all the memory that a run will need.
@@ -96,6 +99,7 @@ impl Plant {
         let elements = elements_of(alloc, &net, states)?;
         let names = ElementNames::of(alloc, &net)?;
         let adjacency = Adjacency::new(alloc, net)?;
+        let queues_ahead = queues_ahead(alloc, &adjacency, elements.as_slice())?;
         let run_memory = RunMemory {
             elements,
             left: 0,
@@ -109,6 +113,7 @@ impl Plant {
             sinks,
             run_memory,
             transfer_stack,
+            queues_ahead,
         })
     }
 
@@ -188,8 +193,8 @@ impl Plant {
         true
     }
 
-    /// A packet leaves the element by its output 0.
-    #[inline(always)]
+    /// A packet leaves the element by its output 0. It is a call of its own, so that the search for the device stays small.
+    #[inline(never)]
     fn enter_at(&mut self, at: usize, packet: &Packet)
         ensures { self.new ≡ emitted self.old at packet.now }
     {
@@ -200,6 +205,7 @@ impl Plant {
             &mut self.transfer_stack,
             at,
             packet,
+            self.queues_ahead.get(at) == Some(&true),
         );
     }
 
@@ -250,16 +256,41 @@ impl Plant {
         packets
     }
 
-    /// Runs a task.
+    /// Runs a task. One packet is pushed on right here, for each task by the same code, and nothing of the task is needed after it: so the loop over the tasks leaves a
+    /// push the registers that it needs.
     #[inline(always)]
     fn run(&mut self, task: Task) -> u64
         requires { IsTaskIn self.old.net.shapes task }
         ensures plant { self.new ≡ (ran self.old task.at).plant }
         ensures packets { result ≡ (ran self.old task.at).packets }
     {
+        self.run_memory.left = CROSSINGS;
+        if !take_one(
+            &self.adjacency,
+            &mut self.run_memory,
+            &mut self.transfer_stack,
+            task,
+        ) {
+            return self.run_apart(task);
+        }
+        push_answer(
+            &self.adjacency,
+            &mut self.run_memory,
+            &mut self.transfer_stack,
+            task.at,
+            false,
+        );
+        1
+    }
+
+    /// Runs a task that gives more than one packet, or none: of a source with another burst, or of a Discard, which pulls.
+    #[inline(never)]
+    fn run_apart(&mut self, task: Task) -> u64
+        ensures plant { self.new ≡ (task_apart task.class self.old task.at).plant }
+        ensures packets { result ≡ (task_apart task.class self.old task.at).packets }
+    {
         match task.class {
             Class::InfiniteSource => self.emit_burst(task.at),
-            Class::Unqueue => self.unqueue(task.at),
             Class::Discard => self.discard(task.at),
             _ => 0,
         }
@@ -270,39 +301,15 @@ impl Plant {
         ensures plant { self.new ≡ (bursts (burst_of (state_at self.old at)) at self.old).plant }
         ensures packets { result ≡ (bursts (burst_of (state_at self.old at)) at self.old).packets }
     {
-        let most = self.emit_first(at);
-        if most == 0 {
-            return 0;
-        }
-        let mut packets = 1;
-        for _packet in 1..most {
+        let most = self.run_memory.burst(at);
+        let mut packets = 0;
+        for _packet in 0..most {
             if !self.emit(at) {
                 return packets;
             }
             packets += 1;
         }
         packets
-    }
-
-    /// The first packet of a source in a run of its task. How many packets one run gives at most; 0 where it gives none.
-    #[inline(always)]
-    fn emit_first(&mut self, at: usize) -> u8
-        ensures { (let most = burst_of (state_at self.old at) in MatchOption (if nat_lt 0 most then emission (state_at self.old at) else None)
-            ((result ≡ 0) × (self.new ≡ self.old)) (λ e. (result ≡ most) × (self.new ≡ sourced self.old at e))) }
-    {
-        self.run_memory.left = CROSSINGS;
-        let most = self
-            .transfer_stack
-            .take_first_emission(&mut self.run_memory, at);
-        if most > 0 {
-            push_answer(
-                &self.adjacency,
-                &mut self.run_memory,
-                &mut self.transfer_stack,
-                at,
-            );
-        }
-        most
     }
 
     /// One packet of a source.
@@ -319,32 +326,9 @@ impl Plant {
             &mut self.run_memory,
             &mut self.transfer_stack,
             at,
+            true,
         );
         true
-    }
-
-    #[inline(always)]
-    fn unqueue(&mut self, at: usize) -> u64
-        ensures plant { self.new ≡ (unqueued self.old at).plant }
-        ensures packets { result ≡ (unqueued self.old at).packets }
-        ensures few { result ≤ 1 }
-    {
-        self.run_memory.left = CROSSINGS;
-        if !pull_task(
-            &self.adjacency,
-            &mut self.run_memory,
-            &mut self.transfer_stack,
-            at,
-        ) {
-            return 0;
-        }
-        push_answer(
-            &self.adjacency,
-            &mut self.run_memory,
-            &mut self.transfer_stack,
-            at,
-        );
-        1
     }
 
     fn discard(&mut self, at: usize) -> u64

@@ -1,7 +1,7 @@
 //! What a run works on.
 ghost use Rattle.std.specs.Prelude.{◌≡◌, ℕ, ◌<◌, ◌≤◌, length, MatchOption, IfSome, None, Some, true, false};
 ghost use Rattle.click_engine.specs.kept.Transfers.{ActsIn};
-ghost use Rattle.click_classes.specs.Acts.{act, tries, stored, gives};
+ghost use Rattle.click_classes.specs.Acts.{act, burst_of, tries, stored, gives};
 
 use crate::transfers::{HELD, PullResult};
 use click_base::Class;
@@ -52,6 +52,17 @@ pub(crate) fn act_at(
     }
 }
 
+/// How many packets a source gives in one run of its task; 0 in a state of another class.
+#[inline(always)]
+fn burst_of(state: &State) -> u8
+    ensures { result ≡ burst_of state.now }
+{
+    match state {
+        State::InfiniteSource { burst, .. } => *burst,
+        _ => 0,
+    }
+}
+
 impl RunMemory {
     ghost use Rattle.std.specs.Prelude.{◌≡◌, ℕ, ◌<◌, ◌≤◌, ◌-◌, MatchOption, IfSome, None, Some, true, false};
     ghost use Rattle.click_classes.specs.Acts.{act, tries, stored, emission, burst_of, gives};
@@ -77,6 +88,21 @@ impl RunMemory {
         ensures { Acts (run_state_of self.old) (run_state_of self.new) at input packet.old packet.new result }
     {
         act_at(self.elements.as_mut_slice(), at, input, packet)
+    }
+
+    /// Stores a packet that is pushed into a Queue, which reads it where it lies; false, and without change, where no Queue is.
+    #[inline(always)]
+    pub(crate) fn store(&mut self, at: usize, packet: &Packet) -> bool
+        ensures left { self.new.left ≡ self.old.left }
+        ensures stored { result ≡ true → (input : ℕ) → Acts (run_state_of self.old) (run_state_of self.new) at input packet.now packet.now (record { first = 0; count = 0 }) }
+        ensures other { result ≡ false → run_state_of self.new ≡ run_state_of self.old }
+    {
+        if at < self.elements.len() {
+            let element = &mut self.elements[at];
+            element.state.store(packet)
+        } else {
+            false
+        }
     }
 
     /// What a pull at an output leads to: what the element has stored, which `packet` becomes, or the inputs that it asks.
@@ -105,6 +131,17 @@ impl RunMemory {
                 count: 0,
                 first: 0,
             }
+        }
+    }
+
+    /// How many packets a source gives in one run of its task; 0 for other elements.
+    #[inline(always)]
+    pub(crate) fn burst(&self, at: usize) -> u8
+        ensures { result ≡ burst_of (element_at (run_state_of self.now) at).state }
+    {
+        match self.elements.get(at) {
+            Some(element) => burst_of(&element.state),
+            None => 0,
         }
     }
 

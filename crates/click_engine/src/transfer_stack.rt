@@ -154,12 +154,14 @@ impl TransferStack {
     }
 
     /// Begins with a push of the last pull's answer at output 0 of an element, and pushes it on as far as no copy has several ways to go. Whether frames may be left.
+    /// `apart`: it is pushed in a call of its own.
     #[inline(always)]
     pub(crate) fn push_answer(
         &mut self,
         adjacency: &Adjacency,
         run_memory: &mut RunMemory,
         at: usize,
+        apart: bool,
     ) -> bool
         requires done { self.old.frames ≡ [] }
         requires room { run_memory.old.left < self.old.room }
@@ -169,7 +171,13 @@ impl TransferStack {
     {
         self.answered = false;
         let push_frame = &mut self.push_frames[0];
-        let several = push_slot(adjacency, run_memory, push_frame, adjacency.target(at, 0));
+        let several = push_slot(
+            adjacency,
+            run_memory,
+            push_frame,
+            adjacency.target(at, 0),
+            apart,
+        );
         if several {
             self.sending = 1;
         }

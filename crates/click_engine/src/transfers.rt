@@ -1,5 +1,6 @@
 //! One push or pull over a connection.
 ghost use Rattle.std.specs.Prelude.{◌≡◌, ℕ, ◌+◌, ◌<◌, ◌⊎◌, ◌≤◌, ◌^◌, length, vec_len, nat_lt, MatchOption, IfSome, None, Some, true, false};
+ghost use Rattle.click_engine.specs.Run.{push};
 ghost use Rattle.click_engine.specs.RunState.{Wiring};
 ghost use Rattle.click_engine.specs.Adjacency.{run_state_of, wiring_of};
 ghost use Rattle.click_engine.specs.kept.Transfers.{run_state_with, run_state_after, Along, Pushed, Reached};
@@ -8,7 +9,9 @@ ghost use Rattle.click_engine.specs.kept.Tables.{far_of, AreFirstApart};
 use crate::adjacency::Adjacency;
 use crate::run_state::{ConnectionEnd, Element, RunMemory, act_at};
 use crate::transfer_stack::PushFrame;
+use click_base::Class;
 use click_packet::Packet;
+use std::alloc::{AllocError, Global};
 
 /// What a pull led to: an answer, or inputs of an element that are asked in turn.
 #[derive(Clone, Copy)]
@@ -156,9 +159,8 @@ fn push_slowly(
     push_frame.count > 0
 }
 
-/// The same of a plant that has no more elements than its net, as each has. Whether several outputs are then to get the packet. It is a call: what a step needs stays in
-/// registers, whatever its caller keeps there.
-#[inline(never)]
+/// The same of a plant that has no more elements than its net, as each has. Whether several outputs are then to get the packet.
+#[inline(always)]
 fn push_fast(
     adjacency: &Adjacency,
     run_memory: &mut RunMemory,
@@ -179,13 +181,32 @@ fn push_fast(
     false
 }
 
-/// Pushes the packet of `push_frame` into an input, and on while just one output is to get it. Whether several are then to get it.
+/// The same as a call of its own: what a step needs stays in registers, whatever its caller keeps there.
+#[inline(never)]
+fn push_fast_apart(
+    adjacency: &Adjacency,
+    run_memory: &mut RunMemory,
+    push_frame: &mut PushFrame,
+    first: ConnectionEnd,
+) -> bool
+    requires { vec_len run_memory.old.elements ≤ length adjacency.now.shapes }
+    ensures along { (at output : ℕ) → first ≡ far_of ((wiring_of adjacency.now).target at output) → Along (wiring_of adjacency.now) (run_state_of run_memory.old) (run_state_of run_memory.new)
+        at output 1 push_frame.old.packet push_frame.new.at push_frame.new.first push_frame.new.count push_frame.new.packet }
+    ensures ends { (push_frame.new.count ≡ 0) ⊎ (1 < push_frame.new.count) }
+    ensures several { result ≡ nat_lt 0 push_frame.new.count }
+{
+    push_fast(adjacency, run_memory, push_frame, first)
+}
+
+/// Pushes the packet of `push_frame` into an input, and on while just one output is to get it. Whether several are then to get it. `apart`: in a call of its own, which
+/// is for callers that have more to keep in registers than a call costs.
 #[inline(always)]
 pub(crate) fn push_slot(
     adjacency: &Adjacency,
     run_memory: &mut RunMemory,
     push_frame: &mut PushFrame,
     first: ConnectionEnd,
+    apart: bool,
 ) -> bool
     ensures along { (at output : ℕ) → first ≡ far_of ((wiring_of adjacency.now).target at output) → Along (wiring_of adjacency.now) (run_state_of run_memory.old) (run_state_of run_memory.new)
         at output 1 push_frame.old.packet push_frame.new.at push_frame.new.first push_frame.new.count push_frame.new.packet }
@@ -194,6 +215,9 @@ pub(crate) fn push_slot(
 {
     if adjacency.len() < run_memory.elements.len() {
         return push_slowly(adjacency, run_memory, push_frame, first);
+    }
+    if apart {
+        return push_fast_apart(adjacency, run_memory, push_frame, first);
     }
     push_fast(adjacency, run_memory, push_frame, first)
 }
@@ -212,7 +236,7 @@ pub(crate) fn push_along(
 {
     if push_frame.count == 1 {
         let far = adjacency.target(push_frame.at, push_frame.first);
-        let _several = push_slot(adjacency, run_memory, push_frame, far);
+        let _several = push_slot(adjacency, run_memory, push_frame, far, true);
     }
 }
 
@@ -270,4 +294,50 @@ pub(crate) fn pull_first(
     }
     run_memory.spend();
     run_memory.reach(adjacency.first_source(at), packet)
+}
+
+/// For each element, whether its output 0 leads straight to a Queue: only there is `store_at` worth a try. Nothing is proved of it, since a push comes to the same with
+/// a try and without.
+pub(crate) fn queues_ahead(
+    alloc: Global,
+    adjacency: &Adjacency,
+    elements: &[Element],
+) -> Result<Vec<bool>, AllocError> {
+    let mut queues_ahead = Vec::with_capacity(alloc, elements.len())?;
+    for at in 0..elements.len() {
+        let far = adjacency.target(at, 0);
+        queues_ahead.push(match elements.get(far.element) {
+            Some(element) => element.class == Class::Queue,
+            None => false,
+        })?;
+    }
+    Ok(queues_ahead)
+}
+
+/// Stores a packet that is pushed at output 0 of an element into a Queue, which reads it where it lies; false, and without change, where no Queue is, or no crossing
+/// left. `queue_ahead`: whether a Queue is looked for.
+#[inline(always)]
+pub(crate) fn store_at(
+    adjacency: &Adjacency,
+    run_memory: &mut RunMemory,
+    at: usize,
+    packet: &Packet,
+    queue_ahead: bool,
+) -> bool
+    ensures stored { result ≡ true → run_state_of run_memory.new ≡ push (wiring_of adjacency.now) run_memory.old.left (run_state_of run_memory.old) at 0 packet.now }
+    ensures other { result ≡ false → run_state_of run_memory.new ≡ run_state_of run_memory.old }
+    ensures fewer { run_memory.new.left ≤ run_memory.old.left }
+{
+    if !queue_ahead {
+        return false;
+    }
+    if run_memory.left == 0 {
+        return false;
+    }
+    let far = adjacency.target(at, 0);
+    if run_memory.store(far.element, packet) {
+        run_memory.spend();
+        return true;
+    }
+    false
 }

@@ -2,47 +2,19 @@
 use Rattle.std.proofs.Common.{◌≡◌, ◌≢◌, ◌⊎◌, inl, inr, ℕ, zero, suc, ◌<◌, refl, sym, ap, subst, ◌∙◌, arith, All, List, [], ◌∷◌, ◌++◌, set, get_or, length, map, replicate, Bool, true, false, Option, Some, None}
 use Rattle.std.specs.Prelude.{nat_eq, ◌&&◌, if◌then◌else◌}
 use Rattle.std.proofs.lemmas.Bool.Decides.{eqb_tells}
-use Rattle.std.specs.declared.vec.Vec.{Vec}
-use Rattle.std.specs.declared.alloc.Global.{Global}
 use Rattle.std.proofs.lemmas.List.{get_or-set_same, get_or-set_other, get_or-map, length-map, map-set}
 use Rattle.std.proofs.lemmas.List.Elements.{All-get_or}
 use Rattle.click_classes.specs.declared.ports.Side.{Side}
 use Rattle.click_classes.specs.declared.ports.Side.TheVariants.{Input, Output}
 use Rattle.click_expand.specs.declared.flat.Connection.{Connection}
 use Rattle.click_engine.specs.Adjacency.{end_of, is_port, first_joined}
-use Rattle.click_engine.specs.kept.Tables.{element_of, end_apart, entry, far_of, first_far, first_of, nowhere, port_of, rows_of, AreFirst, AreFirstApart, IsNoted, IsTable}
+use Rattle.click_engine.specs.kept.Tables.{element_of, end_apart, ends_of, entry, far_of, first_far, first_of, nowhere, port_of, rows_of, AreFirst, AreFirstApart, IsNoted, IsTable}
+use Rattle.click_engine.specs.declared.adjacency.PortRow.{PortRow}
 use Rattle.click_engine.specs.declared.run_state.ConnectionEnd.{ConnectionEnd}
-
-pub padded : (xs : List (Option ConnectionEnd)) (n : ℕ) → get_or (xs ++ None ∷ []) n None ≡ get_or xs n None
-padded [] zero = refl
-padded [] (suc n) = refl
-padded (x ∷ xs) zero = refl
-padded (x ∷ xs) (suc n) = padded xs n
 
 first_of-false : (o : Option ConnectionEnd) (far : ConnectionEnd) → first_of o false far ≡ o
 first_of-false None far = refl
 first_of-false (Some q) far = refl
-
--- an empty slot is filled, and no other entry changes
-filled-by : (xs : List (Option ConnectionEnd)) (p n : ℕ) (far : ConnectionEnd) → p < length xs → get_or xs p None ≡ None
-    → ((nat_eq p n ≡ true) × (p ≡ n)) ⊎ ((nat_eq p n ≡ false) × (p ≢ n))
-    → get_or (set xs p (Some far)) n None ≡ first_of (get_or xs n None) (nat_eq p n) far
-filled-by xs p n far l e (inl t) = rw (t.0, ← t.1, e) (get_or-set_same xs p (Some far) None l)
-filled-by xs p n far l e (inr t) = rw t.0 (get_or-set_other xs p n (Some far) None (λ h. t.1 (sym h)) ∙ sym (first_of-false (get_or xs n None) far))
-
-pub filled : (xs : List (Option ConnectionEnd)) (p : ℕ) (far : ConnectionEnd) → p < length xs → get_or xs p None ≡ None
-    → (n : ℕ) → get_or (set xs p (Some far)) n None ≡ first_of (get_or xs n None) (nat_eq p n) far
-filled xs p far l e n = filled-by xs p n far l e (eqb_tells p n)
-
--- a slot that has an entry keeps it
-kept-by : (xs : List (Option ConnectionEnd)) (p n : ℕ) (far q : ConnectionEnd) → get_or xs p None ≡ Some q
-    → ((nat_eq p n ≡ true) × (p ≡ n)) ⊎ ((nat_eq p n ≡ false) × (p ≢ n)) → get_or xs n None ≡ first_of (get_or xs n None) (nat_eq p n) far
-kept-by xs p n far q e (inl t) = rw (t.0, ← t.1, e) refl
-kept-by xs p n far q e (inr t) = rw t.0 (sym (first_of-false (get_or xs n None) far))
-
-pub kept : (xs : List (Option ConnectionEnd)) (p : ℕ) (far q : ConnectionEnd) → get_or xs p None ≡ Some q
-    → (n : ℕ) → get_or xs n None ≡ first_of (get_or xs n None) (nat_eq p n) far
-kept xs p far q e n = kept-by xs p n far q e (eqb_tells p n)
 
 -- one row changes
 noted_row-by : (xs : List (List (Option ConnectionEnd))) (i p : ℕ) (row : List (Option ConnectionEnd)) (far : ConnectionEnd) → i < length xs
@@ -77,19 +49,20 @@ pub joined_more : (near far : Side) (cs : List Connection) (c : Connection) (at 
 joined_more near far [] c at n = refl
 joined_more near far (d ∷ cs) c at n = joined-last near far (is_port (end_of near d) at n) c d _ _ _ _ (joined_more near far cs c at n)
 
-pub empty_entry : (count at n : ℕ) → entry (replicate count []) at n ≡ None
+pub empty_entry : (count at n : ℕ) → entry (replicate count (None ∷ [])) at n ≡ None
 empty_entry zero at n = refl
-empty_entry (suc count) zero n = refl
+empty_entry (suc count) zero zero = refl
+empty_entry (suc count) zero (suc n) = refl
 empty_entry (suc count) (suc at) n = empty_entry count at n
 
--- the same over the vectors that keep the rows
-pub noted_rows : (rows : List (Vec (Option ConnectionEnd) Global)) (near far : ConnectionEnd) (old new : Vec (Option ConnectionEnd) Global) → near.element < length rows
-    → old ≡ get_or rows near.element old → ((n : ℕ) → get_or new.items n None ≡ first_of (get_or old.items n None) (nat_eq near.port n) far)
+-- the same over rows as they are kept
+pub noted_rows : (rows : List PortRow) (near far : ConnectionEnd) (old new : PortRow) → near.element < length rows
+    → old ≡ get_or rows near.element old → ((n : ℕ) → get_or (ends_of new) n None ≡ first_of (get_or (ends_of old) n None) (nat_eq near.port n) far)
     → IsNoted (rows_of rows) (rows_of (set rows near.element new)) near far
 noted_rows rows near far old new l is h at n =
-    let row : get_or (rows_of rows) near.element [] ≡ old.items = get_or-map (λ (v : Vec (Option ConnectionEnd) Global). v.items) rows near.element old [] l ∙ ap (λ (v : Vec (Option ConnectionEnd) Global). v.items) (sym is) in
-    rw (map-set (λ (v : Vec (Option ConnectionEnd) Global). v.items) rows near.element new)
-    (noted_row (rows_of rows) near.element near.port new.items far (omega (arith, l, length-map rows (λ (v : Vec (Option ConnectionEnd) Global). v.items))) (λ m. h m ∙ rw row refl) at n)
+    let row : get_or (rows_of rows) near.element [] ≡ ends_of old = get_or-map ends_of rows near.element old [] l ∙ ap ends_of (sym is) in
+    rw (map-set ends_of rows near.element new)
+    (noted_row (rows_of rows) near.element near.port (ends_of new) far (omega (arith, l, length-map rows ends_of)) (λ m. h m ∙ rw row refl) at n)
 
 -- the first port of each row
 pub first_at : (rows : List (List (Option ConnectionEnd))) (at : ℕ) → get_or (map first_far rows) at nowhere ≡ far_of (entry rows at 0)
@@ -106,6 +79,6 @@ apart_at [] at = refl
 apart_at (row ∷ rows) zero = refl
 apart_at (row ∷ rows) (suc at) = apart_at rows at
 
-pub firsts_apart : (rows : List (List (Option ConnectionEnd))) (f : ℕ → ℕ → Option ConnectionEnd) (ends : List ConnectionEnd) (places ports : List ℕ) → IsTable rows f
-    → ends ≡ map first_far rows → places ≡ map element_of ends → ports ≡ map port_of ends → AreFirstApart places ports f
-firsts_apart rows f ends places ports table is at_places at_ports at = rw (at_places, at_ports, is) (apart_at rows at ∙ ap far_of (table at 0))
+pub firsts_apart : (rows : List (List (Option ConnectionEnd))) (f : ℕ → ℕ → Option ConnectionEnd) (places ports : List ℕ) → IsTable rows f
+    → places ≡ map element_of (map first_far rows) → ports ≡ map port_of (map first_far rows) → AreFirstApart places ports f
+firsts_apart rows f places ports table at_places at_ports at = rw (at_places, at_ports) (apart_at rows at ∙ ap far_of (table at 0))

@@ -1,13 +1,12 @@
 -- One task of a round.
-use Rattle.std.proofs.Common.{◌≡◌, ℕ, zero, suc, List, [], ◌∷◌, length, drop, get_or, ◌<◌, ◌+◌, ◌-◌, ◌≤◌, min, nat_lt, if◌then◌else◌, refl, ap, sym, ◌∙◌, Bool, true, false, Option, None, Some, IfSome, IsSome, MatchOption, arith}
+use Rattle.std.proofs.Common.{◌≡◌, ℕ, zero, suc, List, [], ◌∷◌, length, drop, get_or, ◌<◌, ◌+◌, ◌≤◌, min, refl, ap, sym, ◌∙◌, Bool, true, false, Option, None, Some, MatchOption, arith}
 use Rattle.std.proofs.Math.Seq.{drop-cons}
 use Rattle.std.proofs.lemmas.Bool.{false≢true}
 use Rattle.std.proofs.lemmas.Bool.Decides.{nat_tests}
 use Rattle.click_packet.specs.Packet.{Packet}
-use Rattle.click_engine.specs.RunState.{RunState}
-use Rattle.click_engine.specs.Run.{push, pull, Pulled}
+use Rattle.click_engine.specs.Run.{push, Pulled}
 use Rattle.click_engine.specs.Plant.{most_crossings}
-use Rattle.click_engine.specs.Plant.{Plant, wiring, begin, end}
+use Rattle.click_engine.specs.Plant.{Plant, wiring, end}
 use Rattle.std.specs.List.{slice_get}
 use Rattle.click_classes.specs.Acts.{Stored, burst_of, emission}
 use Rattle.click_base.specs.declared.class.Class.{Class}
@@ -17,7 +16,7 @@ use Rattle.std.specs.Prelude.{option_map, is_some}
 use Rattle.std.proofs.lemmas.List.{get_or-map}
 use Rattle.click_engine.specs.kept.Tasks.{places_of, IsTaskIn}
 use Rattle.click_engine.specs.declared.tasks.Task.{Task}
-use Rattle.click_engine.specs.Rounds.{tasks, task, task_of, idle, unqueued, asks, bursts, sourced, state_at, RoundResult}
+use Rattle.click_engine.specs.Rounds.{tasks, task, task_of, idle, asks, bursts, sourced, state_at, RoundResult}
 
 pub tasks-none : (places : List ℕ) (v : Plant) → places ≡ [] → tasks places v ≡ idle v
 unfolding tasks
@@ -30,16 +29,11 @@ pub tasks-next : (places more : List ℕ) (at : ℕ) (v : Plant) → places ≡ 
 unfolding tasks
 tasks-next places more at v e = rw e refl
 
-abbrev worked_by : Plant → ℕ → Pulled → RoundResult
+abbrev pub worked_by : Plant → ℕ → Pulled → RoundResult
 worked_by v at r = elim r.packet [
   | None ↦ record { plant = end v r.run_state; packets = 0 }
   | Some p ↦ record { plant = end v (push (wiring v) most_crossings r.run_state at 0 p); packets = 1 }
 ]
-
-pub unqueued_some : (v : Plant) (at : ℕ) (w u : RunState) (o : Option Packet) → pull (wiring v) most_crossings (begin most_crossings v) at 0 ≡ record { run_state = w; packet = o }
-    → IfSome o (λ p. u ≡ push (wiring v) most_crossings w at 0 p) → IsSome o → end v u ≡ (unqueued v at).plant
-unqueued_some v at w u None e h some = absurd (false≢true some)
-unqueued_some v at w u (Some p) e h some = ap (λ x. end v x) h ∙ sym (ap (λ (r : Pulled). (worked_by v at r).plant) e)
 
 -- a burst of m packets after the next one
 abbrev pub burst_by : ℕ → ℕ → Plant → Option Stored → RoundResult
@@ -75,38 +69,6 @@ burst_over n m at v u b h made gave = burst-next n m at v h ∙ given_none m at 
 pub bursts-zero : (n at : ℕ) (v : Plant) → n ≡ 0 → bursts n at v ≡ idle v
 unfolding bursts
 bursts-zero n at v e = rw e refl
-
--- the first packet of a source in a run of its task, of so many at most
-abbrev FirstEmitted : ℕ → ℕ → Plant → Plant → ℕ → Option Stored → Type 0
-FirstEmitted burst at v u most o = MatchOption o ((most ≡ 0) × (u ≡ v)) (λ e. (most ≡ burst) × (u ≡ sourced v at e))
-
-abbrev begun_by : ℕ → Plant → ℕ → RoundResult
-begun_by at u m = record { plant = (bursts m at u).plant; packets = 1 + (bursts m at u).packets }
-
-positive : (n : ℕ) → nat_lt 0 (suc n) ≡ true
-positive n = grind (arith, nat_tests)
-
-one_given : (n at : ℕ) (v u : Plant) (most : ℕ) (o : Option Stored) → FirstEmitted (suc n) at v u most o → 0 < most
-    → (burst_by n at v o ≡ record { plant = (bursts n at u).plant; packets = 1 + (bursts n at u).packets }) × (most ≡ suc n)
-one_given n at v u most None f some = absurd (omega (arith, f.0, some))
-one_given n at v u most (Some e) f some = (rw f.1 refl, f.0)
-
-no_one_given : (n at : ℕ) (v u : Plant) (most : ℕ) (o : Option Stored) → FirstEmitted (suc n) at v u most o → most ≡ 0 → burst_by n at v o ≡ idle u
-no_one_given n at v u most None f none = rw f.1 refl
-no_one_given n at v u most (Some e) f none = absurd (omega (arith, f.0, none))
-
--- a burst that gave its first packet, or none
-pub burst_began : (burst at : ℕ) (v u : Plant) (most : ℕ) → FirstEmitted burst at v u most (if nat_lt 0 burst then emission (state_at v at) else None) → 0 < most
-    → (bursts burst at v ≡ record { plant = (bursts (most - 1) at u).plant; packets = 1 + (bursts (most - 1) at u).packets }) × (most ≡ burst)
-burst_began zero at v u most f some = absurd (omega (arith, f.0, some))
-burst_began (suc n) at v u most f some =
-    let (more, is) = one_given n at v u most (emission (state_at v at)) (rw (positive n) at f) some in
-    let less : n ≡ most - 1 = omega (arith, is) in
-    (burst-next (suc n) n at v refl ∙ more ∙ ap (begun_by at u) less, is)
-
-pub burst_gave_none : (burst at : ℕ) (v u : Plant) (most : ℕ) → FirstEmitted burst at v u most (if nat_lt 0 burst then emission (state_at v at) else None) → most ≡ 0 → bursts burst at v ≡ idle u
-burst_gave_none zero at v u most f none = bursts-zero 0 at v refl ∙ ap idle (sym f.1)
-burst_gave_none (suc n) at v u most f none = burst-next (suc n) n at v refl ∙ no_one_given n at v u most (emission (state_at v at)) (rw (positive n) at f) none
 
 -- a sum that stops at its top stops there in any order
 pub topped : (a b top : ℕ) → min (min a top + b) top ≡ min (a + b) top

@@ -5,10 +5,17 @@ use Rattle.std.specs.declared.alloc.Global.{Global}
 use Rattle.std.specs.Str.{bytes_eq}
 use Rattle.click_engine.specs.Devices.{Device, element_with}
 use Rattle.click_engine.specs.Adjacency.{is_port}
+use Rattle.click_engine.specs.declared.adjacency.PortRow.{PortRow}
+use Rattle.click_engine.specs.declared.adjacency.PortRow.TheVariants.{First, Several}
 use Rattle.click_engine.specs.declared.run_state.ConnectionEnd.{ConnectionEnd}
 
-abbrev pub rows_of : List (Vec (Option ConnectionEnd) Global) → List (List (Option ConnectionEnd))
-rows_of rows = map (λ (row : Vec (Option ConnectionEnd) Global). row.items) rows
+-- what the ports of a row are joined to
+abbrev pub ends_of : PortRow → List (Option ConnectionEnd)
+ends_of (First end) = end ∷ []
+ends_of (Several ends) = ends.items
+
+abbrev pub rows_of : List PortRow → List (List (Option ConnectionEnd))
+rows_of rows = map ends_of rows
 
 abbrev pub entry : List (List (Option ConnectionEnd)) → ℕ → ℕ → Option ConnectionEnd
 entry rows at number = slice_index_or (slice_index_or rows at []) number None

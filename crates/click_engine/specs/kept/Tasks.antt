@@ -1,6 +1,14 @@
--- The tasks as a plant keeps them.
-use Rattle.std.specs.Prelude.{◌≡◌, ℕ, List, map, slice_get, option_map, Some}
+-- The tasks as a plant keeps them, and how they begin.
+use Rattle.std.specs.Prelude.{◌≡◌, ◌↔◌, ℕ, Bool, true, false, IsTrue, IsSome, List, map, slice_get, option_map, Option, None, Some, MatchOption, nat_lt, if◌then◌else◌}
+use Rattle.click_base.specs.declared.class.Class.{Class}
+use Rattle.click_base.specs.declared.class.Class.TheVariants as class
+use Rattle.click_packet.specs.Packet.{Packet}
+use Rattle.click_classes.specs.Acts.{burst_of, emission}
 use Rattle.click_ports.specs.declared.shape.Shape.{Shape}
+use Rattle.click_engine.specs.RunState.{RunState, Wiring, element_at, with_state}
+use Rattle.click_engine.specs.Run.{pull}
+use Rattle.click_engine.specs.Plant.{Plant}
+use Rattle.click_engine.specs.Rounds.{RoundResult, bursts, discarded, idle, state_at}
 use Rattle.click_engine.specs.declared.tasks.Task.{Task}
 
 abbrev pub places_of : List Task → List ℕ
@@ -9,3 +17,22 @@ places_of tasks = map (λ (t : Task). t.at) tasks
 -- the class is that of the element at the place
 abbrev pub IsTaskIn : List Shape → Task → Type 0
 IsTaskIn shapes t = option_map (λ (s : Shape). s.class) (slice_get shapes t.at) ≡ Some t.class
+
+-- a source's first packet in a run of its task, of so many at most
+abbrev pub FirstOfSource : RunState → RunState → ℕ → ℕ → Option Packet → Type 0
+FirstOfSource w v at most last =
+    let s = (element_at w at).state in
+    MatchOption (if nat_lt 0 (burst_of s) then emission s else None) ((most ≡ 0) × (v ≡ w))
+    (λ e. (most ≡ burst_of s) × (v ≡ with_state w at e.state) × (last ≡ Some e.packet))
+
+-- the packet that the task of an element of that class gives, where it gives just one: that of a source whose burst is one, or what an Unqueue pulls
+abbrev pub TakesOne : Wiring → RunState → RunState → Class → ℕ → Bool → Option Packet → Type 0
+TakesOne net w v class.InfiniteSource at taken last = (taken ≡ true → FirstOfSource w v at 1 last) × (taken ≡ false → v ≡ w)
+TakesOne net w v class.Unqueue at taken last = (pull net w.left w at 0 ≡ record { run_state = v; packet = last }) × (IsTrue taken ↔ IsSome last)
+TakesOne net w v c at taken last = (taken ≡ false) × (v ≡ w)
+
+-- what is left of a task that gave no packet so
+abbrev pub task_apart : Class → Plant → ℕ → RoundResult
+task_apart class.InfiniteSource v at = bursts (burst_of (state_at v at)) at v
+task_apart class.Discard v at = discarded v at
+task_apart c v at = idle v

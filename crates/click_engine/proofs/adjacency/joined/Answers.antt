@@ -1,7 +1,8 @@
-use Rattle.std.proofs.Common.{◌∙◌, [], ap, sym, take, get_or, length, arith}
+use Rattle.std.proofs.Common.{◌∙◌, [], ◌∷◌, None, ap, sym, take, get_or, length, arith}
 use Rattle.std.proofs.lemmas.List.{take_more, take_all, length-map, length-replicate}
 use Rattle.click_expand.specs.declared.flat.Connection.{Connection}
 use Rattle.click_engine.specs.Adjacency.{first_joined}
+use Rattle.click_engine.specs.kept.Tables.{ends_of}
 use Rattle.click_engine.proofs.OfPlants.ConnectionRows.{joined_more, empty_entry, end_within}
 use Rattle.click_engine.proofs.adjacency.joined.Goals as goal
 
@@ -31,7 +32,7 @@ loop-connection-init c =
     let n = length c.shapes.result.now in
     record {
       noted = λ at number. rw c.in_ok-rows.ensures (empty_entry n at number);
-      all = c.in_ok-rows.rows.ok.0 ∙ sym (length-map c.in_ok-rows.rows.items (λ row. row.items)) ∙ ap length c.in_ok-rows.ensures ∙ length-replicate n [] ∙ ap length c.shapes.ensures.value;
+      all = c.in_ok-rows.rows.ok.0 ∙ sym (length-map c.in_ok-rows.rows.items ends_of) ∙ ap length c.in_ok-rows.ensures ∙ length-replicate n (None ∷ []) ∙ ap length c.shapes.ensures.value;
     }
 
 pub returns-clause-table : goal.returns-clause-table

@@ -1,4 +1,4 @@
-use Rattle.std.proofs.Common.{◌≡◌, ◌∙◌, refl, ap, sym, arith}
+use Rattle.std.proofs.Common.{◌∙◌, refl, ap, sym, arith}
 use Rattle.click_engine.specs.Adjacency.{wiring_of}
 use Rattle.click_engine.specs.kept.Tables.{far_of}
 use Rattle.click_engine.proofs.OfFrames.OutputFrames.{served_more}
