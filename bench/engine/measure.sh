@@ -1,64 +1,55 @@
 #!/usr/bin/env bash
-# Counts the instructions of a packet (or a round) through the engine, in Rattle and in plain Rust (peer), and compares
-# what both print. Then those of a packet beside 4,000 further elements, and those of making a plant, at three sizes.
-# Needs rt, rustc and valgrind. It is no part of the gate.
+# Counts the instructions of a packet (or a round) through the engine, in Rattle and in plain Rust (peer; fused for the gateway), and compares what both print. Then
+# those of a packet beside 4,000 further elements, and those of making a plant, at three sizes. Needs rt, rustc and valgrind. It is no part of the gate.
+#
+#   bench/engine/measure.sh [cases|far|plant]..    these parts; all of them without a word
 set -eu
 here="$(cd "$(dirname "$0")" && pwd)"
-work="$(mktemp -d)"
-trap 'rm -rf "$work"' EXIT
-
-drive=${DRIVE:-$("$here/../drive/build.sh" "$work/built")}
-rustc --edition 2024 -C opt-level=3 -C codegen-units=1 -C target-cpu=x86-64-v2 -o "$work/peer" "$here/peer/main.rs"
-ours=("$drive" engine)
-peer=("$work/peer")
+. "$here/../lib/counting.sh"
+needs rustc valgrind
+drive_built
 rounds=1024 # a multiple of the entries of the table of routes
 
-instructions() { # program and arguments; what it prints goes to "$work/printed"
-    valgrind --tool=callgrind --callgrind-out-file=/dev/null "$@" 2>&1 > "$work/printed" |
-        sed -n 's/.*Collected : //p'
+cases() {
+    local named case goal
+    peer peer "$here/peer/main.rs"
+    peer fused "$here/fused/main.rs"
+    table 'Instructions for a packet, beside plain Rust'
+    each $rounds "$drive" engine forward
+    ours
+    each $rounds "$work/fused"
+    beside 'forward, beside one loop fused by hand' 2.0
+    for named in forward=1.0 chain=0.75 tee=1.0 sched=1.0 classifier=0.75 lookup=1.0 lookup-last=1.0; do
+        case=${named%=*} goal=${named#*=}
+        each $rounds "$drive" engine "$case"
+        ours
+        each $rounds "$work/peer" "$case"
+        beside "$case, beside boxed elements" "$goal"
+    done
 }
 
-# Instructions a round, from the difference between twice as many and as many rounds: the beginning cancels.
-each() { # program and its first arguments
-    local few many
-    few="$(instructions "$@" "$rounds")"
-    many="$(instructions "$@" "$((2 * rounds))")"
-    echo "$(((many - few) / rounds))"
+far() {
+    local case
+    table 'Instructions for a packet, beside 4,000 further elements' with without
+    for case in enter pull round; do
+        each $rounds "$drive" engine "far-$case"
+        ours
+        each $rounds "$drive" engine "near-$case"
+        beside "$case" ''
+    done
 }
 
-ratio() { awk "BEGIN { printf \"%.2f\", $1 / $2 }"; }
+plant() {
+    local count half='' without
+    table 'Instructions of making a plant, beside half as many elements' these half
+    for count in 512 1024 2048 4096; do
+        instructions "$drive" engine net "$count"
+        without=$counted
+        instructions "$drive" engine plant "$count"
+        difference "$without" 1 "a plant of $count elements"
+        row "$count" "$counted" "$half" "$(ratio "$counted" "$half")" ''
+        half=$counted
+    done
+}
 
-row() { printf '%-14s %10s %10s %7s\n' "$@"; }
-
-echo "instructions a round"
-row case ours peer ratio
-for case in forward chain tee sched classifier lookup lookup-last; do
-    first="$(each "${ours[@]}" "$case")"
-    cp "$work/printed" "$work/answer"
-    second="$(each "${peer[@]}" "$case")"
-    cmp -s "$work/answer" "$work/printed" || { echo "$case: the answers differ" >&2; exit 1; }
-    row "$case" "$first" "$second" "$(ratio "$first" "$second")"
-done
-
-echo
-echo "instructions a round, beside 4,000 further elements and without"
-row case with without ratio
-for case in enter pull round; do
-    first="$(each "${ours[@]}" "far-$case")"
-    cp "$work/printed" "$work/answer"
-    second="$(each "${ours[@]}" "near-$case")"
-    cmp -s "$work/answer" "$work/printed" || { echo "$case: the answers differ" >&2; exit 1; }
-    row "$case" "$first" "$second" "$(ratio "$first" "$second")"
-done
-
-echo
-echo "instructions of making a plant, beside half as many elements"
-row elements these half ratio
-half=
-for count in 512 1024 2048 4096; do
-    with="$(instructions "${ours[@]}" plant "$count")"
-    without="$(instructions "${ours[@]}" net "$count")"
-    these="$((with - without))"
-    [ -z "$half" ] || row "$count" "$these" "$half" "$(ratio "$these" "$half")"
-    half="$these"
-done
+parts 'cases far plant' "$@"

@@ -3,33 +3,25 @@
 # one poll beside 32 arrivals, each with the making of its packets. Each is the difference of two runs. Needs rt, rustc and valgrind.
 set -eu
 here="$(cd "$(dirname "$0")" && pwd)"
-work="$(mktemp -d)"
-trap 'rm -rf "$work"' EXIT
-drive=${DRIVE:-$("$here/../drive/build.sh" "$work/built")}
-rustc --edition 2024 -C opt-level=3 -C codegen-units=1 -C target-cpu=x86-64-v2 -o "$work/peer" "$here/peer/main.rs"
+. "$here/../lib/counting.sh"
+needs rustc valgrind
+drive_built
+peer peer "$here/peer/main.rs"
 
-# instructions COMMAND..: how many it takes.
-instructions() {
-    valgrind --tool=callgrind --callgrind-out-file="$work/callgrind" "$@" > "$work/out" 2> "$work/err"
-    sed -n 's/^summary: //p; s/^totals: //p' "$work/callgrind" | head -n 1
-}
-
-# each MANY COMMAND..: for one more, of the command with that number and twice it behind its words.
-each() {
-    local many=$1 one two
+# answered ANSWER TIMES COMMAND..: $counted is the instructions of one more.
+answered() {
+    local answer=$1
     shift
-    one=$(instructions "$@" "$many")
-    two=$(instructions "$@" $((2 * many)))
-    echo $(((two - one) / many))
+    each "$@"
+    [ "$(cat "$work/out")" = "$answer" ] || fail "not every packet came through: $*"
 }
 
-ours=$(each 10000 "$drive" feeds ring)
-[ "$(cat "$work/out")" = true ] || { echo 'a packet did not come through the ring' >&2; exit 1; }
-theirs=$(each 10000 "$work/peer")
-[ "$(cat "$work/out")" = true ] || { echo 'a packet did not come through the ring of the peer' >&2; exit 1; }
-polls=$(each 1000 "$drive" feeds polls)
-[ "$(cat "$work/out")" = 64000 ] || { echo 'the polls did not take all packets' >&2; exit 1; }
-arrivals=$(each 1000 "$drive" feeds arrivals)
-[ "$(cat "$work/out")" = 64000 ] || { echo 'not all packets arrived' >&2; exit 1; }
-echo "put and draw: $ours, plain Rust $theirs, $(awk "BEGIN { printf \"%.2f\", $ours / $theirs }")"
-echo "32 packets by a poll: $polls, by 32 arrivals $arrivals, $(awk "BEGIN { printf \"%.2f\", $polls / $arrivals }")"
+table 'Instructions for a packet of 64 bytes through a ring, beside plain Rust; of 32 packets into a router, beside 32 arrivals'
+answered true 10000 "$drive" feeds ring
+ours
+answered true 10000 "$work/peer"
+beside 'put and draw' 1.25
+answered 64000 1000 "$drive" feeds polls
+ours
+answered 64000 1000 "$drive" feeds arrivals
+beside 'one poll' 1.1

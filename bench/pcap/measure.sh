@@ -1,52 +1,71 @@
 #!/usr/bin/env bash
-# Captures through click_pcap and the gateway of examples/pcap: instructions for a packet (callgrind: a capture of 11,000 packets of 60 bytes less one of 1,000), and the
-# time and the most memory of captures of one and of two million, beside `tcpdump -r - -w -`, which copies them, in turn; the medians of RUNS runs (5). Needs valgrind,
-# GNU time and the program, which ./test.sh builds; tcpdump where it is there. It is no part of the gate.
+# Captures through click_pcap and the gateway of examples/pcap: instructions for a packet of 60 bytes (callgrind), and the packets a second and the most memory of
+# captures of one and of two million, beside `tcpdump -r - -w -`, which copies them, in turn; the medians of RUNS runs (5). Needs valgrind, python3, GNU time and the
+# program, which ./test.sh builds; tcpdump where it is there. It is no part of the gate; nothing else should run beside it.
 set -eu
 here="$(cd "$(dirname "$0")" && pwd)"
-work="$(mktemp -d)"
-trap 'rm -rf "$work"' EXIT
-pcap=${PCAP:-$here/../../crates/click_pcap/out/click_pcap}
-gateway="$(cat "$here/../../examples/pcap/gateway.click")"
+. "$here/../lib/counting.sh"
+needs valgrind python3 /usr/bin/time
+is_built "$pcap"
+router=("$pcap" -e "$(cat "$top/examples/pcap/gateway.click")" --in eth0 --out eth1)
 
-# counted THOUSANDS: the instructions of a run.
-counted() {
-    python3 "$here/make.py" "$1" > "$work/in"
-    valgrind --tool=callgrind --callgrind-out-file="$work/callgrind" "$pcap" -e "$gateway" --in eth0 --out eth1 < "$work/in" > "$work/out" 2> "$work/err"
-    grep -q "read ${1}000, left out 0, entered ${1}000, written ${1}000" "$work/err"
-    sed -n 's/.*Collected : //p' "$work/err"
+# capture THOUSANDS: so many packets are in $work/in.
+capture() { python3 "$here/make.py" "$1" > "$work/in"; }
+
+# went_through THOUSANDS: the router says so of all of them.
+went_through() {
+    grep -q "read ${1}000, left out 0, entered ${1}000, written ${1}000" "$work/err" || fail "not all ${1}000 packets went through: $(tail -n 1 "$work/err")"
 }
 
-few=$(counted 1)
-many=$(counted 11)
-echo "instructions for a packet: $(((many - few) / 10000))"
-
-# timed WHAT COMMAND..: one run over the capture, to a file; its seconds and the most KiB that it took go to $work/WHAT.
+# timed KIND COMMAND..: one run over the capture; its seconds and the most KiB that it took are a line of $work/KIND.
 timed() {
-    local what=$1
+    local kind=$1
     shift
-    /usr/bin/time -f '%e %M' -o "$work/took" "$@" < "$work/in" > "$work/out" 2> "$work/err"
-    cat "$work/took" >> "$work/$what"
+    /usr/bin/time -f '%e %M' -a -o "$work/$kind" "$@" < "$work/in" > "$work/out" 2> "$work/err" || fail "this fails: $*" "$(tail -n 1 "$work/err")"
 }
 
-# median WHAT: the median of the seconds, and the most memory of any run.
-median() { sort -n "$work/$1" | awk '{ all[NR] = $1; if ($2 > most) most = $2 } END { print all[int((NR + 1) / 2)], most }'; }
+# median KIND MILLIONS: thousands of packets a second by the median of the seconds, and the most memory of any run.
+median() {
+    sort -n "$work/$1" | awk -v count="$2" '{ all[NR] = $1; if ($2 > most) most = $2 } END { printf "%.0f %d\n", 1000 * count / all[int((NR + 1) / 2)], most }'
+}
 
-kinds=(router)
-if command -v tcpdump > /dev/null; then kinds+=(tcpdump); fi
-for millions in 1 2; do
-    python3 "$here/make.py" ${millions}000 > "$work/in"
+# of_packets: the row of the instructions.
+of_packets() {
+    local few
+    capture 1
+    instructions "${router[@]}" < "$work/in"
+    went_through 1
+    few=$counted
+    capture 11
+    instructions "${router[@]}" < "$work/in"
+    went_through 11
+    difference "$few" 10000 'packets of a capture'
+    row 'instructions for a packet' "$counted" '' '' ''
+}
+
+# raced MILLIONS: the rows of a capture of so many.
+raced() {
+    local run mine its='' most its_most=''
+    capture "${1}000"
     rm -f "$work/router" "$work/tcpdump"
     for ((run = 0; run < ${RUNS:-5}; run++)); do
-        for kind in "${kinds[@]}"; do
-            case $kind in
-            router) timed router "$pcap" -e "$gateway" --in eth0 --out eth1 ;;
-            tcpdump) timed tcpdump tcpdump -r - -w - ;;
-            esac
-        done
+        timed router "${router[@]}"
+        went_through "${1}000"
+        if [ "$has_peer" = yes ]; then
+            timed tcpdump tcpdump -r - -w -
+            cmp -s "$work/in" "$work/out" || fail 'tcpdump writes another capture than it reads'
+        fi
     done
-    for kind in "${kinds[@]}"; do
-        read -r seconds memory <<< "$(median $kind)"
-        echo "$millions million packets, $kind: $seconds seconds, $memory KiB, $(awk -v n=$millions -v s="$seconds" 'BEGIN { printf "%.2f", n / s }') million a second"
-    done
-done
+    read -r mine most <<< "$(median router "$1")"
+    if [ "$has_peer" = yes ]; then read -r its its_most <<< "$(median tcpdump "$1")"; fi
+    row "$1 million: thousands of packets a second" "$mine" "$its" "$(ratio "$mine" "$its")" '0.3 at the least'
+    row "$1 million: the most memory, in KiB" "$most" "$its_most" "$(ratio "$most" "$its_most")" ''
+}
+
+has_peer=yes
+command -v tcpdump > /dev/null || has_peer=no
+table 'Captures through the gateway of examples/pcap, beside tcpdump, which copies them'
+if [ $has_peer = no ]; then echo 'There is no tcpdump here, so nothing stands beside the router.'; fi
+of_packets
+raced 1
+raced 2
