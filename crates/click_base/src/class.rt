@@ -1,7 +1,8 @@
 //! The classes and their names.
 
 ghost use Rattle.std.specs.Prelude.{◌≡◌};
-ghost use Rattle.click_base.specs.Classes.{name, class_of};
+ghost use Rattle.std.specs.Str.{bytes_eq};
+ghost use Rattle.click_base.specs.Classes.{name as name_of, class_of};
 
 /// A class of elements (Click element reference).
 #[derive(Clone, Copy, Debug, PartialEq, Eq)]
@@ -75,7 +76,7 @@ pub const CLASSES: [Class; 30] = [
 impl Class {
     /// The name that configurations write.
     pub fn name(self) -> &'static [u8]
-        ensures { result.now ≡ name self }
+        ensures { result.now ≡ name_of self }
     {
         match self {
             Class::Queue => b"Queue",
@@ -112,10 +113,18 @@ impl Class {
     }
 }
 
+/// Whether the class has that name. Most names differ in their lengths, which are compared first.
+fn is_named(class: Class, name: &[u8]) -> bool
+    ensures { result ≡ bytes_eq (name_of class) name.now }
+{
+    let own = class.name();
+    own.len() == name.len() && own == name
+}
+
 /// The class of that name.
 #[tactic(auto, unfolding(crate::specs::Classes::class_of))]
 pub fn class_of(name: &[u8]) -> Option<Class>
     ensures { result ≡ class_of name.now }
 {
-    CLASSES.iter().copied().find(|class| class.name() == name)
+    CLASSES.iter().copied().find(|class| is_named(*class, name))
 }
