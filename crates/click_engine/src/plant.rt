@@ -7,7 +7,7 @@ use crate::devices::{Devices, PacketDirection};
 use crate::element_names::ElementNames;
 use crate::run_state::{Element, RunMemory};
 use crate::runs::{pull_packet, pull_task, push_answer, push_packet, take_one};
-use crate::tasks::{Task, tasks_of};
+use crate::tasks::{Task, TaskKind, tasks_of};
 use crate::transfer_stack::TransferStack;
 use crate::transfers::queues_ahead;
 use click_base::Class;
@@ -84,7 +84,7 @@ impl Plant {
     ghost use Rattle.click_engine.specs.declared.run_state.Element.{Element};
     ghost use Rattle.click_engine.specs.TakeOver.{place_of, taken};
     ghost use Rattle.click_engine.specs.kept.Taking.{taken_at, IsKeptBefore};
-    ghost use Rattle.click_engine.specs.kept.Tasks.{IsTaskIn, task_apart};
+    ghost use Rattle.click_engine.specs.kept.Tasks.{class_of_task, IsTaskIn, task_apart};
     ghost use Rattle.click_engine.specs.RunState.{blank};
 
     /// The plant of a net whose elements begin with these states, one for each, in flat order. It takes all the memory that a run will need.
@@ -286,13 +286,13 @@ impl Plant {
     /// Runs a task that gives more than one packet, or none: of a source with another burst, or of a Discard, which pulls.
     #[inline(never)]
     fn run_apart(&mut self, task: Task) -> u64
-        ensures plant { self.new ≡ (task_apart task.class self.old task.at).plant }
-        ensures packets { result ≡ (task_apart task.class self.old task.at).packets }
+        ensures plant { self.new ≡ (task_apart (class_of_task task.kind) self.old task.at).plant }
+        ensures packets { result ≡ (task_apart (class_of_task task.kind) self.old task.at).packets }
     {
-        match task.class {
-            Class::InfiniteSource => self.emit_burst(task.at),
-            Class::Discard => self.discard(task.at),
-            _ => 0,
+        match task.kind {
+            TaskKind::InfiniteSource => self.emit_burst(task.at),
+            TaskKind::Discard => self.discard(task.at),
+            TaskKind::Unqueue => 0,
         }
     }
 

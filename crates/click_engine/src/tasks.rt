@@ -1,6 +1,6 @@
 //! Which elements have something to do in each round.
-ghost use Rattle.std.specs.Prelude.{◌≡◌, ◌<◌, All, IfOk, IsTrue, ◌↔◌};
-ghost use Rattle.click_engine.specs.kept.Tasks.{places_of, IsTaskIn};
+ghost use Rattle.std.specs.Prelude.{◌≡◌, All, IfOk, MatchOption};
+ghost use Rattle.click_engine.specs.kept.Tasks.{class_of_task, places_of, IsTaskIn};
 ghost use Rattle.click_engine.specs.Tasks.{AreTasks, HasTask};
 
 use click_base::Class;
@@ -8,24 +8,30 @@ use click_classes::Side;
 use click_ports::Net;
 use std::alloc::{AllocError, Global};
 
-/// The task of an element: its place in flat order, and its class.
+/// What a task does: it is that of the class of this name. A task knows it, so that a round tells three kinds apart and not thirty classes.
+#[derive(Clone, Copy)]
+pub enum TaskKind {
+    InfiniteSource,
+    Unqueue,
+    Discard,
+}
+
+/// The task of an element: its place in flat order, and what it does.
 #[derive(Clone, Copy)]
 pub struct Task {
     pub at: usize,
-    pub class: Class,
+    pub kind: TaskKind,
 }
 
-/// Whether the element of that class has a task.
-fn has_task(net: &Net, at: usize, class: Class) -> bool
-    ensures { IsTrue result ↔ HasTask net.now at class }
+/// The task of the element of that class, if it has one.
+fn kind_of(net: &Net, at: usize, class: Class) -> Option<TaskKind>
+    ensures { MatchOption result (HasTask net.now at class → ⊥) (λ kind. HasTask net.now at class × (class_of_task kind ≡ class)) }
 {
     match class {
-        Class::InfiniteSource | Class::Unqueue => true,
-        Class::Discard => match net.pulls(at, Side::Input, 0) {
-            Some(pull) => pull,
-            None => false,
-        },
-        _ => false,
+        Class::InfiniteSource => Some(TaskKind::InfiniteSource),
+        Class::Unqueue => Some(TaskKind::Unqueue),
+        Class::Discard if net.pulls(at, Side::Input, 0) == Some(true) => Some(TaskKind::Discard),
+        _ => None,
     }
 }
 
@@ -36,11 +42,10 @@ pub(crate) fn tasks_of(alloc: Global, net: &Net) -> Result<Vec<Task>, AllocError
 {
     let mut tasks = Vec::new(alloc);
     for at in 0..net.shapes().len() {
-        let class = net.shapes()[at].class;
-        if !has_task(net, at, class) {
+        let Some(kind) = kind_of(net, at, net.shapes()[at].class) else {
             continue;
-        }
-        tasks.push(Task { at, class })?;
+        };
+        tasks.push(Task { at, kind })?;
     }
     Ok(tasks)
 }

@@ -1,13 +1,14 @@
 -- The places of the elements with a task, one element more at a time.
-use Rattle.std.proofs.Common.{◌≡◌, ℕ, ◌+◌, ◌<◌, sym, ap, subst, arith, List, [], ◌∷◌, ◌++◌, take, get_or, length, length-take-le}
+use Rattle.std.proofs.Common.{◌≡◌, ◌∙◌, ℕ, ◌+◌, ◌<◌, sym, ap, subst, arith, Some, List, [], ◌∷◌, ◌++◌, take, get_or, length, length-take-le}
 use Rattle.std.proofs.lemmas.List.{take_more, map-append}
 use Rattle.std.proofs.lemmas.Option.{slice_get-get_or}
 use Rattle.std.specs.Prelude.{option_map}
 use Rattle.click_ports.specs.Net.{Net}
 use Rattle.click_ports.specs.declared.shape.Shape.{Shape}
 use Rattle.click_engine.specs.Tasks.{HasTask, AreTasks, over, task, idle}
-use Rattle.click_engine.specs.kept.Tasks.{places_of, IsTaskIn}
+use Rattle.click_engine.specs.kept.Tasks.{class_of_task, places_of, IsTaskIn}
 use Rattle.click_engine.specs.declared.tasks.Task.{Task}
+use Rattle.click_engine.specs.declared.tasks.TaskKind.{TaskKind}
 
 pub task_more : (net : Net) (at : ℕ) (ss : List Shape) (places : List ℕ) (s : Shape) (p : ℕ) → p ≡ at + length ss → HasTask net p s.class
     → AreTasks net at ss places → AreTasks net at (ss ++ s ∷ []) (places ++ p ∷ [])
@@ -45,5 +46,6 @@ pub places-push : (tasks : List Task) (t : Task) → places_of (tasks ++ t ∷ [
 places-push tasks t = map-append (λ (u : Task). u.at) tasks (t ∷ [])
 
 -- the task of an element is of its class
-pub is_task_in : (ss xs : List Shape) (at : ℕ) (d : Shape) → xs ≡ ss → at < length xs → IsTaskIn ss (record { at = at; class = (get_or xs at d).class })
-is_task_in ss xs at d same inside = subst (λ ys. IsTaskIn ys (record { at = at; class = (get_or xs at d).class })) same (ap (λ o. option_map (λ (s : Shape). s.class) o) (slice_get-get_or xs at d inside))
+pub is_task_in : (ss xs : List Shape) (at : ℕ) (d : Shape) (k : TaskKind) → xs ≡ ss → at < length xs → class_of_task k ≡ (get_or xs at d).class → IsTaskIn ss (record { at = at; kind = k })
+is_task_in ss xs at d k same inside is =
+    subst (λ ys. IsTaskIn ys (record { at = at; kind = k })) same (ap (λ o. option_map (λ (s : Shape). s.class) o) (slice_get-get_or xs at d inside) ∙ ap Some (sym is))

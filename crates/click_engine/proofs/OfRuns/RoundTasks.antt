@@ -14,7 +14,7 @@ use Rattle.click_base.specs.declared.class.Class.TheVariants as class
 use Rattle.click_ports.specs.declared.shape.Shape.{Shape}
 use Rattle.std.specs.Prelude.{option_map, is_some}
 use Rattle.std.proofs.lemmas.List.{get_or-map}
-use Rattle.click_engine.specs.kept.Tasks.{places_of, IsTaskIn}
+use Rattle.click_engine.specs.kept.Tasks.{class_of_task, places_of, IsTaskIn}
 use Rattle.click_engine.specs.declared.tasks.Task.{Task}
 use Rattle.click_engine.specs.Rounds.{tasks, task, task_of, idle, asks, bursts, sourced, state_at, RoundResult}
 
@@ -123,9 +123,9 @@ some_same : (a b : Class) → Some a ≡ Some b → a ≡ b
 some_same a b e = ap (λ (o : Option Class). elim o [ None ↦ a | Some c ↦ c ]) e
 
 -- the class of an element says what its task is
-pub task-by_class : (v : Plant) (t : Task) → IsTaskIn v.net.shapes t → task v t.at ≡ task_of t.class v t.at
+pub task-by_class : (v : Plant) (t : Task) → IsTaskIn v.net.shapes t → task v t.at ≡ task_of (class_of_task t.kind) v t.at
 task-by_class v t is = go (slice_get v.net.shapes t.at) is
   where
-    go : (o : Option Shape) → option_map (λ (s : Shape). s.class) o ≡ Some t.class → by_shape v t.at o ≡ task_of t.class v t.at
+    go : (o : Option Shape) → option_map (λ (s : Shape). s.class) o ≡ Some (class_of_task t.kind) → by_shape v t.at o ≡ task_of (class_of_task t.kind) v t.at
     go None h = absurd (false≢true (ap is_some h))
-    go (Some s) h = ap (λ (c : Class). task_of c v t.at) (some_same s.class t.class h)
+    go (Some s) h = ap (λ (c : Class). task_of c v t.at) (some_same s.class (class_of_task t.kind) h)

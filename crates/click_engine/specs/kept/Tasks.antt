@@ -10,13 +10,21 @@ use Rattle.click_engine.specs.Run.{pull}
 use Rattle.click_engine.specs.Plant.{Plant}
 use Rattle.click_engine.specs.Rounds.{RoundResult, bursts, discarded, idle, state_at}
 use Rattle.click_engine.specs.declared.tasks.Task.{Task}
+use Rattle.click_engine.specs.declared.tasks.TaskKind.{TaskKind}
+use Rattle.click_engine.specs.declared.tasks.TaskKind.TheVariants as kind
 
 abbrev pub places_of : List Task → List ℕ
 places_of tasks = map (λ (t : Task). t.at) tasks
 
--- the class is that of the element at the place
+-- the class whose task it is
+abbrev pub class_of_task : TaskKind → Class
+class_of_task kind.InfiniteSource = class.InfiniteSource
+class_of_task kind.Unqueue = class.Unqueue
+class_of_task kind.Discard = class.Discard
+
+-- that is the class of the element at the place
 abbrev pub IsTaskIn : List Shape → Task → Type 0
-IsTaskIn shapes t = option_map (λ (s : Shape). s.class) (slice_get shapes t.at) ≡ Some t.class
+IsTaskIn shapes t = option_map (λ (s : Shape). s.class) (slice_get shapes t.at) ≡ Some (class_of_task t.kind)
 
 -- a source's first packet in a run of its task, of so many at most
 abbrev pub FirstOfSource : RunState → RunState → ℕ → ℕ → Option Packet → Type 0

@@ -13,12 +13,12 @@ loop-at-init c = record {
   classes = λ k d h. absurd (let none = ap length c.new-tasks.ensures.items in omega (arith, h, none));
 }
 
-pub loop-at-preserved-then-not-has_task : goal.loop-at-preserved-then-not-has_task
-loop-at-preserved-then-not-has_task c =
+pub loop-at-preserved-in_default : goal.loop-at-preserved-in_default
+loop-at-preserved-in_default c =
     let end = ap length c.shapes-at-end.ensures.value in let len = ap length c.shapes.ensures.value in
     record {
       places = next_idle c.args.net.now c.loop-at.at c.args.net.now.shapes c.shapes.result.now _ (places_of c.loop-at.tasks.items) c.shapes.ensures.value
-          (omega (arith, c.loop-at-test.true, end, len)) (λ h. false≢true (c.if-not-has_task.ensures.1 h)) c.loop-at.invariant.places;
+          (omega (arith, c.loop-at-test.true, end, len)) c.in_default.ensures c.loop-at.invariant.places;
       classes = c.loop-at.invariant.classes;
     }
 
@@ -30,9 +30,9 @@ loop-at-preserved c =
       places = subst (λ ps. AreTasks c.args.net.now 0 (take (c.loop-at.at + 1) c.args.net.now.shapes) ps)
           (sym (ap places_of c.in_ok-push.ensures.items ∙ places-push c.loop-at.tasks.items _))
           (next_task c.args.net.now c.loop-at.at c.args.net.now.shapes c.shapes.result.now _ (places_of c.loop-at.tasks.items) c.shapes.ensures.value
-          inside (c.if-not-has_task.ensures.0 refl) c.loop-at.invariant.places);
+          inside c.in-Some.ensures.0 c.loop-at.invariant.places);
       classes = rw c.in_ok-push.ensures.items (All-push (IsTaskIn c.args.net.now.shapes) c.loop-at.tasks.items _ c.loop-at.invariant.classes
-          (is_task_in c.args.net.now.shapes c.shapes.result.now c.loop-at.at _ c.shapes.ensures.value inside));
+          (is_task_in c.args.net.now.shapes c.shapes.result.now c.loop-at.at _ c.in-Some.kind c.shapes.ensures.value inside c.in-Some.ensures.1));
     }
 
 pub returns-clause-places : goal.returns-clause-places
