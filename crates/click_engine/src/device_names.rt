@@ -118,10 +118,10 @@ impl DeviceNames {
         }
         let kept = self.near.len();
         add_near(&mut self.near, alloc, name)?;
-        let added = self.all.add(alloc, name);
-        if added.is_err() {
+        if let Err(error) = self.all.add(alloc, name) {
             self.near.truncate(kept);
+            return Err(error);
         }
-        added
+        Ok(())
     }
 }

@@ -36,15 +36,15 @@ impl ElementNames {
     pub(crate) fn of(alloc: Global, net: &Net) -> Result<ElementNames, AllocError>
         ensures { IfOk result (λ t. FindsFirst t net.now.names) }
     {
-        let mut names = Names::new(alloc);
-        let mut places = Vec::new(alloc);
-        for at in 0..net.shapes().len() {
-            let name = net.name(at);
-            if names.has(name) {
+        let count = net.shapes().len();
+        let mut names = Names::with_room(alloc, count)?;
+        let mut places = Vec::with_capacity(alloc, count)?;
+        for at in 0..count {
+            let is_known = names.add(alloc, net.name(at))?;
+            if is_known {
                 continue;
             }
             places.push(at)?;
-            names.add(alloc, name)?;
         }
         Ok(ElementNames { names, places })
     }

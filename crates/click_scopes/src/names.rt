@@ -1,6 +1,6 @@
 //! Names in their order, each once.
 
-ghost use Rattle.std.specs.Prelude.{◌≡◌, [], ◌∷◌, ◌++◌, OnOk, OnErr, position, if◌then◌else◌};
+ghost use Rattle.std.specs.Prelude.{◌≡◌, [], ◌∷◌, ◌++◌, IfOk, OnOk, OnErr, position, if◌then◌else◌};
 ghost use Rattle.std.specs.Str.{bytes_eq};
 ghost use Rattle.click_scopes.specs.Elements.{has_name};
 
@@ -32,6 +32,15 @@ impl Names {
         }
     }
 
+    /// No names, with room for so many.
+    pub fn with_room(alloc: Global, count: usize) -> Result<Names, AllocError>
+        ensures { IfOk result (λ names. names ≡ []) }
+    {
+        Ok(Names {
+            set: IndexSet::with_capacity(alloc, count)?,
+        })
+    }
+
     /// The name is among these.
     pub fn has(&self, name: &[u8]) -> bool
         ensures { result ≡ has_name name.now self.now }
@@ -46,12 +55,13 @@ impl Names {
         self.set.get_index_of(name)
     }
 
-    /// Adds the name at the end, if it is not there. An error leaves the names as they were.
-    pub fn add(&mut self, alloc: Global, name: &[u8]) -> Result<(), AllocError>
+    /// Adds the name at the end, if it is not there, and tells whether it was. An error leaves the names as they were.
+    pub fn add(&mut self, alloc: Global, name: &[u8]) -> Result<bool, AllocError>
+        ensures taken { IfOk result (λ taken. taken ≡ has_name name.now self.old) }
         ensures added { OnOk result (self.new ≡ (if has_name name.now self.old then self.old else self.old ++ name.now ∷ [])) }
         ensures err { OnErr result (self.new ≡ self.old) }
     {
-        self.set.insert(Vec::from_slice(alloc, name)?)?;
-        Ok(())
+        let added = self.set.insert(Vec::from_slice(alloc, name)?)?;
+        Ok(!added)
     }
 }

@@ -1,16 +1,12 @@
-use Rattle.std.proofs.Common.{ℕ, List, ◌∷◌, [], ◌++◌, cond, map, sym, Bool, true, false, not, refl, ◌≡◌, ap, ◌∙◌}
+use Rattle.std.proofs.Common.{ℕ, List, ◌∷◌, [], ◌++◌, cond, map, sym, not, ap, ◌∙◌}
 use Rattle.std.specs.Str.{bytes_eq}
 use Rattle.click_scopes.specs.Elements.{has_name}
-use Rattle.click_scopes.proofs.OfLists.NamePlaces.{added_map, any_map}
+use Rattle.click_scopes.proofs.OfLists.NamePlaces.{added_map, any_map, not_not}
 use Rattle.click_scopes.proofs.lent_names.LentNames.add.Goals as goal
-
-twice : (b : Bool) → not (not b) ≡ b
-twice true = refl
-twice false = refl
 
 pub returns-clause-taken : goal.returns-clause-taken
 returns-clause-taken c =
-    ap not c.in_ok-added.ensures.added ∙ twice _
+    ap not c.in_ok-added.ensures.added ∙ not_not _
     ∙ sym (any_map (bytes_eq c.args.name.now) (λ v. v.now) c.self.inside.set.keys) ∙ ap (has_name c.args.name.now) c.self.view_is
 
 pub returns-clause-added : goal.returns-clause-added
