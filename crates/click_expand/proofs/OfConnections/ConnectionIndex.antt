@@ -1,5 +1,5 @@
 -- The connections of a scope by the ports that they begin at.
-use Rattle.std.proofs.Common.{◌≡◌, inl, inr, ℕ, ◌+◌, ◌<◌, zero, suc, List, [], ◌∷◌, ◌++◌, length, get_or, take, Bool, true, false, ◌&&◌, nat_eq, cond, Option, Some, None, Vec, Global, Contains, refl, sym, ap, ◌∙◌, subst, arith}
+use Rattle.std.proofs.Common.{◌≡◌, inl, inr, ℕ, ◌+◌, ◌<◌, zero, suc, List, [], ◌∷◌, ◌++◌, length, get_or, take, Bool, true, false, ◌&&◌, nat_eq, cond, Some, Contains, refl, sym, ap, ◌∙◌, subst, arith}
 use Rattle.std.specs.Map.{lookup}
 use Rattle.std.specs.List.{slice_get}
 use Rattle.std.proofs.lemmas.Bool.{and_parts, eqb-true, cases_Bool}
@@ -11,6 +11,7 @@ use Rattle.click_scopes.specs.declared.written_connections.Owner.TheVariants as 
 use Rattle.click_scopes.specs.declared.written_connections.WrittenConnection.{WrittenConnection}
 use Rattle.click_scopes.specs.declared.scopes.Scope.{Scope as ScopeKept}
 use Rattle.click_expand.specs.declared.connections.connection_index.ScopePort.{ScopePort}
+use Rattle.click_expand.specs.declared.connections.connection_index.PortEnds.{PortEnds}
 use Rattle.click_expand.specs.declared.connections.connection_index.ConnectionIndex.{ConnectionIndex}
 use Rattle.click_expand.specs.kept.Wiring.{scope_port, same_owner, same_port, IsJoined, ends_or_none, ends_in, IsIndex, AreIndices}
 
@@ -41,23 +42,16 @@ port-exact a b h =
 pub port-same : (a : ScopePort) → same_port a a ≡ true
 port-same a = ap (λ b. b && nat_eq a.number a.number) (owner-same a.owner) ∙ nat-same a.number
 
--- what the ports at one port are once one is added
-pub added : (b : Bool) (old new mid : Option (Vec ScopePort Global)) (ends was : Vec ScopePort Global) (here : Option (Vec ScopePort Global)) (to : ScopePort) →
-    new ≡ cond b (Some ends) mid → mid ≡ cond b None old → was.items ≡ ends_or_none here → ends.items ≡ was.items ++ to ∷ [] →
-    ends_or_none new ≡ cond b (ends_or_none here ++ to ∷ []) (ends_or_none old)
-added true old new mid ends was here to p q r s = ap ends_or_none p ∙ s ∙ ap (λ x. x ++ to ∷ []) r
-added false old new mid ends was here to p q r s = ap ends_or_none p ∙ ap ends_or_none q
-
 joined-more : (ks : List WrittenConnection) (k : WrittenConnection) (a b : ScopePort) → IsJoined ks a b → IsJoined (ks ++ k ∷ []) a b
 joined-more ks k a b h = record { written_connection = h.written_connection; there = Contains-append_left ks (k ∷ []) h.written_connection h.there; from = h.from; to = h.to }
 
-pub index-none : (es : List (ScopePort × Vec ScopePort Global)) → es ≡ [] → IsIndex [] es
+pub index-none : (es : List (ScopePort × PortEnds)) → es ≡ [] → IsIndex [] es
 index-none es e = record {
   sound = λ a b h. absurd (let k : Contains [] b = subst (λ x. Contains (ends_in x a) b) e h in omega (arith, k.1));
   complete = λ a b h. absurd (omega (arith, h.there.1));
 }
 
-module _ (ks : List WrittenConnection) (k : WrittenConnection) (old new : List (ScopePort × Vec ScopePort Global)) where
+module _ (ks : List WrittenConnection) (k : WrittenConnection) (old new : List (ScopePort × PortEnds)) where
   abbrev source : ScopePort
   source = scope_port k.from.owner k.out_port
 
@@ -102,13 +96,13 @@ module _ (ks : List WrittenConnection) (k : WrittenConnection) (old new : List (
     pub index-push : IsIndex (ks ++ k ∷ []) new
     index-push = record { sound = sound; complete = complete }
 
-pub index-more : (ks : List WrittenConnection) (i : ℕ) (k d : WrittenConnection) (old new : List (ScopePort × Vec ScopePort Global)) → i < length ks → k ≡ get_or ks i d → IsIndex (take i ks) old →
+pub index-more : (ks : List WrittenConnection) (i : ℕ) (k d : WrittenConnection) (old new : List (ScopePort × PortEnds)) → i < length ks → k ≡ get_or ks i d → IsIndex (take i ks) old →
     ((q : ScopePort) → ends_in new q ≡ cond (same_port (scope_port k.from.owner k.out_port) q) (ends_in old (scope_port k.from.owner k.out_port) ++ scope_port k.to.owner k.in_port ∷ []) (ends_in old q)) →
     IsIndex (take (i + 1) ks) new
 index-more ks i k d old new l is h changed =
     subst (λ x. IsIndex x new) (ap (λ x. take i ks ++ x ∷ []) is ∙ sym (take_more ks i d l)) (pushed (take i ks) k old new h changed)
   where
-    pushed : (ks : List WrittenConnection) (k : WrittenConnection) (old new : List (ScopePort × Vec ScopePort Global)) → IsIndex ks old →
+    pushed : (ks : List WrittenConnection) (k : WrittenConnection) (old new : List (ScopePort × PortEnds)) → IsIndex ks old →
         ((q : ScopePort) → ends_in new q ≡ cond (same_port (scope_port k.from.owner k.out_port) q) (ends_in old (scope_port k.from.owner k.out_port) ++ scope_port k.to.owner k.in_port ∷ []) (ends_in old q)) → IsIndex (ks ++ k ∷ []) new
     pushed ks k old new h changed = index-push ks k old new h changed
 
@@ -136,11 +130,11 @@ index-at (j ∷ all) (x ∷ xs) zero k h e = (x, refl, subst (λ (s : ScopeKept)
 index-at (j ∷ all) (x ∷ xs) (suc i) k h e = index-at all xs i k h.1 e
 
 -- the port of ports that are there is among the keys
-pub key-at : (es : List (ScopePort × Vec ScopePort Global)) (a b : ScopePort) → Contains (ends_in es a) b → (i : ℕ) × (v : Vec ScopePort Global) × (slice_get es i ≡ Some (a, v))
+pub key-at : (es : List (ScopePort × PortEnds)) (a b : ScopePort) → Contains (ends_in es a) b → (i : ℕ) × (v : PortEnds) × (slice_get es i ≡ Some (a, v))
 key-at [] a b h = absurd (omega (arith, h.1))
 key-at (e ∷ es) a b h = by (same_port a e.0) refl (key-at es a b) h
   where
-    by : (t : Bool) → same_port a e.0 ≡ t → (Contains (ends_in es a) b → (i : ℕ) × (v : Vec ScopePort Global) × (slice_get es i ≡ Some (a, v))) →
-        Contains (ends_or_none (cond t (Some e.1) (lookup (same_port a) es))) b → (i : ℕ) × (v : Vec ScopePort Global) × (slice_get (e ∷ es) i ≡ Some (a, v))
+    by : (t : Bool) → same_port a e.0 ≡ t → (Contains (ends_in es a) b → (i : ℕ) × (v : PortEnds) × (slice_get es i ≡ Some (a, v))) →
+        Contains (ends_or_none (cond t (Some e.1) (lookup (same_port a) es))) b → (i : ℕ) × (v : PortEnds) × (slice_get (e ∷ es) i ≡ Some (a, v))
     by true t k h = (0, e.1, ap (λ x. Some (x, e.1)) (sym (port-exact a e.0 t)))
     by false t k h = let r = k h in (suc r.0, r.1, r.2)

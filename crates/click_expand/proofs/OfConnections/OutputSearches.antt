@@ -1,5 +1,5 @@
 -- The connections that searches from all outputs find.
-use Rattle.std.proofs.Common.{◌≡◌, inl, inr, ℕ, ◌+◌, ◌<◌, ◌≤◌, zero, suc, List, [], ◌∷◌, length, Bool, true, false, ◌||◌, Option, Some, None, Vec, Global, Contains, refl, sym, ap, ◌∙◌, subst, arith}
+use Rattle.std.proofs.Common.{◌≡◌, inl, inr, ℕ, ◌+◌, ◌<◌, ◌≤◌, zero, suc, List, [], ◌∷◌, length, Bool, true, false, ◌||◌, Option, Some, None, Contains, refl, sym, ap, ◌∙◌, subst, arith}
 use Rattle.std.specs.List.{slice_get, list_any, IsDistinct}
 use Rattle.std.specs.Option.{option_copied}
 use Rattle.std.specs.Slice.{IsItemAt}
@@ -12,6 +12,7 @@ use Rattle.click_scopes.specs.declared.written_connections.Owner.TheVariants as 
 use Rattle.click_expand.specs.declared.instances.tree.InstancePart.TheVariants as part
 use Rattle.click_expand.specs.declared.instances.tree.Instance.{Instance}
 use Rattle.click_expand.specs.declared.connections.connection_index.ScopePort.{ScopePort}
+use Rattle.click_expand.specs.declared.connections.connection_index.PortEnds.{PortEnds}
 use Rattle.click_expand.specs.declared.connections.connection_index.InstancePort.{InstancePort}
 use Rattle.click_expand.specs.declared.connections.connection_index.FlatInput.{FlatInput}
 use Rattle.click_expand.specs.declared.connections.connection_index.Reached.{Reached}
@@ -82,20 +83,20 @@ module _ {X : Type 0} (P : ℕ → X → Type 0) (most : ℕ) where
 
 module _ (instances : List Instance) (indices : List ConnectionIndex) where
   -- a connection from the port that is the key at a place of the index
-  abbrev pub IsFromKey : ℕ → List (ScopePort × Vec ScopePort Global) → ℕ → Connection → Type 0
-  IsFromKey within entries j k = (p : ScopePort) × (v : Vec ScopePort Global) × (slice_get entries j ≡ Some (p, v)) × IsFromPort instances indices within p k
+  abbrev pub IsFromKey : ℕ → List (ScopePort × PortEnds) → ℕ → Connection → Type 0
+  IsFromKey within entries j k = (p : ScopePort) × (v : PortEnds) × (slice_get entries j ≡ Some (p, v)) × IsFromPort instances indices within p k
 
   first-step : (s : InstancePort) (i : FlatInput) → Arrives instances indices s i → (n : Reached) × StepsTo instances indices s n
   first-step s i (at_once _ _ st) = (next.PrimitiveElement i, st)
   first-step s i (after_connection _ t _ st w) = (next.Start t, st)
 
-  module _ (within : ℕ) (entries : List (ScopePort × Vec ScopePort Global)) where
-    pub key-more : (most i : ℕ) (p : ScopePort) (v : Vec ScopePort Global) (a b d : List Connection) → Some (p, v) ≡ slice_get entries i → Gathers (IsFromKey within entries) most i a b →
+  module _ (within : ℕ) (entries : List (ScopePort × PortEnds)) where
+    pub key-more : (most i : ℕ) (p : ScopePort) (v : PortEnds) (a b d : List Connection) → Some (p, v) ≡ slice_get entries i → Gathers (IsFromKey within entries) most i a b →
         Gains (IsFromPort instances indices within p) b d → (length d ≤ most → HasAll (IsFromPort instances indices within p) d) → Gathers (IsFromKey within entries) most (i + 1) a d
     key-more most i p v a b d e h g f =
         gathers-more (IsFromKey within entries) most i a b d h
         (gains-weaken (IsFromPort instances indices within p) (IsFromKey within entries i) b d (λ k m. (p, v, sym e, m)) g)
-        (λ few k m. let s : Some (p, v) ≡ Some (m.0, m.1) = e ∙ m.2 in let q : p ≡ m.0 = ap (λ (x : ScopePort × Vec ScopePort Global). x.0) (some_same s) in f few k (subst (λ x. IsFromPort instances indices within x k) (sym q) m.3))
+        (λ few k m. let s : Some (p, v) ≡ Some (m.0, m.1) = e ∙ m.2 in let q : p ≡ m.0 = ap (λ (x : ScopePort × PortEnds). x.0) (some_same s) in f few k (subst (λ x. IsFromPort instances indices within x k) (sym q) m.3))
 
     pub key-none : (most i : ℕ) (a b : List Connection) → None ≡ slice_get entries i → Gathers (IsFromKey within entries) most i a b → Gathers (IsFromKey within entries) most (i + 1) a b
     key-none most i a b e h = gathers-skip (IsFromKey within entries) most i a b h (λ k m. let s : None ≡ Some (m.0, m.1) = e ∙ m.2 in cc s)

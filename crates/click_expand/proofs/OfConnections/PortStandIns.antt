@@ -1,5 +1,5 @@
 -- Ports that stand in for those that connections lead to, and the index of a scope that has them.
-use Rattle.std.proofs.Common.{◌≡◌, ◌⊎◌, inl, inr, ℕ, zero, suc, ◌+◌, ◌<◌, ◌≤◌, List, [], ◌∷◌, ◌++◌, length, get_or, take, Bool, false, cond, Option, Some, None, Vec, Global, Contains, refl, sym, ap, ◌∙◌, subst, arith}
+use Rattle.std.proofs.Common.{◌≡◌, ◌⊎◌, inl, inr, ℕ, zero, suc, ◌+◌, ◌<◌, ◌≤◌, List, [], ◌∷◌, ◌++◌, length, get_or, take, Bool, false, cond, Option, Some, None, Contains, refl, sym, ap, ◌∙◌, subst, arith}
 use Rattle.std.specs.Map.{lookup}
 use Rattle.std.specs.List.{slice_get}
 use Rattle.std.specs.Option.{is_some}
@@ -14,7 +14,8 @@ use Rattle.click_scopes.specs.declared.written_connections.Owner.TheVariants as 
 use Rattle.click_scopes.specs.kept.Lookups.{elements_by, scope_element_body, scope_body, body_at}
 use Rattle.click_scopes.specs.declared.scopes.Scope.{Scope as ScopeKept}
 use Rattle.click_expand.specs.declared.connections.connection_index.ScopePort.{ScopePort}
-use Rattle.click_expand.specs.kept.Wiring.{scope_port, same_port, ends_or_none, ends_in, Gains}
+use Rattle.click_expand.specs.declared.connections.connection_index.PortEnds.{PortEnds}
+use Rattle.click_expand.specs.kept.Wiring.{scope_port, same_port, ends_of, ends_or_none, ends_in, Gains}
 use Rattle.click_expand.specs.kept.Passthrough.{LeadsThrough, StandsIn, same, alike, AreStoodFor, AreEndsOf}
 use Rattle.click_expand.specs.contracts.connections.connection_index.ScopePortPartialEq.TheImpl as ports
 use Rattle.click_expand.proofs.OfConnections.Chains.{some_same}
@@ -23,20 +24,20 @@ use Rattle.click_expand.proofs.OfConnections.ConnectionIndex.{port-exact, port-s
 use Rattle.click_expand.proofs.OfConnections.PortSearch.{gains-insert, gains-kept, gains-cases}
 
 -- a map at which a value was put, by the test of the definitions
-pub changed-by : (old new : List (ScopePort × Vec ScopePort Global)) (p : ScopePort) (v : Vec ScopePort Global) → ((q : ScopePort) → lookup (ports.ghosts.eq q) new ≡ cond (ports.ghosts.eq p q) (Some v) (lookup (ports.ghosts.eq q) old)) →
+pub changed-by : (old new : List (ScopePort × PortEnds)) (p : ScopePort) (v : PortEnds) → ((q : ScopePort) → lookup (ports.ghosts.eq q) new ≡ cond (ports.ghosts.eq p q) (Some v) (lookup (ports.ghosts.eq q) old)) →
     (q : ScopePort) → lookup (same_port q) new ≡ cond (same_port p q) (Some v) (lookup (same_port q) old)
 changed-by old new p v h q = subst (λ (e : ScopePort → ScopePort → Bool). lookup (e q) new ≡ cond (e p q) (Some v) (lookup (e q) old)) port-eq (h q)
 
 -- what ports are at a port once some are put at another: those, or what was there
-pub changed-at : (old new : List (ScopePort × Vec ScopePort Global)) (p : ScopePort) (v : Vec ScopePort Global) → ((q : ScopePort) → lookup (same_port q) new ≡ cond (same_port p q) (Some v) (lookup (same_port q) old)) → (q : ScopePort) →
-    ((q ≡ p) × (ends_in new q ≡ v.items)) ⊎ (ends_in new q ≡ ends_in old q)
+pub changed-at : (old new : List (ScopePort × PortEnds)) (p : ScopePort) (v : PortEnds) → ((q : ScopePort) → lookup (same_port q) new ≡ cond (same_port p q) (Some v) (lookup (same_port q) old)) → (q : ScopePort) →
+    ((q ≡ p) × (ends_in new q ≡ ends_of v)) ⊎ (ends_in new q ≡ ends_in old q)
 changed-at old new p v changed q =
     elim (cases_Bool (same_port p q)) [
       | inl t ↦ inl (sym (port-exact p q t), ap ends_or_none (changed q ∙ ap (λ b. cond b (Some v) (lookup (same_port q) old)) t))
       | inr f ↦ inr (ap ends_or_none (changed q ∙ ap (λ b. cond b (Some v) (lookup (same_port q) old)) f))
     ]
 
-pub changed-here : (old new : List (ScopePort × Vec ScopePort Global)) (p : ScopePort) (v : Vec ScopePort Global) → ((q : ScopePort) → lookup (same_port q) new ≡ cond (same_port p q) (Some v) (lookup (same_port q) old)) → ends_in new p ≡ v.items
+pub changed-here : (old new : List (ScopePort × PortEnds)) (p : ScopePort) (v : PortEnds) → ((q : ScopePort) → lookup (same_port q) new ≡ cond (same_port p q) (Some v) (lookup (same_port q) old)) → ends_in new p ≡ ends_of v
 changed-here old new p v changed = ap ends_or_none (changed p ∙ ap (λ b. cond b (Some v) (lookup (same_port p) old)) (port-same p))
 
 module _ (ends : ℕ → ScopePort → List ScopePort) (body : ℕ → ℕ → Option ℕ) (short : ℕ → ScopePort → List ScopePort) (s : ℕ) where
@@ -70,16 +71,16 @@ module _ (ends : ℕ → ScopePort → List ScopePort) (body : ℕ → ℕ → O
   stood-next ps qs new i p d q l is h st e =
       subst (λ xs. AreStoodFor ends body short s xs new) (ap (λ x. take i ps ++ x ∷ []) is ∙ sym (take_more ps i d l)) (stood-push (take i ps) qs new p q h st e)
 
-  module _ (raw : List (ScopePort × Vec ScopePort Global)) where
+  module _ (raw : List (ScopePort × PortEnds)) where
     -- Below a place, those at the keys of the old index are stood for. At the other ports nothing is yet.
-    pub record Reduces (i : ℕ) (new : List (ScopePort × Vec ScopePort Global)) : Type 0 where
+    pub record Reduces (i : ℕ) (new : List (ScopePort × PortEnds)) : Type 0 where
       pub each : (q : ScopePort) → (ends_in new q ≡ []) ⊎ AreStoodFor ends body short s (ends_in raw q) (ends_in new q)
-      pub all : (j : ℕ) (q : ScopePort) (v : Vec ScopePort Global) → j < i → slice_get raw j ≡ Some (q, v) → AreStoodFor ends body short s (ends_in raw q) (ends_in new q)
+      pub all : (j : ℕ) (q : ScopePort) (v : PortEnds) → j < i → slice_get raw j ≡ Some (q, v) → AreStoodFor ends body short s (ends_in raw q) (ends_in new q)
 
-    module _ (i : ℕ) (old new : List (ScopePort × Vec ScopePort Global)) (p : ScopePort) (v w : Vec ScopePort Global) (there : slice_get raw i ≡ Some (p, w)) (stood : AreStoodFor ends body short s (ends_in raw p) v.items)
+    module _ (i : ℕ) (old new : List (ScopePort × PortEnds)) (p : ScopePort) (v w : PortEnds) (there : slice_get raw i ≡ Some (p, w)) (stood : AreStoodFor ends body short s (ends_in raw p) (ends_of v))
         (changed : (q : ScopePort) → lookup (same_port q) new ≡ cond (same_port p q) (Some v) (lookup (same_port q) old)) (h : Reduces i old) where
-      put : (q : ScopePort) → q ≡ p → ends_in new q ≡ v.items → AreStoodFor ends body short s (ends_in raw q) (ends_in new q)
-      put q e is = subst (AreStoodFor ends body short s (ends_in raw q)) (sym is) (subst (λ x. AreStoodFor ends body short s (ends_in raw x) v.items) (sym e) stood)
+      put : (q : ScopePort) → q ≡ p → ends_in new q ≡ ends_of v → AreStoodFor ends body short s (ends_in raw q) (ends_in new q)
+      put q e is = subst (AreStoodFor ends body short s (ends_in raw q)) (sym is) (subst (λ x. AreStoodFor ends body short s (ends_in raw x) (ends_of v)) (sym e) stood)
 
       kept : (q : ScopePort) → ends_in new q ≡ ends_in old q → AreStoodFor ends body short s (ends_in raw q) (ends_in old q) → AreStoodFor ends body short s (ends_in raw q) (ends_in new q)
       kept q is a = subst (AreStoodFor ends body short s (ends_in raw q)) (sym is) a
@@ -91,7 +92,7 @@ module _ (ends : ℕ → ScopePort → List ScopePort) (body : ℕ → ℕ → O
             | inr c ↦ elim (h.each q) [ inl e ↦ inl (c ∙ e) | inr a ↦ inr (kept q c a) ]
           ]
 
-      all-more : (j : ℕ) (q : ScopePort) (u : Vec ScopePort Global) → j < i + 1 → slice_get raw j ≡ Some (q, u) → AreStoodFor ends body short s (ends_in raw q) (ends_in new q)
+      all-more : (j : ℕ) (q : ScopePort) (u : PortEnds) → j < i + 1 → slice_get raw j ≡ Some (q, u) → AreStoodFor ends body short s (ends_in raw q) (ends_in new q)
       all-more j q u l at =
           elim (changed-at old new p v changed q) [
             | inl c ↦ put q c.0 c.1
@@ -108,7 +109,7 @@ module _ (ends : ℕ → ScopePort → List ScopePort) (body : ℕ → ℕ → O
       pub reduces-more : Reduces (i + 1) new
       reduces-more = record { each = each-more; all = all-more }
 
-    pub reduces-past : (i : ℕ) (new : List (ScopePort × Vec ScopePort Global)) → None ≡ slice_get raw i → Reduces i new → Reduces (i + 1) new
+    pub reduces-past : (i : ℕ) (new : List (ScopePort × PortEnds)) → None ≡ slice_get raw i → Reduces i new → Reduces (i + 1) new
     reduces-past i new none h = record {
       each = h.each;
       all = λ j q v l at. elim (cases_order j i) [
@@ -118,7 +119,7 @@ module _ (ends : ℕ → ScopePort → List ScopePort) (body : ℕ → ℕ → O
       ];
     }
 
-    module _ (i : ℕ) (new : List (ScopePort × Vec ScopePort Global)) (done : length raw ≤ i) (h : Reduces i new) where
+    module _ (i : ℕ) (new : List (ScopePort × PortEnds)) (done : length raw ≤ i) (h : Reduces i new) where
       at-port : (a : ScopePort) → AreStoodFor ends body short s (ends_in raw a) (ends_in new a)
       at-port a = elim (h.each a) [ inl e ↦ by e (ends_in raw a) refl | inr st ↦ st ]
         where

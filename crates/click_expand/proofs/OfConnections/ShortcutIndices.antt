@@ -1,5 +1,5 @@
 -- Shortcuts in the index of a scope, and the indices of all scopes with theirs.
-use Rattle.std.proofs.Common.{◌≡◌, ◌⊎◌, inl, inr, ℕ, ◌+◌, ◌<◌, zero, suc, List, [], ◌∷◌, ◌++◌, length, get_or, take, cond, nat_eq, Option, Some, Vec, Global, Contains, refl, sym, ap, ◌∙◌, subst, append_assoc, arith}
+use Rattle.std.proofs.Common.{◌≡◌, ◌⊎◌, inl, inr, ℕ, ◌+◌, ◌<◌, zero, suc, List, [], ◌∷◌, ◌++◌, length, get_or, take, cond, nat_eq, Option, Some, Contains, refl, sym, ap, ◌∙◌, subst, append_assoc, arith}
 use Rattle.std.specs.Map.{lookup}
 use Rattle.std.specs.List.{slice_get}
 use Rattle.std.proofs.lemmas.Bool.{cases_order}
@@ -9,6 +9,8 @@ use Rattle.std.proofs.lemmas.List.Elements.{Contains-append_left, Contains-appen
 use Rattle.click_scopes.specs.declared.written_connections.Owner.TheVariants as owner
 use Rattle.click_scopes.specs.declared.scopes.Scope.{Scope as ScopeKept}
 use Rattle.click_expand.specs.declared.connections.connection_index.ScopePort.{ScopePort}
+use Rattle.click_expand.specs.declared.connections.connection_index.PortEnds.{PortEnds}
+use Rattle.click_expand.specs.declared.connections.connection_index.PortEnds.TheVariants.{Several}
 use Rattle.click_expand.specs.declared.connections.connection_index.ConnectionIndex.{ConnectionIndex}
 use Rattle.click_expand.specs.declared.connections.passthrough.Shortcut.{Shortcut}
 use Rattle.click_expand.specs.declared.connections.passthrough.ScopeShortcuts.{ScopeShortcuts}
@@ -23,37 +25,37 @@ contains-cons : {X : Type 0} (x : X) (xs : List X) (y : X) → Contains (x ∷ x
 contains-cons x xs y (zero, l, e) = inl e
 contains-cons x xs y (suc k, l, e) = inr (k, omega (arith, l), e)
 
-module _ (old : List (ScopePort × Vec ScopePort Global)) (all : List Shortcut) where
+module _ (old : List (ScopePort × PortEnds)) (all : List Shortcut) where
   -- each port's ends are as they were, or the outputs of a shortcut from there
-  abbrev IsOldOrShort : List (ScopePort × Vec ScopePort Global) → ScopePort → Type 0
+  abbrev IsOldOrShort : List (ScopePort × PortEnds) → ScopePort → Type 0
   IsOldOrShort new a = (ends_in new a ≡ ends_in old a) ⊎ ((k : Shortcut) × Contains all k × (a ≡ k.from) × (ends_in new a ≡ k.outputs.items))
 
   -- a port with a shortcut has the outputs of one
-  abbrev IsPut : List (ScopePort × Vec ScopePort Global) → Shortcut → Type 0
+  abbrev IsPut : List (ScopePort × PortEnds) → Shortcut → Type 0
   IsPut new k = (j : Shortcut) × Contains all j × (k.from ≡ j.from) × (ends_in new k.from ≡ j.outputs.items)
 
   -- All shortcuts are put into an index, but for those that are left.
-  pub record Puts (left : List Shortcut) (new : List (ScopePort × Vec ScopePort Global)) : Type 0 where
+  pub record Puts (left : List Shortcut) (new : List (ScopePort × PortEnds)) : Type 0 where
     pub each : (a : ScopePort) → IsOldOrShort new a
     pub gone : List Shortcut
     pub are : all ≡ left ++ gone
     pub done : (k : Shortcut) → Contains gone k → IsPut new k
 
-  module _ (left rest : List Shortcut) (k : Shortcut) (mid new : List (ScopePort × Vec ScopePort Global)) (is : left ≡ rest ++ k ∷ [])
-      (changed : (q : ScopePort) → lookup (same_port q) new ≡ cond (same_port k.from q) (Some k.outputs) (lookup (same_port q) mid)) (h : Puts left mid) where
+  module _ (left rest : List Shortcut) (k : Shortcut) (mid new : List (ScopePort × PortEnds)) (is : left ≡ rest ++ k ∷ [])
+      (changed : (q : ScopePort) → lookup (same_port q) new ≡ cond (same_port k.from q) (Some (Several k.outputs)) (lookup (same_port q) mid)) (h : Puts left mid) where
     among : Contains all k
     among = subst (λ xs. Contains xs k) (sym (h.are ∙ ap (λ xs. xs ++ h.gone) is)) (Contains-append_left (rest ++ k ∷ []) h.gone k (Contains-append_right rest (k ∷ []) k (0, omega arith, refl)))
 
     each-more : (a : ScopePort) → IsOldOrShort new a
     each-more a =
-        elim (changed-at mid new k.from k.outputs changed a) [
+        elim (changed-at mid new k.from (Several k.outputs) changed a) [
           | inl c ↦ inr (k, among, c.0, c.1)
           | inr c ↦ elim (h.each a) [ inl e ↦ inl (c ∙ e) | inr o ↦ inr (o.0, o.1, o.2, c ∙ o.3) ]
         ]
 
     done-more : (j : Shortcut) → Contains (k ∷ h.gone) j → IsPut new j
     done-more j m =
-        elim (changed-at mid new k.from k.outputs changed j.from) [
+        elim (changed-at mid new k.from (Several k.outputs) changed j.from) [
           | inl c ↦ (k, among, c.0, c.1)
           | inr c ↦ elim (contains-cons k h.gone j m) [
             | inl o ↦
@@ -61,7 +63,7 @@ module _ (old : List (ScopePort × Vec ScopePort Global)) (all : List Shortcut) 
                   k,
                   among,
                   e,
-                  ap (ends_in new) e ∙ changed-here mid new k.from k.outputs changed,
+                  ap (ends_in new) e ∙ changed-here mid new k.from (Several k.outputs) changed,
                 ))
             | inr o ↦ (let r = h.done j o in (r.0, r.1, r.2, c ∙ r.3))
           ]
@@ -70,7 +72,7 @@ module _ (old : List (ScopePort × Vec ScopePort Global)) (all : List Shortcut) 
     pub puts-next : Puts rest new
     puts-next = record { each = each-more; gone = k ∷ h.gone; are = h.are ∙ ap (λ xs. xs ++ h.gone) is ∙ append_assoc rest (k ∷ []) h.gone; done = done-more }
 
-pub puts-all : (old new : ConnectionIndex) (found : ScopeShortcuts) (left : List Shortcut) (entries : List (ScopePort × Vec ScopePort Global)) → Puts old.ends.entries found.shortcuts.items left entries → left ≡ [] → new.ends.entries ≡ entries → new.alike ≡ found.alike →
+pub puts-all : (old new : ConnectionIndex) (found : ScopeShortcuts) (left : List Shortcut) (entries : List (ScopePort × PortEnds)) → Puts old.ends.entries found.shortcuts.items left entries → left ≡ [] → new.ends.entries ≡ entries → new.alike ≡ found.alike →
     HasShortcuts old found new
 puts-all old new found left entries h none is alike =
     let r : Puts old.ends.entries found.shortcuts.items left new.ends.entries = subst (Puts old.ends.entries found.shortcuts.items left) (sym is) h in

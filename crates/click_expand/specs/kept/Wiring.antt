@@ -1,6 +1,5 @@
 -- How the connections of a flat configuration are found: from a port of an instance of a scope, one step of the scopes' indices after another.
-use Rattle.std.specs.Prelude.{◌≡◌, ℕ, List, [], ◌∷◌, ◌++◌, map, slice_get, nat_eq, Bool, true, false, ◌&&◌, Contains, Vec, Option, Some, None}
-use Rattle.std.specs.Global.{Global}
+use Rattle.std.specs.Prelude.{◌≡◌, ℕ, List, [], ◌∷◌, ◌++◌, map, slice_get, nat_eq, Bool, true, false, ◌&&◌, Contains, Option, Some, None}
 use Rattle.std.specs.Map.{lookup}
 use Rattle.click_scopes.specs.declared.written_connections.Owner.{Owner}
 use Rattle.click_scopes.specs.declared.written_connections.Owner.TheVariants as owner
@@ -15,6 +14,8 @@ use Rattle.click_expand.specs.declared.connections.connection_index.InstancePort
 use Rattle.click_expand.specs.declared.connections.connection_index.FlatInput.{FlatInput}
 use Rattle.click_expand.specs.declared.connections.connection_index.Reached.{Reached}
 use Rattle.click_expand.specs.declared.connections.connection_index.Reached.TheVariants as next
+use Rattle.click_expand.specs.declared.connections.connection_index.PortEnds.{PortEnds}
+use Rattle.click_expand.specs.declared.connections.connection_index.PortEnds.TheVariants.{One, Several}
 use Rattle.click_expand.specs.declared.connections.connection_index.ConnectionIndex.{ConnectionIndex}
 use Rattle.click_expand.specs.declared.flat.Connection.{Connection}
 
@@ -47,15 +48,19 @@ pub record IsJoined (ks : List WrittenConnection) (a b : ScopePort) : Type 0 whe
   pub to : b ≡ scope_port written_connection.to.owner written_connection.in_port
 
 -- the ports that those at a port are joined to
-abbrev pub ends_or_none : Option (Vec ScopePort Global) → List ScopePort
-ends_or_none None = []
-ends_or_none (Some v) = v.items
+abbrev pub ends_of : PortEnds → List ScopePort
+ends_of (One b) = b ∷ []
+ends_of (Several v) = v.items
 
-abbrev pub ends_in : List (ScopePort × Vec ScopePort Global) → ScopePort → List ScopePort
+abbrev pub ends_or_none : Option PortEnds → List ScopePort
+ends_or_none None = []
+ends_or_none (Some v) = ends_of v
+
+abbrev pub ends_in : List (ScopePort × PortEnds) → ScopePort → List ScopePort
 ends_in entries a = ends_or_none (lookup (same_port a) entries)
 
 -- the index has for each port those that connections as written lead to
-pub record IsIndex (ks : List WrittenConnection) (entries : List (ScopePort × Vec ScopePort Global)) : Type 0 where
+pub record IsIndex (ks : List WrittenConnection) (entries : List (ScopePort × PortEnds)) : Type 0 where
   pub sound : (a b : ScopePort) → Contains (ends_in entries a) b → IsJoined ks a b
   pub complete : (a b : ScopePort) → IsJoined ks a b → Contains (ends_in entries a) b
 

@@ -3,12 +3,13 @@
 ghost use Rattle.std.specs.Prelude.{◌≡◌, ◌∷◌, ◌++◌, [], OnOk, OnErr, IfOk, if◌then◌else◌};
 ghost use Rattle.click_expand.specs.declared.connections.connection_index.ScopePort.{ScopePort as Jack};
 ghost use Rattle.click_expand.specs.kept.Wiring as spec;
-ghost use Rattle.click_expand.specs.kept.Wiring.{IsIndex, ends_in, same_port, reached_by};
+ghost use Rattle.click_expand.specs.kept.Wiring.{IsIndex, ends_in, ends_of, same_port, reached_by};
 
 use crate::instances::tree::{Instance, InstancePart, Place};
 use click_scopes::{Owner, WrittenConnection};
 use indexmap::IndexMap;
 use std::alloc::{AllocError, Global};
+use std::slice::from_ref;
 
 /// A port in a scope: of the body itself, or of one of its elements.
 #[derive(Clone, Copy, Debug, PartialEq, Eq, Hash)]
@@ -42,11 +43,54 @@ pub enum Reached {
     Nothing,
 }
 
+/// The ports that connections lead to from a port. Mostly it is one, which takes no memory.
+#[derive(Drop)]
+pub enum PortEnds {
+    One(ScopePort),
+    Several(Vec<ScopePort>),
+}
+
+/// Two ports, with room for more.
+fn both(alloc: Global, first: ScopePort, second: ScopePort) -> Result<Vec<ScopePort>, AllocError>
+    ensures { IfOk result (λ all. all.items ≡ first ∷ second ∷ []) }
+{
+    let mut all = Vec::with_capacity(alloc, 4)?;
+    all.push(first)?;
+    all.push(second)?;
+    Ok(all)
+}
+
+impl PortEnds {
+    /// Adds a port at the end. An error leaves the ports as they were.
+    fn push(&mut self, alloc: Global, port: ScopePort) -> Result<(), AllocError>
+        ensures ok { OnOk result (ends_of self.new ≡ ends_of self.old ++ port ∷ []) }
+        ensures err { OnErr result (ends_of self.new ≡ ends_of self.old) }
+    {
+        match self {
+            PortEnds::One(first) => {
+                *self = PortEnds::Several(both(alloc, *first, port)?);
+            }
+            PortEnds::Several(all) => all.push(port)?,
+        }
+        Ok(())
+    }
+
+    /// The ports, in order.
+    fn as_slice(&self) -> &[ScopePort]
+        ensures { result.now ≡ ends_of self.now }
+    {
+        match self {
+            PortEnds::One(port) => from_ref(port),
+            PortEnds::Several(all) => all.as_slice(),
+        }
+    }
+}
+
 /// The connections of a scope: for each port that one begins at, the ports that they lead to, or for an input with a shortcut its outputs; and for
 /// inputs that lead through the scope to the same outputs as another does, the number of that other.
 #[derive(Drop)]
 pub struct ConnectionIndex {
-    pub ends: IndexMap<ScopePort, Vec<ScopePort>>,
+    pub ends: IndexMap<ScopePort, PortEnds>,
     pub alike: IndexMap<u8, u8>,
 }
 
@@ -58,12 +102,10 @@ impl ConnectionIndex {
         ensures alike { self.new.alike ≡ self.old.alike }
     {
         if let Some(ends) = self.ends.get_mut(&from) {
-            ends.push(to)?;
+            ends.push(alloc, to)?;
             return Ok(());
         }
-        let mut ends = Vec::new(alloc);
-        ends.push(to)?;
-        self.ends.insert(from, ends)?;
+        self.ends.insert(from, PortEnds::One(to))?;
         Ok(())
     }
 

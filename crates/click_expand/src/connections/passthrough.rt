@@ -1,16 +1,18 @@
 //! Inputs of a body whose connections lead out at its outputs, past no element. The outputs are found once for the body, so that no search goes into
 //! the compounds inside it.
 
-ghost use Rattle.std.specs.Prelude.{◌≡◌, ◌⊎◌, ◌∷◌, [], ℕ, List, Contains, Option, None, true, false, length, IfOk, OnOk, IfSome};
+ghost use Rattle.std.specs.Prelude.{◌≡◌, ◌⊎◌, ◌∷◌, [], ℕ, List, Contains, Option, Some, None, true, false, length, IfOk, OnOk, IfSome, if◌then◌else◌};
+ghost use Rattle.std.specs.Map.{lookup};
 ghost use Rattle.click_scopes.specs.declared.written_connections.Owner.TheVariants as owner;
 ghost use Rattle.click_scopes.specs.kept.Lookups.{body_at};
 ghost use Rattle.click_expand.specs.declared.connections.connection_index.ScopePort.{ScopePort as PortKept};
+ghost use Rattle.click_expand.specs.declared.connections.connection_index.PortEnds.TheVariants.{Several};
 ghost use Rattle.click_expand.specs.declared.connections.connection_index.ConnectionIndex.{ConnectionIndex as IndexKept};
-ghost use Rattle.click_expand.specs.kept.Wiring.{AreIndices, Gains, HasAll, ends_in, scope_port as port_of};
+ghost use Rattle.click_expand.specs.kept.Wiring.{AreIndices, Gains, HasAll, ends_in, same_port, scope_port as port_of};
 ghost use Rattle.click_expand.specs.kept.Passthrough as spec;
 ghost use Rattle.click_expand.specs.kept.Passthrough.{AreAlike, AreEndsOf, AreFound, AreShortened, AreStoodFor, HasShortcuts, IsLike, IsOutputOf, IsShortened, LeadAlike, LeadsThrough, GoesOnBehind, StandsIn};
 
-use crate::connections::connection_index::{ConnectionIndex, ScopePort, index_of};
+use crate::connections::connection_index::{ConnectionIndex, PortEnds, ScopePort, index_of};
 use click_scopes::{Owner, Scopes};
 use indexmap::{IndexMap, IndexSet};
 use std::alloc::{AllocError, Global};
@@ -70,6 +72,18 @@ fn ports_for(
     Vec::from_slice(alloc, ports.as_slice())
 }
 
+/// Puts ports at a port, in the place of those there.
+fn put_ends(
+    ends: &mut IndexMap<ScopePort, PortEnds>,
+    from: ScopePort,
+    ports: Vec<ScopePort>,
+) -> Result<(), AllocError>
+    ensures { OnOk result ((q : PortKept) → lookup (same_port q) ends.new.entries ≡ (if same_port from q then Some (Several ports) else lookup (same_port q) ends.old.entries)) }
+{
+    ends.insert(from, PortEnds::Several(ports))?;
+    Ok(())
+}
+
 /// The index of a scope with each port that a connection leads to replaced by the one that stands in for it, where all bodies before are done.
 fn with_stand_ins(
     alloc: Global,
@@ -85,7 +99,7 @@ fn with_stand_ins(
     for at in 0..index.ends.len() {
         if let Some((port, _)) = index.ends.get_index(at) {
             let ports = ports_for(alloc, done, scopes, scope, index.ends(*port))?;
-            ends.insert(*port, ports)?;
+            put_ends(&mut ends, *port, ports)?;
         }
     }
     Ok(ConnectionIndex {
@@ -355,7 +369,7 @@ fn with_shortcuts(
     let mut ends = index.ends;
     let mut shortcuts = found.shortcuts;
     while let Some(one) = shortcuts.pop() {
-        ends.insert(one.from, one.outputs)?;
+        put_ends(&mut ends, one.from, one.outputs)?;
     }
     Ok(ConnectionIndex {
         ends,
