@@ -61,12 +61,14 @@ pub fn name_of(
     ensures { IfOk result (λ name. (c : Spelled) (places : List Placed) (known : List KnownInstance) (primitive_elements : List Flattened) (n : ℕ) (primitive_element : Flattened) →
         AreAllScopes c scopes.now.scopes.items → AreInstances c instances.now places known primitive_elements → slice_get places n ≡ Some place → slice_get primitive_elements n ≡ Some primitive_element → name.items ≡ flat_name primitive_element.path) }
 {
-    let mut name = Vec::new(alloc);
+    let local = local_name(scopes, instances, place);
+    // Mostly that is the whole name, since most elements stand in no compound.
+    let mut name = Vec::with_capacity(alloc, local.len())?;
     let mut way = outward(alloc, instances, place.within)?;
     while let Some(step) = way.pop() {
         name.extend_from_slice(local_name(scopes, instances, step))?;
         name.push(b'/')?;
     }
-    name.extend_from_slice(local_name(scopes, instances, place))?;
+    name.extend_from_slice(local)?;
     Ok(name)
 }

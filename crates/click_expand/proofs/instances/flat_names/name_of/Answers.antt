@@ -5,7 +5,7 @@ use Rattle.click_expand.proofs.instances.flat_names.name_of.Goals as goal
 
 pub loop-step-init : goal.loop-step-init
 loop-step-init c =
-    writing-first c.args.scopes.now.scopes.items c.args.instances.now c.args.place.within c.in_ok-way.way.items c.new-name.result.items c.new-name.ensures.items c.in_ok-way.ensures
+    writing-first c.args.scopes.now.scopes.items c.args.instances.now c.args.place.within c.in_ok-way.way.items c.in_ok-name.name.items c.in_ok-name.ensures.items c.in_ok-way.ensures
 
 pub loop-step-smaller : goal.loop-step-smaller
 loop-step-smaller c =
@@ -22,4 +22,4 @@ returns c =
     let h = c.in_default.ensures.cases in
     let none : length c.loop-step.way.items ≡ 0 = omega (arith, h.0, c.loop-step.way.ok.0) in
     written c.args.scopes.now.scopes.items c.args.instances.now c.args.place c.loop-step.way.items c.loop-step.name.items c.extend_from_slice-2.new.self.items (nil_from_length c.loop-step.way.items none)
-    c.loop-step.invariant (c.in_ok-extend_from_slice-2.ensures.items ∙ ap (λ n. c.loop-step.name.items ++ n) c.local_name-2.ensures)
+    c.loop-step.invariant (c.in_ok-extend_from_slice-2.ensures.items ∙ ap (λ n. c.loop-step.name.items ++ n) c.local_name-local.ensures)
