@@ -1,6 +1,7 @@
 //! Rows: handlers' calls, stored with the promise of what they answer.
 
 ghost use Rattle.std.specs.Prelude.{◌≡◌, ◌++◌, ◌∷◌, [], map, OnOk};
+ghost use Rattle.std.specs.Str.{bytes_eq};
 ghost use Rattle.click_handlers.specs.Names.{of_class, reads_of, writes_of};
 ghost use Rattle.click_classes.specs.State.{class};
 ghost use Rattle.click_handlers.specs.Answers.{IsReadAnswer, AnswersReads, IsWriteAnswer, AnswersWrites};
@@ -13,6 +14,14 @@ use crate::written::Written;
 use click_base::Class;
 use click_engine::Element;
 use std::alloc::{AllocError, Global};
+
+/// Whether two names are the same. It is apart, so that a row of another class costs no place for names.
+#[inline(always)]
+fn is_same(one: &[u8], other: &[u8]) -> bool
+    ensures { result ≡ bytes_eq one.now other.now }
+{
+    one == other
+}
 
 /// What a table sees of a row: which handler it is, and which names a class has in such rows.
 pub(crate) trait Listed {
@@ -75,7 +84,7 @@ impl Listed for ReadRow {
     ghost names = { reads_of };
 
     fn is_of(&self, class: Class, name: &[u8]) -> bool {
-        self.class == class && self.name.as_slice() == name
+        self.class == class && is_same(self.name.as_slice(), name)
     }
 
     fn names_of(class: Class) -> &'static [&'static [u8]]
@@ -135,7 +144,7 @@ impl Listed for WriteRow {
     ghost names = { writes_of };
 
     fn is_of(&self, class: Class, name: &[u8]) -> bool {
-        self.class == class && self.name.as_slice() == name
+        self.class == class && is_same(self.name.as_slice(), name)
     }
 
     fn names_of(class: Class) -> &'static [&'static [u8]]
