@@ -35,13 +35,8 @@ asked_lawful s t c (Some text) is a = let d = done s t c text is a in (opened_la
 asked_lawful s t c None is a = tt
 
 call_lawful : (s t : RouterState) (c : Call) (r : Reply) → Answers s c t r → EachLawful (installed c r)
-call_lawful s t c (reply.Value value) a = tt
 call_lawful s t c reply.Done a = asked_lawful s t c (swap_text c) refl a
-call_lawful s t c (reply.Refused why) a = tt
-call_lawful s t c (reply.Entered count) a = tt
-call_lawful s t c (reply.Worked count) a = tt
-call_lawful s t c (reply.Sent packet) a = tt
-call_lawful s t c reply.NoDevice a = tt
+call_lawful s t c _ a = tt
 
 replayed : (s : RouterState) (es : List Entry) (last : RouterState) → Replays s es last → EachLawful (swaps es)
 replayed s [] last h = tt

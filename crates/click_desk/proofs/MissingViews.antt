@@ -18,10 +18,6 @@ viewless seats inlets text fault.NoView why = let some : 0 < 0 = why.3 in absurd
 -- memory for a view, or a view, is lacking only where views are asked for, and all else is good
 pub late : (seats : ℕ) (inlets : List FeedName) (views : ℕ) (text : List ℕ) (f : OpenFault) → AreFit seats inlets → views ≤ 16 → IsLegal text [] → 0 < views → IsViewless f
     → IsViewFault seats inlets views text f
-late seats inlets views text fault.SeatCount fit few legal some why = absurd why
-late seats inlets views text fault.DeviceTwice fit few legal some why = absurd why
-late seats inlets views text fault.InletCount fit few legal some why = absurd why
-late seats inlets views text fault.ViewCount fit few legal some why = absurd why
-late seats inlets views text (fault.Config f) fit few legal some why = absurd why
 late seats inlets views text fault.NoMemory fit few legal some why = (few, fit)
 late seats inlets views text fault.NoView fit few legal some why = (fit, few, legal, some)
+late seats inlets views text _ fit few legal some why = absurd why
