@@ -24,11 +24,7 @@ made_no_polls false (command.Write handler text ∷ cs) = (refl, made_no_polls f
 made_no_polls readonly (command.CheckRead handler ∷ cs) = (refl, made_no_polls readonly cs)
 made_no_polls true (command.CheckWrite handler ∷ cs) = (tt, made_no_polls true cs)
 made_no_polls false (command.CheckWrite handler ∷ cs) = (refl, made_no_polls false cs)
-made_no_polls readonly (command.Quit ∷ cs) = (tt, made_no_polls readonly cs)
-made_no_polls readonly (command.Syntax ∷ cs) = (tt, made_no_polls readonly cs)
-made_no_polls readonly (command.LineTooLong ∷ cs) = (tt, made_no_polls readonly cs)
-made_no_polls readonly (command.DataTooLong ∷ cs) = (tt, made_no_polls readonly cs)
-made_no_polls readonly (command.Unknown word ∷ cs) = (tt, made_no_polls readonly cs)
+made_no_polls readonly (_ ∷ cs) = (tt, made_no_polls readonly cs)
 
 -- commands with a last one, whose call is the last of these calls
 Ends : (Command → Option Call) → List (Option Call) → Option Call → List Command → Type 0

@@ -34,15 +34,13 @@ readings (h ∷ handlers) = readings handlers
 
 place_reads : (p : Route) (head : Parts) (body : List ℕ) → is_write p ≡ false → OnlyReads (request_on_route p head body)
 unfolding OnlyReads request_on_route
-place_reads route.Page head body e = refl
-place_reads route.Picture head body e = refl
-place_reads route.Flat head body e = refl
 place_reads route.Read head body e =
     let pairs = pairs_of head in
     either (λ w. AreReads (commands_of w)) (are_handlers pairs && nat_le 1 (length pairs) && nat_le (length pairs) 256)
     (page_request.Read (handlers_in pairs)) (page_request.Refused refusal.WrongQuery) (readings (handlers_in pairs)) refl
 place_reads route.Write head body e = absurd (cc)
 place_reads route.Swap head body e = absurd (cc)
+place_reads _ head body e = refl
 
 -- a write wants the method and the header
 write_gate : (method marked : Bool) (w : PageRequest) → (marked && method) ≡ false
@@ -59,12 +57,9 @@ read_gate false w h = refl
 
 allowed_reads : (p : Route) (head : Parts) (w : PageRequest) → (has_page_header head && bytes_eq head.method (codes "POST")) ≡ false → (is_write p ≡ false → OnlyReads w)
     → OnlyReads (if_allowed p head w)
-allowed_reads route.Page head w e h = read_gate (bytes_eq head.method (codes "GET")) w (h refl)
-allowed_reads route.Picture head w e h = read_gate (bytes_eq head.method (codes "GET")) w (h refl)
-allowed_reads route.Flat head w e h = read_gate (bytes_eq head.method (codes "GET")) w (h refl)
-allowed_reads route.Read head w e h = read_gate (bytes_eq head.method (codes "GET")) w (h refl)
 allowed_reads route.Write head w e h = write_gate (bytes_eq head.method (codes "POST")) (has_page_header head) w e
 allowed_reads route.Swap head w e h = write_gate (bytes_eq head.method (codes "POST")) (has_page_header head) w e
+allowed_reads _ head w e h = read_gate (bytes_eq head.method (codes "GET")) w (h refl)
 
 asked_reads : (o : Option Route) (head : Parts) (body : List ℕ) → (has_page_header head && bytes_eq head.method (codes "POST")) ≡ false
     → OnlyReads (request_at o head body)
@@ -110,16 +105,13 @@ few_written (first ∷ second ∷ rest) text = omega arith
 
 place_few : (p : Route) (head : Parts) (body : List ℕ) → Few (request_on_route p head body)
 unfolding Few request_on_route
-place_few route.Page head body = omega arith
-place_few route.Picture head body = omega arith
-place_few route.Flat head body = omega arith
 place_few route.Read head body =
     let pairs = pairs_of head in
     few_reads (are_handlers pairs && nat_le 1 (length pairs)) (nat_le (length pairs) 256) pairs (few_below (length pairs))
 place_few route.Write head body =
     either (λ w. length (commands_of w) ≤ 256) (are_handlers (pairs_of head)) (write_to (handlers_in (pairs_of head)) body) (page_request.Refused refusal.WrongQuery)
     (few_written (handlers_in (pairs_of head)) body) (omega arith)
-place_few route.Swap head body = omega arith
+place_few _ head body = omega arith
 
 asked_few : (o : Option Route) (head : Parts) (body : List ℕ) → Few (request_at o head body)
 unfolding Few request_at
@@ -145,9 +137,5 @@ made_readings [] = refl
 made_readings (h ∷ handlers) = made_readings handlers
 
 pub only_reads : (w : PageRequest) → MakeReads true (commands_of w)
-only_reads page_request.Page = refl
-only_reads page_request.Picture = refl
-only_reads page_request.Flat = refl
 only_reads (page_request.Read handlers) = made_readings handlers
-only_reads (page_request.Write handler text) = refl
-only_reads (page_request.Refused why) = refl
+only_reads _ = refl
