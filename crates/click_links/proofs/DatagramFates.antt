@@ -90,33 +90,13 @@ pub receives_same : (came came2 came3 : List Datagram) (from mid to : Offering) 
 receives_same came came2 came3 from mid to d r same still =
     subst (λ (o : Offering). Receives came came3 from o d) (sym still) (subst (λ (l : List Datagram). Receives came l from mid d) (sym same) r)
 
-pub strangers_small : (fate : DatagramFate) → of_stranger fate ≤ 1
-strangers_small Put = omega arith
-strangers_small Stranger = omega arith
-strangers_small TooLong = omega arith
-strangers_small NoRoom = omega arith
-strangers_small NoMemory = omega arith
-
-pub long_small : (fate : DatagramFate) → of_long fate ≤ 1
-long_small Put = omega arith
-long_small Stranger = omega arith
-long_small TooLong = omega arith
-long_small NoRoom = omega arith
-long_small NoMemory = omega arith
-
-pub full_small : (fate : DatagramFate) → of_full fate ≤ 1
-full_small Put = omega arith
-full_small Stranger = omega arith
-full_small TooLong = omega arith
-full_small NoRoom = omega arith
-full_small NoMemory = omega arith
-
-pub memory_small : (fate : DatagramFate) → of_memory fate ≤ 1
-memory_small Put = omega arith
-memory_small Stranger = omega arith
-memory_small TooLong = omega arith
-memory_small NoRoom = omega arith
-memory_small NoMemory = omega arith
+-- a fate adds one at most to each count
+adds_one : (fate : DatagramFate) → AllBelow (added nothing_dropped fate) 2
+adds_one Put = (omega arith, omega arith, omega arith, omega arith)
+adds_one Stranger = (omega arith, omega arith, omega arith, omega arith)
+adds_one TooLong = (omega arith, omega arith, omega arith, omega arith)
+adds_one NoRoom = (omega arith, omega arith, omega arith, omega arith)
+adds_one NoMemory = (omega arith, omega arith, omega arith, omega arith)
 
 pub due_stranger : (places before : ℕ) (datagram : Datagram) → datagram.known ≡ false → IsDue places before datagram Stranger
 due_stranger places before datagram strange = record {
@@ -168,10 +148,10 @@ steps_small came came2 from to d d2 n below (inl (same, still, is)) = (
   omega (arith, below.3, ap (λ (x : Dropped). x.no_memory) is),
 )
 steps_small came came2 from to d d2 n below (inr (datagram, fate, hears, is)) = (
-  omega (arith, below.0, ap (λ (x : Dropped). x.strangers) is, strangers_small fate),
-  omega (arith, below.1, ap (λ (x : Dropped). x.too_long) is, long_small fate),
-  omega (arith, below.2, ap (λ (x : Dropped). x.no_room) is, full_small fate),
-  omega (arith, below.3, ap (λ (x : Dropped). x.no_memory) is, memory_small fate),
+  omega (arith, below.0, ap (λ (x : Dropped). x.strangers) is, (adds_one fate).0),
+  omega (arith, below.1, ap (λ (x : Dropped). x.too_long) is, (adds_one fate).1),
+  omega (arith, below.2, ap (λ (x : Dropped). x.no_room) is, (adds_one fate).2),
+  omega (arith, below.3, ap (λ (x : Dropped). x.no_memory) is, (adds_one fate).3),
 )
 
 pub below_more : (d : Dropped) (n m : ℕ) → AllBelow d n → n ≤ m → AllBelow d m

@@ -38,26 +38,16 @@ both true b h k = k
 both false b h k = absurd cc
 
 from_forwarding : (ds : List (List ℕ)) (c : Call) → is_forwarding ds c ≡ true → IsForwarding ds c
-from_forwarding ds (call.Read name text) h = absurd cc
-from_forwarding ds (call.Write name text) h = absurd cc
-from_forwarding ds (call.CheckRead name) h = absurd cc
-from_forwarding ds (call.CheckWrite name) h = absurd cc
-from_forwarding ds (call.Swap text) h = absurd cc
-from_forwarding ds (call.Arrive from p) h = absurd cc
 from_forwarding ds (call.Poll from taken) h = let p = and_parts (is_among ds from) (leb (length taken) 32) h in (from_among ds from p.0, leb-true (length taken) 32 p.1)
 from_forwarding ds call.Round h = tt
 from_forwarding ds (call.Transmit from) h = from_among ds from h
+from_forwarding ds _ h = absurd cc
 
 to_forwarding : (ds : List (List ℕ)) (c : Call) → IsForwarding ds c → is_forwarding ds c ≡ true
-to_forwarding ds (call.Read name text) h = absurd h
-to_forwarding ds (call.Write name text) h = absurd h
-to_forwarding ds (call.CheckRead name) h = absurd h
-to_forwarding ds (call.CheckWrite name) h = absurd h
-to_forwarding ds (call.Swap text) h = absurd h
-to_forwarding ds (call.Arrive from p) h = absurd h
 to_forwarding ds (call.Poll from taken) h = both (is_among ds from) (leb (length taken) 32) (to_among ds from h.0) (le-leb (length taken) 32 h.1)
 to_forwarding ds call.Round h = refl
 to_forwarding ds (call.Transmit from) h = to_among ds from h
+to_forwarding ds _ h = absurd h
 
 module _ (ds : List (List ℕ)) where
   abbrev OfThese : Call × Reply → Type 0

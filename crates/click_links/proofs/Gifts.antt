@@ -1,5 +1,5 @@
 -- What a forwarder gives and sends, one stretch after another.
-use Rattle.std.proofs.Common.{◌≡◌, ℕ, zero, suc, Bool, true, false, List, [], ◌∷◌, ◌++◌, length, map, Some, None, if◌then◌else◌, refl, sym, ap, subst, ◌∙◌, append-nil, append_assoc, arith}
+use Rattle.std.proofs.Common.{◌≡◌, ℕ, zero, suc, Bool, true, false, List, [], ◌∷◌, ◌++◌, length, map, Some, if◌then◌else◌, refl, sym, ap, subst, ◌∙◌, append-nil, append_assoc, arith}
 use Rattle.std.specs.List.{All, Contains}
 use Rattle.std.specs.Str.{bytes_eq}
 use Rattle.std.proofs.lemmas.List.{map-append}
@@ -89,14 +89,8 @@ module _ (devices : List (List ℕ)) where
   }
 
 none_in : (r : Reply) → GivesNone r → packets_in r ≡ []
-none_in (reply.Value value) h = refl
-none_in reply.Done h = refl
-none_in (reply.Refused why) h = refl
-none_in (reply.Entered count) h = refl
-none_in (reply.Worked count) h = refl
-none_in (reply.Sent None) h = refl
 none_in (reply.Sent (Some p)) h = absurd cc
-none_in reply.NoDevice h = refl
+none_in _ h = refl
 
 -- the last Transmit gave none, or there was none such
 last_done : (device : List ℕ) (more : Bool) (n : ℕ) (last : List Reply) (calls calls2 : List (Call × Reply)) (a : List Attempt) → calls2 ≡ calls ++ map (transmit_call device) last → Ends GivesNone 256 more n last
@@ -131,15 +125,10 @@ the_one device d (zero, below, is) = is
 the_one device d (suc k, below, is) = absurd (omega (arith, below))
 
 widened : (devices : List (List ℕ)) (device : List ℕ) → Contains devices device → (c : Call) → IsForwarding (device ∷ []) c → IsForwarding devices c
-widened devices device has (call.Read name text) h = absurd h
-widened devices device has (call.Write name text) h = absurd h
-widened devices device has (call.CheckRead name) h = absurd h
-widened devices device has (call.CheckWrite name) h = absurd h
-widened devices device has (call.Swap text) h = absurd h
-widened devices device has (call.Arrive from p) h = absurd h
 widened devices device has (call.Poll from taken) h = (subst (λ d. Contains devices d) (the_one device from h.0) has, h.1)
 widened devices device has call.Round h = tt
 widened devices device has (call.Transmit from) h = subst (λ d. Contains devices d) (the_one device from h) has
+widened devices device has _ h = absurd h
 
 -- a forwarder of one of these devices is one of these devices
 pub forwards_among : (devices : List (List ℕ)) (device : List ℕ) (calls calls2 : List (Call × Reply)) (a b : List Attempt) → Contains devices device → Forwards (device ∷ []) calls calls2 a b → Forwards devices calls calls2 a b
@@ -184,15 +173,8 @@ of_pairs device from (p ∷ ps) = ap (λ l. (if bytes_eq from device then p ∷ 
 
 of_given : (device : List ℕ) (c : Call) (r : Reply) → of_device device (given c r) ≡ given_by device c r
 unfolding of_device
-of_given device (call.Read name text) r = refl
-of_given device (call.Write name text) r = refl
-of_given device (call.CheckRead name) r = refl
-of_given device (call.CheckWrite name) r = refl
-of_given device (call.Swap text) r = refl
-of_given device (call.Arrive from p) r = refl
-of_given device (call.Poll from taken) r = refl
-of_given device call.Round r = refl
 of_given device (call.Transmit from) r = of_pairs device from (packets_in r)
+of_given device _ r = refl
 
 of_none : (device : List ℕ) → of_device device [] ≡ []
 unfolding of_device
