@@ -12,7 +12,7 @@ use Rattle.click_control.specs.Peers.{Input, Output}
 use Rattle.click_workers.specs.declared.session.SessionEnd.{SessionEnd}
 use Rattle.click_workers.specs.declared.work.Outcome.{Outcome}
 use Rattle.click_workers.specs.declared.work.Outcome.TheVariants as outcome
-use Rattle.click_workers.specs.Seats.{IsOf}
+use Rattle.click_workers.specs.Seats.{IsOf, SameSeat}
 use Rattle.click_workers.specs.Work.{Attends, AttendedInTurn, CameOf, DrivesFor, DroveFor, InTurn, SideBySide, Ready, Worked, drives_of, ends_of, numbers_below}
 
 snoc-inj : (xs ys : List SeatState) (x y : SeatState) → xs ++ x ∷ [] ≡ ys ++ y ∷ [] → (xs ≡ ys) × (x ≡ y)
@@ -69,11 +69,11 @@ front-and-last P (y ∷ xs) x h =
     (All-cons P y xs (All-head P y (xs ++ x ∷ []) h) k.0, k.1)
 
 -- by the number of its seat
-pub driven-by : {G : Type 0} (gives : G → ℕ → ℕ → Bool → Type 0) (told : G → ℕ → ℕ → Type 0) (gate : G) (who : ℕ) (rounds : Option ℕ) (s : SeatState) (all : Bool) → who ≡ suc s.number
+driven-by : {G : Type 0} (gives : G → ℕ → ℕ → Bool → Type 0) (told : G → ℕ → ℕ → Type 0) (gate : G) (who : ℕ) (rounds : Option ℕ) (s : SeatState) (all : Bool) → who ≡ suc s.number
     → DrivesFor gives told gate who rounds s all → DroveFor gives told gate rounds s all
 driven-by gives told gate who rounds s all is h = subst (λ w. DrivesFor gives told gate w rounds s all) is h
 
-pub attended-by : {D Rd Wr G : Type 0} (lets_in : D → ℕ → Option (Rd × Wr) → Type 0) (input : Rd → Input) (output : Wr → Output) (gives : G → ℕ → ℕ → Bool → Type 0) (told : G → ℕ → ℕ → Type 0)
+attended-by : {D Rd Wr G : Type 0} (lets_in : D → ℕ → Option (Rd × Wr) → Type 0) (input : Rd → Input) (output : Wr → Output) (gives : G → ℕ → ℕ → Bool → Type 0) (told : G → ℕ → ℕ → Type 0)
     (door : D) (gate : G) (readonly : Bool) (who turns : ℕ) (seat s : SeatState) (e : SessionEnd) → who ≡ suc s.number → seat ≡ new_seat s.desk s.feeds s.number
     → InTurn (Attends lets_in input output gives told door gate readonly who) turns seat s e → AttendedInTurn lets_in input output gives told door gate readonly turns s e
 attended-by lets_in input output gives told door gate readonly who turns seat s e is fresh h =
@@ -197,7 +197,7 @@ module _ (attends : SeatState → SessionEnd → Type 0) (drives : SeatState →
       (subst (λ k. Worked attends drives sessions n seats ended k) (sym d) w)))
 
   -- what came of one seat more
-  pub worked-more : (sessions m who : ℕ) (seats : List SeatState) (ended : List SessionEnd) (drivers : List Bool) (s : SeatState) (o : Outcome)
+  worked-more : (sessions m who : ℕ) (seats : List SeatState) (ended : List SessionEnd) (drivers : List Bool) (s : SeatState) (o : Outcome)
       → Worked attends drives sessions m seats ended drivers → s.number ≡ m → who ≡ suc m → CameOf attends drives sessions who s o
       → Worked attends drives sessions (suc m) (seats ++ s ∷ []) (ended ++ ends_of o) (drivers ++ drives_of o)
   worked-more sessions m who seats ended drivers s (outcome.Attended e) w is next came =
@@ -206,7 +206,7 @@ module _ (attends : SeatState → SessionEnd → Type 0) (drives : SeatState →
       worked-as sessions _ _ _ _ _ _ _ _ refl refl (append-nil ended) refl (worked-driver attends drives sessions m seats ended drivers s all w (omega (arith, came.0, next)) is came.1)
 
   -- there is room for it
-  pub room-for-more : (sessions m who : ℕ) (seats : List SeatState) (ended : List SessionEnd) (drivers : List Bool) (s : SeatState) (o : Outcome) (e d : ℕ)
+  room-for-more : (sessions m who : ℕ) (seats : List SeatState) (ended : List SessionEnd) (drivers : List Bool) (s : SeatState) (o : Outcome) (e d : ℕ)
       → Worked attends drives sessions m seats ended drivers → who ≡ suc m → CameOf attends drives sessions who s o → min (suc m) sessions ≤ e → suc m - sessions ≤ d
       → (length ended + length (ends_of o) ≤ e) × (length drivers + length (drives_of o) ≤ d)
   room-for-more sessions m who seats ended drivers s (outcome.Attended x) e d w next came ended_room drivers_room =
@@ -219,7 +219,30 @@ module _ (attends : SeatState → SessionEnd → Type 0) (drives : SeatState →
       (omega (arith, many, came.0, next, ended_room), omega (arith, drove, came.0, next, drivers_room))
 
 -- what came of one seat, said in other words
-pub came-as : (attends attends' : SeatState → SessionEnd → Type 0) (drives drives' : SeatState → Bool → Type 0) (sessions who : ℕ) (s : SeatState) (o : Outcome)
+came-as : (attends attends' : SeatState → SessionEnd → Type 0) (drives drives' : SeatState → Bool → Type 0) (sessions who : ℕ) (s : SeatState) (o : Outcome)
     → ((e : SessionEnd) → attends s e → attends' s e) → ((all : Bool) → drives s all → drives' s all) → CameOf attends drives sessions who s o → CameOf attends' drives' sessions who s o
 came-as attends attends' drives drives' sessions who s (outcome.Attended e) f k came = (came.0, f e came.1)
 came-as attends attends' drives drives' sessions who s (outcome.Drove all) f k came = (came.0, k all came.1)
+
+-- One place or driver more, whose seat was the last of the new ones, beside those before it: what came of them all, and that there is room for it.
+pub one-worked : {D Rd Wr G : Type 0} (lets_in : D → ℕ → Option (Rd × Wr) → Type 0) (input : Rd → Input) (output : Wr → Output) (gives : G → ℕ → ℕ → Bool → Type 0) (told : G → ℕ → ℕ → Type 0)
+    (door : D) (gate : G) (readonly : Bool) (turns sessions : ℕ) (rounds : Option ℕ) (desk : DeskName) (n m who e d : ℕ) (news seats : List SeatState) (none ended : List SessionEnd)
+    (undriven drivers : List Bool) (seat s : SeatState) (o : Outcome)
+    → Ready desk sessions n news none undriven e d → n ≡ m + 1 → who ≡ m + 1 → seat ≡ new_seat desk seat.feeds m → SameSeat seat s
+    → CameOf (InTurn (Attends lets_in input output gives told door gate readonly who) turns seat) (DrivesFor gives told gate who rounds) sessions who s o
+    → Worked (AttendedInTurn lets_in input output gives told door gate readonly turns) (DroveFor gives told gate rounds) sessions m seats ended drivers
+    → Worked (AttendedInTurn lets_in input output gives told door gate readonly turns) (DroveFor gives told gate rounds) sessions n (seats ++ s ∷ []) (ended ++ ends_of o) (drivers ++ drives_of o)
+    × (length ended + length (ends_of o) ≤ e) × (length drivers + length (drives_of o) ≤ d)
+one-worked lets_in input output gives told door gate readonly turns sessions rounds desk n m who e d news seats none ended undriven drivers seat s o ready more next new same came rest =
+    let attends = AttendedInTurn lets_in input output gives told door gate readonly turns in
+    let drives = DroveFor gives told gate rounds in
+    let number : s.number ≡ m = same.1 ∙ ap (λ (x : SeatState). x.number) new in
+    let fresh : seat ≡ new_seat s.desk s.feeds s.number =
+    new ∙ ap (λ x. new_seat x seat.feeds m) (sym (same.0 ∙ ap (λ (x : SeatState). x.desk) new)) ∙ ap (λ f. new_seat s.desk f m) (sym same.2) ∙ ap (λ k. new_seat s.desk s.feeds k) (sym number) in
+    let is : who ≡ suc s.number = omega (arith, number, next) in
+    let last : who ≡ suc m = omega (arith, next) in
+    let many : n ≡ suc m = omega (arith, more) in
+    let told_so = came-as (InTurn (Attends lets_in input output gives told door gate readonly who) turns seat) attends (DrivesFor gives told gate who rounds) drives sessions who s o
+    (λ x h. attended-by lets_in input output gives told door gate readonly who turns seat s x is fresh h) (λ all h. driven-by gives told gate who rounds s all is h) came in
+    let room = room-for-more attends drives sessions m who seats ended drivers s o e d rest last told_so (omega (arith, ready.room_ended, many)) (omega (arith, ready.room_driven, many)) in
+    (worked-as attends drives sessions _ n _ _ _ _ _ _ many refl refl refl (worked-more attends drives sessions m who seats ended drivers s o rest number last told_so), room.0, room.1)

@@ -42,11 +42,7 @@ call-quiet false (command.Write handler text) = refl
 call-quiet readonly (command.CheckRead handler) = refl
 call-quiet true (command.CheckWrite handler) = tt
 call-quiet false (command.CheckWrite handler) = refl
-call-quiet readonly command.Quit = tt
-call-quiet readonly command.Syntax = tt
-call-quiet readonly command.LineTooLong = tt
-call-quiet readonly command.DataTooLong = tt
-call-quiet readonly (command.Unknown word) = tt
+call-quiet readonly _ = tt
 
 one-quiet : (o : Option Call) (a : Answer) → IfSome o (λ k. is_transmit k ≡ false) → AreQuiet (made_one o a)
 one-quiet None a h = All-nil (λ (p : Call × Reply). is_transmit p.0 ≡ false)
@@ -119,15 +115,8 @@ quiet-seat (e ∷ es) n h =
     All-cons (λ (x : Entry). (x.seat == n) ≡ true → is_transmit x.call ≡ false) e es k.1 (quiet-seat es n k.0)
 
 not-given : (device : List ℕ) (c : Call) (r : Reply) → is_transmit c ≡ false → given_by device c r ≡ []
-not-given device (call.Read name text) r h = refl
-not-given device (call.Write name text) r h = refl
-not-given device (call.CheckRead name) r h = refl
-not-given device (call.CheckWrite name) r h = refl
-not-given device (call.Swap text) r h = refl
-not-given device (call.Arrive from p) r h = refl
-not-given device (call.Poll from taken) r h = refl
-not-given device call.Round r h = refl
 not-given device (call.Transmit from) r h = absurd (true≢false h)
+not-given device _ r h = refl
 
 gift-first : (device : List ℕ) (b : Bool) (e : Entry) (all mine : List (Call × Reply)) → (b ≡ false → is_transmit e.call ≡ false) → gifts_by device all ≡ gifts_by device mine
     → gifts_by device ((e.call, e.reply) ∷ all) ≡ gifts_by device (if b then ((e.call, e.reply) ∷ mine) else mine)
