@@ -108,6 +108,13 @@ impl<D> Reading<D> {
         }
     }
 
+    /// A look at the device.
+    pub fn device(&self) -> &D
+        ensures { result.now ≡ self.now.device }
+    {
+        &self.device
+    }
+
     /// The device.
     pub fn into_inner(self) -> D
         ensures { result ≡ self.device }
