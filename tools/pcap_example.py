@@ -8,11 +8,13 @@ A capture is what pcap-savefile(5) says. With `quick` the captures of a million 
 
 import os
 import resource
+import select
 import struct
 import subprocess
 import sys
 import tempfile
 import threading
+from time import monotonic
 
 MICRO, NANO = 0xA1B2C3D4, 0xA1B23C4D
 ETHERNET, RAW, IPV4 = 1, 101, 228
@@ -138,12 +140,12 @@ def has(what, done, status, out, error):
     checked += 1
 
 
-def carried(what, text, front, packets, order, model, front_out=None):
-    """Packets, each with its time, and what the model makes of them."""
+def modelled(front, packets, order, model, front_out=None):
+    """A capture of packets, each with its time, the one that the model makes of it, and the line of the numbers."""
     given, wanted, counts = front, front_out or front, [0, 0, 0, 0]
     for at, packet in enumerate(packets):
-        time = (1_700_000_000 + 97 * at, (123_456 * at) % 1_000_000)
-        given += record(packet, time, order)
+        moment = (1_700_000_000 + 97 * at, (123_456 * at) % 1_000_000)
+        given += record(packet, moment, order)
         counts[0] += 1
         if len(packet) > 1600:
             counts[1] += 1
@@ -151,8 +153,14 @@ def carried(what, text, front, packets, order, model, front_out=None):
         counts[2] += 1
         for made in model(packet):
             counts[3] += 1
-            wanted += record(made, time, order)
-    has(what, run(text, given), 0, wanted, numbers(*counts))
+            wanted += record(made, moment, order)
+    return given, wanted, numbers(*counts)
+
+
+def carried(what, text, front, packets, order, model, front_out=None):
+    """Packets, each with its time, and what the model makes of them."""
+    given, wanted, line = modelled(front, packets, order, model, front_out)
+    has(what, run(text, given), 0, wanted, line)
 
 
 def one(model):
@@ -317,7 +325,8 @@ def failures():
     with open("/dev/full", "wb") as full:
         done = run(PLAIN, given, stdout=full)
     done.stdout = b""
-    has("a full device", done, 4, b"", b"error: a write failed\n" + numbers())
+    # Both packets were taken for writing before the first write.
+    has("a full device", done, 4, b"", b"error: a write failed\n" + numbers(2, 0, 2, 2))
     done = run(PLAIN, None, preexec_fn=lambda: os.close(0))
     has("closed standard input", done, 4, b"", b"error: a read failed\n" + numbers())
     with tempfile.TemporaryDirectory() as folder:
@@ -325,6 +334,67 @@ def failures():
         done = run(PLAIN, place)
         os.close(place)
     has("a folder as standard input", done, 4, b"", b"error: a read failed\n" + numbers())
+
+
+# ---- when it is written
+
+
+def comes(child, count):
+    """So many bytes of a child's output, or those that came in a minute."""
+    came, until = b"", monotonic() + 60
+    while len(came) < count and select.select([child.stdout], [], [], max(0, until - monotonic()))[0]:
+        piece = os.read(child.stdout.fileno(), count - len(came))
+        if not piece:
+            break
+        came += piece
+    return came
+
+
+def started(text):
+    words = [PROGRAM, "-e", text, "--in", "eth0", "--out", "eth1"]
+    return subprocess.Popen(words, bufsize=0, stdin=subprocess.PIPE, stdout=subprocess.PIPE, stderr=subprocess.PIPE)
+
+
+def ended(what, child, out, error):
+    """The child's input ends, and it ends well, with no more than this on its output."""
+    child.stdin.close()
+    rest, told = child.stdout.read(), child.stderr.read()
+    has(what, subprocess.CompletedProcess(child.args, child.wait(timeout=60), rest, told), 0, out, error)
+
+
+def waits():
+    """What comes of a packet is there before the program waits for the next, also where the next is there in part."""
+    first, second, third = (record(packet, (at, 0)) for at, packet in enumerate([b"first", b"\x05" * 1600, b"third"]))
+    steps = [(header(), header()), (first, first), (second + third[:7], second), (third[7:18], b""), (third[18:] + first + first[:16], third + first)]
+    with started(PLAIN) as child:
+        for at, (given, wanted) in enumerate(steps):
+            child.stdin.write(given)
+            same(f"what has come by step {at}", wanted, comes(child, len(wanted)))
+        child.stdin.write(first[16:])
+        ended("step by step", child, first, numbers(5, 0, 5, 5))
+
+
+def in_pieces():
+    """A capture that comes byte by byte, in small pieces, and whole leads to the same."""
+    given, wanted, line = modelled(header(), MIXED, "<", one(through_gateway))
+    for size in (1, 7, 100, len(given)):
+        with started(GATEWAY) as child:
+            for at in range(0, len(given), size):
+                child.stdin.write(given[at : at + size])
+            ended(f"a capture in pieces of {size}", child, wanted, line)
+    # More than is held at once, in records that do not end where it is full.
+    packets = [bytes(length % 251 for _ in range(length)) for length in range(1, 1600, 3)] * 2
+    carried("many sizes", PLAIN, header(), packets, "<", lambda packet: [packet])
+
+
+def told_last():
+    """What is held is written before an error is told."""
+    given = header() + record(b"first") + record(b"second")[:20]
+    words = [PROGRAM, "-e", PLAIN, "--in", "eth0", "--out", "eth1"]
+    done = subprocess.run(words, input=given, stdout=subprocess.PIPE, stderr=subprocess.STDOUT, timeout=60)
+    done.stderr = b""
+    error = b"error: packet 2, byte 45: the capture ends inside this record\n" + numbers(1, 0, 1, 1)
+    has("an error behind what was held", done, 1, header() + record(b"first") + error, b"")
 
 
 def million():
@@ -356,7 +426,7 @@ if __name__ == "__main__":
     PROGRAM, GATEWAY_FILE, THREE = sys.argv[1:4]
     with open(GATEWAY_FILE, encoding="ascii") as file:
         GATEWAY = file.read()
-    for part in (three, kinds, sizes, elements, headers, records, devices, arguments, failures):
+    for part in (three, kinds, sizes, elements, headers, records, devices, arguments, failures, waits, in_pieces, told_last):
         part()
     if sys.argv[4:] != ["quick"]:
         million()

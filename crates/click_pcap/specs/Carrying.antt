@@ -1,6 +1,6 @@
 -- Packets from a capture through a router into a capture.
 use Rattle.std.specs.Prelude.{◌≡◌, ◌⊎◌, ℕ, ◌<◌, ◌≤◌, ◌+◌, ◌-◌, ◌^◌, ◌==◌, min, is_err, nat_lt, if◌then◌else◌, List, [], ◌∷◌, ◌++◌, length, true, false, None, Result, Ok, Err}
-use Rattle.std.specs.Io.KnownBytes.{IsAtEnd}
+use Rattle.std.specs.Io.KnownBytes.{IsAtEnd, Appends}
 use Rattle.click_packet.specs.Packet.{Packet}
 use Rattle.click_capture.specs.Captures.{Record, whole, header_bytes, head_bytes, record_bytes, records_bytes, capture_bytes, longest}
 use Rattle.click_capture.specs.declared.order.Order.{Order}
@@ -92,7 +92,7 @@ abbrev pub IsNextAt : Header → List Record → ℕ → Type 0
 IsNextAt h records at = at ≡ min (length (capture_bytes h records)) (2 ^ 64 - 1)
 
 -- How the records of a capture were carried, from the moment at which its header had been read and written: all of them; or those before a record that is cut,
--- too long or cannot be read; or those before one whose passage broke off; or none, for want of memory.
+-- too long or cannot be read; or those before one whose passage broke off; or some, before a write failed between two of them; or none, for want of memory.
 abbrev pub Ends : {T : Type 0} → Header → Input → Input → Output → Output → PassageState → PassageState → Result T CarryFault → Type 0
 Ends h had left held holds first new (Ok _) = (records : List Record) × Carried h had left held holds first new records × IsAtEnd left.remaining
 Ends h had left held holds first new (Err (carry_fault.Cut number at)) =
@@ -107,8 +107,9 @@ Ends h had left held holds first new (Err (carry_fault.GivesOn number at)) =
     (records : List Record) × (mid : Input) × (midst : Output) × (before : PassageState) × Carried h had mid held midst first before records
     × Interrupted h mid left midst holds before new unsent.GivesOn × (number ≡ length records + 1) × IsNextAt h records at
 Ends h had left held holds first new (Err carry_fault.WriteFailed) =
-    (records : List Record) × (mid : Input) × (midst : Output) × (before : PassageState) × Carried h had mid held midst first before records
-    × Interrupted h mid left midst holds before new unsent.WriteFailed
+    ((records : List Record) × (mid : Input) × (midst : Output) × (before : PassageState) × Carried h had mid held midst first before records
+    × Interrupted h mid left midst holds before new unsent.WriteFailed)
+    ⊎ ((records : List Record) × (midst : Output) × Carried h had left held midst first new records × HasWritten midst holds [] true)
 Ends h had left held holds first new (Err carry_fault.NoMemory) =
     Carried h had left held holds first new []
     ⊎ ((records : List Record) × (mid : Input) × (midst : Output) × (before : PassageState) × Carried h had mid held midst first before records
@@ -135,3 +136,17 @@ Carries {T} had left held holds old new result =
     ((why : HeaderReadFault) × ReadsHeader had left (Err why) × (result ≡ Err (header_carry_fault why)) × (holds ≡ held) × (new ≡ old))
     ⊎ (((h : Header) × Took had left (header_bytes h) × (is_err result ≡ true) × WroteHeader (widened_header h) held holds result × (new ≡ old))
     ⊎ ((h : Header) × Ends h had left held holds old new result))
+
+-- How a capture was carried once its header had been read: a front of the header was written before a write failed; or its records were carried.
+abbrev pub CarriesBehind : {T : Type 0} → Header → Input → Input → Output → Output → PassageState → PassageState → Result T CarryFault → Type 0
+CarriesBehind {T} h had left held holds old new result =
+    (Took had left (header_bytes h) × (result ≡ Err carry_fault.WriteFailed) × WroteFront held holds (header_bytes (widened_header h)) true × (new ≡ old))
+    ⊎ Ends h had left held holds old new result
+
+-- How a capture was carried through a buffer into a sink. All that was taken is written, and so it was carried as without a buffer. Or a write failed, and the run
+-- says so: then the sink has a front of what was taken, and what was taken is what a run takes that ends in some way.
+abbrev pub CarriesThrough : {T : Type 0} → Input → Input → Output → Output → PassageState → PassageState → Result T CarryFault → Type 0
+CarriesThrough {T} had left held holds old new result =
+    Carries had left held holds old new result
+    ⊎ ((result ≡ Err carry_fault.WriteFailed) × (holds.failed ≡ true)
+    × ((taken : Output) × (run : Result T CarryFault) × Carries had left held taken old new run × ((rest : List ℕ) × Appends holds.contents taken.contents rest)))

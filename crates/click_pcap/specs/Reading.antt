@@ -1,5 +1,5 @@
 -- Captures that come from a source.
-use Rattle.std.specs.Prelude.{◌≡◌, ◌⊎◌, ℕ, ◌<◌, ◌≤◌, List, [], ◌++◌, length, take, true, Result, Ok, Err}
+use Rattle.std.specs.Prelude.{◌≡◌, ◌⊎◌, ℕ, ◌<◌, ◌≤◌, ◌+◌, List, [], ◌++◌, length, take, true, Result, Ok, Err}
 use Rattle.std.specs.Io.KnownBytes.{Consumes, IsAtEnd}
 use Rattle.click_capture.specs.Captures.{Record, header_bytes, head_bytes, record_bytes, longest, IsHeaderFault}
 use Rattle.click_capture.specs.declared.header.Header.{Header}
@@ -61,3 +61,8 @@ ReadsRecord header had left piece (Err no_record.Cut) = (bytes : List ℕ) × To
 ReadsRecord header had left piece (Err (no_record.TooLong fault)) =
     (head : Head) × Took had left (head_bytes header.order head) × (head.kept ≡ fault.claimed) × (fault.most ≡ longest header.snap) × (fault.most < fault.claimed)
 ReadsRecord header had left piece (Err no_record.ReadFailed) = ReadFails had left
+
+-- The next record can be read from these bytes alone: it lies in them; or the 16 bytes do that say that it is too long.
+abbrev pub IsAtHand : Header → List ℕ → Type 0
+IsAtHand header ready =
+    (head : Head) × (take 16 ready ≡ head_bytes header.order head) × ((longest header.snap < head.kept) ⊎ (16 + head.kept ≤ length ready))

@@ -1,13 +1,18 @@
 //! Packets from a capture through a router into a capture.
 
-ghost use Rattle.std.specs.Prelude.{◌≡◌, [], length};
-ghost use Rattle.click_control.specs.Peers.{Input as AnInput, Output as AnOutput};
+ghost use Rattle.std.specs.Prelude.{◌≡◌, ◌⊎◌, [], length, false, true, OnOk, OnErr};
+ghost use Rattle.click_capture.specs.Captures.{header_bytes};
+ghost use Rattle.click_control.specs.Peers.{Input as AnInput, Output as AnOutput, HasWritten};
+ghost use Rattle.click_pcap.specs.Reading.{Took, IsAtHand};
+ghost use Rattle.click_pcap.specs.Buffers.{taken};
 ghost use Rattle.click_pcap.specs.Passages.{PassageState, went};
-ghost use Rattle.click_pcap.specs.Carrying.{widened_header, header_carry_fault, send_carry_fault, WroteHeader, SendsAll, Passes, Carried, Ends, Carries};
+ghost use Rattle.click_pcap.specs.Carrying.{widened_header, header_carry_fault, send_carry_fault, SendsAll, Passes, Carried, Ends, CarriesBehind, CarriesThrough};
 
+use crate::buffered::Buffered;
 use crate::carry_fault::{CarryFault, SendFault};
 use crate::passage::Passage;
 use crate::reading::{HeaderReadFault, NextRecord, RecordReadFault, read_header, read_record};
+use crate::ready::{Ready, is_at_hand};
 use crate::tally::Tally;
 use crate::writing::write_all;
 use click_capture::{
@@ -35,24 +40,30 @@ fn widened_header(header: &Header) -> Header
 }
 
 /// Carries the packets of a capture through the router: each enters, each task runs once, and what the sink then gives is written with the time of the packet
-/// that entered. A packet of more than 1,600 bytes is left out. The tally counts on, also where the run breaks off.
-pub fn carry<I: Source, O: Sink>(
+/// that entered. A packet of more than 1,600 bytes is left out. What is held is written before a read that may wait, and at the end, also where the run breaks
+/// off. The tally counts on, then too.
+pub fn carry<I: Source + Ready, O: Sink>(
     alloc: Global,
     passage: &mut Passage,
     reader: &mut I,
-    writer: &mut O,
+    writer: &mut Buffered<O>,
     tally: &mut Tally,
 ) -> Result<(), CarryFault>
-    ensures { Carries (I.input reader.old) (I.input reader.new) (O.output writer.old) (O.output writer.new) passage.old passage.new result }
+    requires { writer.old.held ≡ [] }
+    ensures { CarriesThrough (I.input reader.old) (I.input reader.new) (O.output writer.old.sink) (O.output writer.new.sink) passage.old passage.new result }
 {
     let header = match read_header(reader) {
         Ok(header) => header,
         Err(why) => return Err(header_carry_fault(why)),
     };
-    if let Err(carry_fault) = write_header(alloc, &widened_header(&header), writer) {
-        return Err(carry_fault);
+    let Ok(front) = header_bytes(alloc, &widened_header(&header)) else {
+        return Err(CarryFault::NoMemory);
+    };
+    let ended = carry_behind(alloc, passage, &header, &front, reader, writer, tally);
+    match writer.flush() {
+        Ok(()) => ended,
+        Err(Failed) => Err(CarryFault::WriteFailed),
     }
-    carry_records(alloc, passage, &header, reader, writer, tally)
 }
 
 /// Why no header was read, as a run is told.
@@ -66,31 +77,38 @@ fn header_carry_fault(why: HeaderReadFault) -> CarryFault
     }
 }
 
-/// Writes a header.
-fn write_header<O: Sink>(alloc: Global, header: &Header, writer: &mut O) -> Result<(), CarryFault>
-    ensures { WroteHeader header.now (O.output writer.old) (O.output writer.new) result }
+/// Writes the header of the capture that is written, and carries the packets of the records.
+fn carry_behind<I: Source + Ready, O: Sink>(
+    alloc: Global,
+    passage: &mut Passage,
+    header: &Header,
+    front: &[u8],
+    reader: &mut I,
+    writer: &mut Buffered<O>,
+    tally: &mut Tally,
+) -> Result<(), CarryFault>
+    requires { front.now ≡ header_bytes (widened_header header.now) }
+    ensures { (had : AnInput) → Took had (I.input reader.old) (header_bytes header.now)
+        → CarriesBehind header.now had (I.input reader.new) (taken O.output writer.old) (taken O.output writer.new) passage.old passage.new result }
 {
-    let Ok(bytes) = header_bytes(alloc, header) else {
-        return Err(CarryFault::NoMemory);
-    };
-    match write_all(writer, &bytes) {
-        Ok(()) => Ok(()),
-        Err(Failed) => Err(CarryFault::WriteFailed),
+    if let Err(Failed) = write_all(writer, front) {
+        return Err(CarryFault::WriteFailed);
     }
+    carry_records(alloc, passage, header, reader, writer, tally)
 }
 
 /// Carries the packets of the records, which take 262,144 bytes of memory whatever the capture claims.
-fn carry_records<I: Source, O: Sink>(
+fn carry_records<I: Source + Ready, O: Sink>(
     alloc: Global,
     passage: &mut Passage,
     header: &Header,
     reader: &mut I,
-    writer: &mut O,
+    writer: &mut Buffered<O>,
     tally: &mut Tally,
 ) -> Result<(), CarryFault>
     ensures { (had : AnInput) (held : AnOutput) (first : PassageState)
-        → Carried header.now had (I.input reader.old) held (O.output writer.old) first passage.old []
-        → Ends header.now had (I.input reader.new) held (O.output writer.new) first passage.new result }
+        → Carried header.now had (I.input reader.old) held (taken O.output writer.old) first passage.old []
+        → Ends header.now had (I.input reader.new) held (taken O.output writer.new) first passage.new result }
 {
     let Ok(mut packet) = vec![in alloc; 0u8; LONGEST_RECORD as usize] else {
         return Err(CarryFault::NoMemory);
@@ -107,23 +125,26 @@ fn carry_records<I: Source, O: Sink>(
 }
 
 /// Carries the packets of the records, each of which stands in the piece for its time.
-fn carry_each<I: Source, O: Sink>(
+fn carry_each<I: Source + Ready, O: Sink>(
     alloc: Global,
     passage: &mut Passage,
     header: &Header,
     piece: &mut [u8],
     reader: &mut I,
-    writer: &mut O,
+    writer: &mut Buffered<O>,
     tally: &mut Tally,
 ) -> Result<(), CarryFault>
     requires { length piece.old ≡ 262144 }
     ensures { (had : AnInput) (held : AnOutput) (first : PassageState)
-        → Carried header.now had (I.input reader.old) held (O.output writer.old) first passage.old []
-        → Ends header.now had (I.input reader.new) held (O.output writer.new) first passage.new result }
+        → Carried header.now had (I.input reader.old) held (taken O.output writer.old) first passage.old []
+        → Ends header.now had (I.input reader.new) held (taken O.output writer.new) first passage.new result }
 {
     let mut at = HEADER_LEN as u64;
     for before in 0..u64::MAX {
         let number = before + 1;
+        if let Err(Failed) = flush_before_wait(header, reader, writer) {
+            return Err(CarryFault::WriteFailed);
+        }
         let head = match read_record(reader, header, piece) {
             Ok(NextRecord::End) => return Ok(()),
             Ok(NextRecord::Packet(head)) => head,
@@ -152,6 +173,22 @@ fn carry_each<I: Source, O: Sink>(
     }
     // No input has so many records.
     Err(CarryFault::Uncounted)
+}
+
+/// Writes what is held, unless the next record can be read without waiting.
+fn flush_before_wait<I: Ready, O: Sink>(
+    header: &Header,
+    reader: &I,
+    writer: &mut Buffered<O>,
+) -> Result<(), Failed>
+    ensures ok { OnOk result (HasWritten (taken O.output writer.old) (taken O.output writer.new) [] false) }
+    ensures none_waits { OnOk result ((writer.new.held ≡ []) ⊎ IsAtHand header.now (I.at_hand reader.now)) }
+    ensures err { OnErr result (HasWritten (taken O.output writer.old) (taken O.output writer.new) [] true) }
+{
+    if is_at_hand(header, reader.ready()) {
+        return Ok(());
+    }
+    writer.flush()
 }
 
 /// Why what came of the packet of a record was not written to its end, as a run is told.

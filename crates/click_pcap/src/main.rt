@@ -5,16 +5,19 @@ ghost use Rattle.std.specs.Prelude.{◌≡◌};
 ghost use Rattle.click_pcap.specs.Statuses.{passage_status};
 
 mod arguments;
+mod buffered;
 mod carry_fault;
 mod carrying;
 pub mod laws;
 mod passage;
 mod reading;
+mod ready;
 mod status;
 mod tally;
 mod writing;
 
 use arguments::options_of;
+use buffered::{Buffered, ROOM};
 use carry_fault::CarryFault;
 use carrying::carry;
 use click_cli::{Status, refuse_arguments, refuse_configuration, words_of};
@@ -76,11 +79,13 @@ fn carry_standard(
     tally: &mut Tally,
 ) -> Result<(), CarryFault> {
     let alloc = rt.alloc();
-    let Ok(input) = BufReader::new(alloc, rt.stdin()) else {
+    let Ok(input) = BufReader::with_capacity(alloc, ROOM, rt.stdin()) else {
+        return Err(CarryFault::NoMemory);
+    };
+    let Ok(mut writer) = Buffered::new(alloc, Writing::new(rt.stdout())) else {
         return Err(CarryFault::NoMemory);
     };
     let mut reader = Reading::new(input);
-    let mut writer = Writing::new(rt.stdout());
     carry(alloc, passage, &mut reader, &mut writer, tally)
 }
 

@@ -1,14 +1,16 @@
-use Rattle.std.proofs.Common.{inr, subst, false}
-use Rattle.click_capture.specs.Captures.{header_bytes}
-use Rattle.click_capture.specs.declared.header.Header.{Header}
-use Rattle.click_control.specs.Peers.{HasWritten}
-use Rattle.click_pcap.proofs.Passing.{begun}
+use Rattle.click_pcap.proofs.Flushing.{through-good, through-failed}
 use Rattle.click_pcap.proofs.carrying.carry.Goals as goal
+
+pub returns-in-Ok-flush : goal.returns-in-Ok-flush
+returns-in-Ok-flush g c =
+    let input = g.I.Source.input in
+    let carried = c.carry_behind-ended.ensures (input c.args.reader.now) c.in-Ok.ensures in
+    through-good (Unit {0}) _ g.O.Sink.output c.in-Ok.header (input c.args.reader.now) (input c.carry_behind-ended.new.reader) c.args.writer.now c.carry_behind-ended.new.writer c.flush.new.self
+    c.args.passage.now c.carry_behind-ended.new.passage c.carry_behind-ended.result c.requires carried c.in-Ok-flush.ensures.ok c.in-Ok-flush.ensures.empty
 
 pub returns : goal.returns
 returns g c =
     let input = g.I.Source.input in
-    let output = g.O.Sink.output in
-    let wrote = subst (λ (h : Header). HasWritten (output c.args.writer.now) (output c.write_header.new.writer) (header_bytes h) false) c.widened_header.ensures c.in_default.ensures in
-    let start = begun c.in-Ok.header (input c.args.reader.now) (input c.read_header.new.reader) (output c.args.writer.now) (output c.write_header.new.writer) c.args.passage.now c.in-Ok.ensures wrote in
-    inr (inr (c.in-Ok.header, c.carry_records.ensures (input c.args.reader.now) (output c.args.writer.now) c.args.passage.now start))
+    let carried = c.carry_behind-ended.ensures (input c.args.reader.now) c.in-Ok.ensures in
+    through-failed (Unit {0}) _ g.O.Sink.output c.in-Ok.header (input c.args.reader.now) (input c.carry_behind-ended.new.reader) c.args.writer.now c.carry_behind-ended.new.writer c.flush.new.self
+    c.args.passage.now c.carry_behind-ended.new.passage c.carry_behind-ended.result c.requires carried c.in-Err-flush.ensures.err

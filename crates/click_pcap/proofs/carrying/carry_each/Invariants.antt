@@ -1,6 +1,7 @@
 use Rattle.std.proofs.Common.{◌≡◌, [], List, length}
 use Rattle.click_capture.specs.Captures.{Record}
 use Rattle.click_control.specs.Peers.{Input, Output}
+use Rattle.click_pcap.specs.Buffers.{taken}
 use Rattle.click_pcap.specs.Passages.{PassageState}
 use Rattle.click_pcap.specs.Carrying.{Carried, IsNextAt}
 use Rattle.click_pcap.proofs.carrying.carry_each.Given as goal
@@ -9,6 +10,6 @@ use Rattle.click_pcap.proofs.carrying.carry_each.Given as goal
 abbrev pub invariant-loop-before : goal.invariant-loop-before
 invariant-loop-before g l =
     let input = g.I.Source.input in
-    let output = g.O.Sink.output in
+    let output = taken g.O.Sink.output in
     (had : Input) (held : Output) (first : PassageState) → Carried l.header had (input l.initial.reader) held (output l.initial.writer) first l.initial.passage []
     → (records : List Record) × Carried l.header had (input l.reader) held (output l.writer) first l.passage records × (length records ≡ l.before) × IsNextAt l.header records l.at
