@@ -1,7 +1,6 @@
 //! A buffer before a sink, so that one write of the sink takes many bytes.
 
-ghost use Rattle.std.specs.Prelude.{◌≡◌, ◌+◌, ◌-◌, ◌<◌, ◌≤◌, ◌||◌, [], ◌++◌, length, drop, is_err, IfOk, OnOk, OnErr, true, false, vec_len, vec_capacity};
-ghost use Rattle.std.specs.Io.KnownBytes.{WriteAppends};
+ghost use Rattle.std.specs.Prelude.{◌≡◌, ◌+◌, ◌<◌, ◌≤◌, [], ◌++◌, length, drop, is_err, IfOk, OnOk, OnErr, true, false, vec_len, vec_capacity};
 ghost use Rattle.click_control.specs.Peers.{HasWritten};
 ghost use Rattle.click_pcap.specs.Buffers.{taken};
 
