@@ -74,7 +74,7 @@ fn receive_one<L: Inbound>(
 }
 
 /// Waits for a datagram, and counts it. Says whether its packet was put.
-pub(crate) fn receive_next<L: Inbound>(
+fn receive_next<L: Inbound>(
     alloc: Global,
     intake: &mut Intake,
     link: &mut L,
@@ -96,10 +96,36 @@ pub(crate) fn receive_next<L: Inbound>(
     }
 }
 
-/// Wakes whoever takes the packets where one was put.
-fn tell(put: bool, wake: &Parker) {
-    if put {
-        wake.unpark();
+/// Puts what comes in a feed, as `receive` does, and tells of each datagram whether its packet was put.
+pub(crate) fn receive_telling<L: Inbound, F: FnMut(bool, &L)>(
+    alloc: Global,
+    intake: &mut Intake,
+    link: &mut L,
+    stop: &AtomicBool,
+    counts: &Counts,
+    mut tell: F,
+) -> Received
+    requires { F.IsAlwaysCallable tell }
+    ensures { Receives (L.came link.old) (L.came link.new) intake.old intake.new result.dropped }
+{
+    let mut dropped = Dropped::none();
+    for _ in 0..u64::MAX {
+        if stop.load(Ordering::SeqCst) {
+            break;
+        }
+        match receive_next(alloc, intake, link, counts, &mut dropped) {
+            Ok(put) => tell(put, link),
+            Err(LinkFailed) => {
+                return Received {
+                    dropped,
+                    ended: Ended::Link,
+                };
+            }
+        }
+    }
+    Received {
+        dropped,
+        ended: Ended::Stopped,
     }
 }
 
@@ -114,23 +140,9 @@ pub fn receive<L: Inbound>(
 ) -> Received
     ensures { Receives (L.came link.old) (L.came link.new) intake.old intake.new result.dropped }
 {
-    let mut dropped = Dropped::none();
-    for _ in 0..u64::MAX {
-        if stop.load(Ordering::SeqCst) {
-            break;
+    receive_telling(alloc, intake, link, stop, counts, |put, _| {
+        if put {
+            wake.unpark();
         }
-        match receive_next(alloc, intake, link, counts, &mut dropped) {
-            Ok(put) => tell(put, wake),
-            Err(LinkFailed) => {
-                return Received {
-                    dropped,
-                    ended: Ended::Link,
-                };
-            }
-        }
-    }
-    Received {
-        dropped,
-        ended: Ended::Stopped,
-    }
+    })
 }

@@ -12,9 +12,9 @@ use crate::device::Device;
 use crate::dropped::Dropped;
 use crate::forwarder::{Forwarder, RunStart};
 use crate::intake::Intake;
-use crate::link::{Inbound, LinkFailed, Outbound};
+use crate::link::{Inbound, Outbound};
 use crate::pause::Pause;
-use crate::receiving::{Ended, Received, receive_next};
+use crate::receiving::{Ended, Received, receive_telling};
 use crate::sharing::{Helper, Shared, SharedSweep, Sweeper};
 use click_base::sequence::Sequence;
 use click_desk::{Desk, DeskFault, Seat};
@@ -75,38 +75,6 @@ pub struct Linked<T, L, S> {
     pub fault: Option<DeskFault>,
 }
 
-/// Puts what comes in the feed, as `receive` does, and helps with the sweeps.
-fn receive_helping<T: Handlers, L: Inbound, S: Outbound, R: Wait, B: RunStart>(
-    helper: &mut Helper<'_, '_, '_, T, S, R, B>,
-    alloc: Global,
-    intake: &mut Intake,
-    link: &mut L,
-    stop: &AtomicBool,
-    counts: &Counts,
-) -> Received
-    ensures { Receives (L.came link.old) (L.came link.new) intake.old intake.new result.dropped }
-{
-    let mut dropped = Dropped::none();
-    for _ in 0..u64::MAX {
-        if stop.load(Ordering::SeqCst) {
-            break;
-        }
-        match receive_next(alloc, intake, link, counts, &mut dropped) {
-            Ok(put) => helper.help(put, link),
-            Err(LinkFailed) => {
-                return Received {
-                    dropped,
-                    ended: Ended::Link,
-                };
-            }
-        }
-    }
-    Received {
-        dropped,
-        ended: Ended::Stopped,
-    }
-}
-
 /// Receives until told to stop, or the link fails.
 fn run_receiver<T: Handlers, L: Inbound, S: Outbound, R: Wait, B: RunStart>(
     sweeper: &Sweeper<'_, '_, T, S, R, B>,
@@ -123,13 +91,13 @@ fn run_receiver<T: Handlers, L: Inbound, S: Outbound, R: Wait, B: RunStart>(
         received: _,
     } = receiving;
     let mut helper = Helper::new(sweeper);
-    let received = receive_helping(
-        &mut helper,
+    let received = receive_telling(
         sweeper.alloc,
         &mut intake,
         &mut link,
         stop,
         counts,
+        |put, link: &L| helper.help(put, link),
     );
     Receiving {
         device,

@@ -1,6 +1,7 @@
-use Rattle.std.proofs.Common.{arith}
+use Rattle.std.proofs.Common.{refl, arith}
+use denote.Param.Always.{mut_next}
 use Rattle.click_links.proofs.DatagramFates.{received_step, steps_small, below_more}
-use Rattle.click_links.proofs.run.receive_helping.Goals as goal
+use Rattle.click_links.proofs.receiving.receive_telling.Goals as goal
 
 pub receive_next-requires : goal.receive_next-requires
 receive_next-requires g c = below_more _ _ _ c.loop.invariant.below (omega (arith, c.loop-test.true))
@@ -11,4 +12,5 @@ loop-preserved g c =
     record {
       received = received_step _ _ _ _ _ _ _ _ h.received c.in-Ok.ensures.ok;
       below = steps_small _ _ _ _ _ _ _ h.below c.in-Ok.ensures.ok;
+      callable = mut_next g.F.FnMut _ _ _ _ _ c.tell.ensures refl h.callable;
     }

@@ -1,9 +1,10 @@
 use Rattle.std.proofs.Common.{◌+◌}
 use Rattle.click_links.specs.Fates.{AllBelow, Receives}
-use Rattle.click_links.proofs.receiving.receive.Given as goal
+use Rattle.click_links.proofs.receiving.receive_telling.Given as goal
 
 abbrev pub invariant-loop : goal.invariant-loop
 invariant-loop g l = record {
   received : Receives (g.L.Inbound.came l.initial.link) (g.L.Inbound.came l.link) l.initial.intake l.intake l.dropped;
   below : AllBelow l.dropped (l.counter + 1);
+  callable : goal.F-IsAlwaysCallable g l.tell;
 }

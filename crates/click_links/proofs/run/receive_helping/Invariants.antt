@@ -1,9 +1,0 @@
-use Rattle.std.proofs.Common.{◌+◌}
-use Rattle.click_links.specs.Fates.{AllBelow, Receives}
-use Rattle.click_links.proofs.run.receive_helping.Given as goal
-
-abbrev pub invariant-loop : goal.invariant-loop
-invariant-loop g l = record {
-  received : Receives (g.L.Inbound.came l.initial.link) (g.L.Inbound.came l.link) l.initial.intake l.intake l.dropped;
-  below : AllBelow l.dropped (l.counter + 1);
-}
