@@ -1,6 +1,7 @@
 #!/usr/bin/env bash
 # Captures through the program crates/click_pcap/out/click_pcap, which must have been built: those that tools/pcap_example.py makes and checks, and the
-# example of docs/PCAP.md. QUICK=1 leaves out those of a million packets.
+# example of docs/PCAP.md. QUICK=1 leaves out those of a million packets, and whether a packet comes
+# before the next is sent, which a program cannot show whose output is changed once it has ended.
 #
 #   tools/pcap_example.sh [PAGE]
 set -eu
